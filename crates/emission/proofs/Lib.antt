@@ -5,3 +5,4 @@ pub mod GraphOrders
 pub mod EmissionForms
 pub mod EmissionMeaning
 pub mod EmissionMarks
+pub mod EmissionCauses

@@ -6,3 +6,4 @@ pub mod BlockLaws
 pub mod SourceLaws
 pub mod StatementLaws
 pub mod TranslationLaws
+pub mod CycleLaws

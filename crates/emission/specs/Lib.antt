@@ -1,3 +1,4 @@
+pub mod emission_causes
 pub mod emission_forms
 pub mod emission_marks
 pub mod emission_meaning

@@ -54,6 +54,7 @@
 //! for at most seven loops round a statement, as a direction vector has seven places.
 #![tactic(auto)]
 
+pub mod emission_causes;
 pub mod emission_forms;
 pub mod emission_marks;
 pub mod emission_meaning;

@@ -11,8 +11,10 @@
 mod alone;
 mod blocks;
 mod classes;
+mod loop_cycles;
 mod pairs;
 mod source;
 mod translation;
 
+pub use loop_cycles::cycles;
 pub use translation::emit;

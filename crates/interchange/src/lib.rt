@@ -6,7 +6,7 @@
 //! - Proved (laws): the order of the loops comes about by moves outwards, each of a loop that may move, and keeps all
 //!   vectors where the first order did (`order_of_loops`); a nest that has a chain is that chain (`chains_are_loops`);
 //!   the orders of three loops, worked (`worked_orders`). That the meaning is kept follows from `interchange_laws`, and
-//!   is said of prepared nests in `arranged_nests`.
+//!   is said of prepared nests in `prepared_passes`.
 //!
 //! **Which nests.** All statements stand in the innermost loop of a single chain of loops, no trip has a loop's
 //! variable in it, and a statement that reads the array that it writes reads just the element that it writes: the

@@ -1,3 +1,4 @@
+pub mod Arranging
 pub mod FewOfEach
 pub mod Expanding
 pub mod Entries
@@ -5,3 +6,6 @@ pub mod Plain
 pub mod Sources
 pub mod Stages
 pub mod Private
+pub mod ListedParts
+pub mod CausesByEntries
+pub mod Causes

@@ -1,2 +1,3 @@
+pub mod arrays
 pub mod graphs
 pub mod programs

@@ -12,3 +12,5 @@ pub mod NestLoops
 pub mod NestSources
 pub mod NormalValues
 pub mod NormalLoop
+pub mod PreparedNests
+pub mod PreparedRuns

@@ -12,3 +12,5 @@ pub mod nest_loops
 pub mod nest_sources
 pub mod normal_values
 pub mod normal_loop
+pub mod prepared_nests
+pub mod prepared_runs

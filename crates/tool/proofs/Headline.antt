@@ -33,7 +33,8 @@ use Rattle.translation.proofs.ProgramTranslation.Good.{translation_is_good}
 use Rattle.translation.specs.Translated.{IsVectorised}
 use Rattle.find_nests.specs.Found.{found_in}
 use Rattle.listing_laws.proofs.notes.Listed.{listing_lines_are_notes}
-use Rattle.listing_laws.proofs.read_back.SourceListings.{source_listing_is_expanded, source_listing_is_read, source_listing_text_lists}
+use Rattle.listing_laws.proofs.read_back.SourceListings.{source_listing_is_caused, source_listing_is_expanded, source_listing_is_read}
+use Rattle.listing_laws.proofs.read_back.SourceListings.{source_listing_text_lists}
 use Rattle.listing_laws.specs.reader.Lists.{Lists}
 use Rattle.translation.proofs.NestBlocks.Blocks.{answers_are_blocks}
 use Rattle.translation.proofs.NestBlocks.Listed.{answers_are_listed}
@@ -136,6 +137,7 @@ module _ (deck text : List ℕ) (p : Program) (h : IsReadAs Vectorise deck p)
           listing = listing.0;
           read = source_listing_is_read (source_of data_line77 deck) p notes h.reads.source listing.0;
           private_names = source_listing_is_expanded (source_of data_line77 deck) p notes h.reads.source listing.0;
+          causes = source_listing_is_caused (source_of data_line77 deck) p notes h.reads.source listing.0;
         },
         listing.1,
       )

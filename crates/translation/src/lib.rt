@@ -6,7 +6,7 @@
 //! **translation::nest_translation** (law): let p be a program of FORTRAN 77, and a block what is emitted, by some
 //! graph and all holds, for what the passes make of a found nest of it (`IsPassedAs`). Where the block is of the
 //! profile of a program q that has p's names and the block's, it does, with arrays as values, what the nest's loop
-//! does, and has no label (`translation_does_as_loop`). The laws of `prepared_runs` and of `expansion_laws` meet here:
+//! does, and has no label (`translation_does_as_loop`). The laws of `pass_laws` and of `prepared_passes` meet here:
 //! from the loop to the nest in which masks are scalars, from there to the last nest that the passes make, and to what
 //! is emitted for it.
 //!

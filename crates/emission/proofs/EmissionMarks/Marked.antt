@@ -153,7 +153,7 @@ module _ (n : Nest) (edges : List Edge) (holds : List Hold) (may : MayBeMarked n
       (not_from_false (is_held holds k s) (any_none (is_hold_of k s) holds h.held))
 
   -- what a walk leads to is a statement of the nest
-  with_within : (d s r : ℕ) → s < size n edges may → IsWith edges (suc d) s r → r < size n edges may
+  pub with_within : (d s r : ℕ) → s < size n edges may → IsWith edges (suc d) s r → r < size n edges may
   with_within d s r h w = along w.0.0 s h w.0.1
     where
       along : (qs : List ℕ) (q : ℕ) → q < size n edges may → IsWalk edges (suc d) (IsWith edges d s) q qs r

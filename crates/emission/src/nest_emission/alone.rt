@@ -6,7 +6,8 @@ ghost use Rattle.emission.specs.emission_pieces.Levels.{may_be_formed};
 use crate::nest_emission::pairs::joins;
 use dependence_graph::graphs::{Dep, Edge, Hold};
 
-fn is_anti(kind: Dep) -> bool
+/// Whether the dependence goes from a read to a write.
+pub fn is_anti(kind: Dep) -> bool
     ensures { result ≡ is_anti kind }
 {
     match kind {

@@ -8,8 +8,8 @@ use dependence_graph::graphs::Edge;
 use std::alloc::Global;
 use tree::Memory;
 
-// No loop outside the level carries it.
-fn is_at_work(level: usize, carried: u8) -> bool
+/// Whether no loop outside the level carries it.
+pub fn is_at_work(level: usize, carried: u8) -> bool
     ensures { result ≡ is_at_work level carried }
 {
     carried == 0 || level <= carried as usize

@@ -91,7 +91,8 @@ fn translation(alloc: Global, nest: &Nest, body: Block) -> Result<Block, Memory>
     })
 }
 
-fn numbers_below(alloc: Global, count: usize) -> Result<Vec<usize>, Memory>
+/// The numbers from 0 on.
+pub fn numbers_below(alloc: Global, count: usize) -> Result<Vec<usize>, Memory>
     ensures { IfOk result (λ numbers. numbers.items ≡ range_with_len 0 count) }
 {
     let mut numbers = Vec::new(alloc);

@@ -7,6 +7,7 @@ use Rattle.array_form.specs.holds.Holds.{all_holds}
 use Rattle.dependence_graph.specs.declared.graphs.Cycle.{Cycle}
 use Rattle.dependence_graph.specs.declared.graphs.Graph.{Graph}
 use Rattle.dependence_graph.specs.declared.graphs.Hold.{Hold}
+use Rattle.emission.specs.emission_pieces.Cycles.{AreCyclesOf}
 use Rattle.tree.specs.declared.programs.Line.{Line}
 use Rattle.tree.specs.Plain.{Program}
 use Rattle.f90_grammar.specs.PrintedText.{with_line_feed}
@@ -24,7 +25,7 @@ use Rattle.listing.specs.declared.programs.nests.Listed.{Listed}
 use Rattle.listing.specs.programs.Listed.{IsListedAs}
 use Rattle.listing.specs.programs.Listing.{HasEntries, HaveEntries, IsListing, IsListingText, masks_behind}
 use Rattle.listing.specs.programs.Listing.{kept, reason_word, tested_entries}
-use Rattle.listing.specs.programs.Stages.{IsListedFrom}
+use Rattle.listing.specs.programs.Stages.{IsLastGraph, IsListedFrom}
 use Rattle.listing.specs.programs.Testable.{AreTestsOf}
 
 abbrev GivesTexts : {E : Type 0} → Result (List Line) E → List (List ℕ) → Type 0
@@ -33,21 +34,28 @@ GivesTexts r lines = IfOk r (λ all. map text_of all ≡ lines)
 -- ---- a nest
 
 pub tests_of : (number : ℕ) (n : Nest) (g : Graph) (holds : List Hold) (cycles : List Cycle) (lines : List Line)
-    → IsGraphOf n g → holds ≡ all_holds n → cycles ≡ []
+    → IsGraphOf n g → holds ≡ all_holds n → AreCyclesOf n g.edges holds cycles
     → map text_of lines ≡ listing_of n number g holds cycles → AreTestsOf number n g holds (map text_of lines)
-tests_of number n g holds cycles lines graph h none l = record {
+tests_of number n g holds cycles lines graph h are l = record {
   graph = graph;
   holds_are = h;
-  lines_are = l ∙ ap (λ hs. listing_of n number g hs cycles) h ∙ ap (λ cs. listing_of n number g (all_holds n) cs) none;
+  entries = tested_entries number n g cycles;
+  listed = record {
+    cycles = cycles;
+    cycles_are = subst (λ (hs : List Hold). AreCyclesOf n g.edges hs cycles) h are;
+    entries_are = refl;
+  };
+  lines_are = l ∙ ap (λ hs. listing_of n number g hs cycles) h;
 }
 
 -- ---- one that was found
 
-pub listed_nest : (masks : ℕ) (found n : Nest) (g : Graph) (holds : List Hold) (r : Listed) → IsListedFrom masks found n
+pub listed_nest : (masks : ℕ) (found n : Nest) (g : Graph) (holds : List Hold) (r : Listed)
+    → (listed : IsListedFrom masks found n) → IsLastGraph listed.stages.expanded listed.stages.graph g
     → AreTestsOf found.number n g holds (map text_of r.lines) → r.masks ≡ n.masks → IsListedAs masks (InNest found) r
-listed_nest masks found n g holds r t h e = record {
-  entries = tested_entries found.number n g;
-  are = (n, t, (g, h.graph, refl));
+listed_nest masks found n g holds r t kept h e = record {
+  entries = h.entries;
+  are = (n, t, (g, h.graph, h.listed, kept));
   lines = h.lines_are;
   behind = e;
 }

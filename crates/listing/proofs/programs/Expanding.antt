@@ -9,7 +9,7 @@ use Rattle.nest_rewrite.specs.Assembled.{with_parts}
 use Rattle.scalar_expand.specs.Expanded.{expanded, with_arrays}
 use Rattle.scalar_expand.specs.Privates.{begun_by, names_written, or_none, private_among, private_scalars, privates_named}
 use Rattle.scalar_expand.specs.declared.privates.Private.{Private}
-use Rattle.expansion_laws.specs.Left.{NoPrivateScalarIsLeft}
+use Rattle.prepared_passes.specs.expansion.Left.{NoPrivateScalarIsLeft}
 use Rattle.last_values.specs.Occurrences.{stands_in_statement}
 
 -- ---- private scalars
@@ -54,13 +54,13 @@ masks_kept c = refl
 
 -- ---- what is left in it
 
-pub left_beside : (k m c : Nest) → k ≡ record c { after = k.after } → m ≡ record (expanded c) { after = m.after }
-    → NoPrivateScalarIsLeft c (expanded c) → NoPrivateScalarIsLeft k m
-left_beside k m c given last h =
+pub left_beside : (k m c j : Nest) → k ≡ record c { after = k.after } → m ≡ record j { after = m.after }
+    → NoPrivateScalarIsLeft c j → NoPrivateScalarIsLeft k m
+left_beside k m c e given last h =
     subst (λ (j : Nest). NoPrivateScalarIsLeft j m) (sym given)
     (subst (λ (j : Nest). NoPrivateScalarIsLeft (record c { after = k.after }) j) (sym last) by)
   where
-    by : NoPrivateScalarIsLeft (record c { after = k.after }) (record (expanded c) { after = m.after })
+    by : NoPrivateScalarIsLeft (record c { after = k.after }) (record e { after = m.after })
     by p i s j stands =
         let o = h p (subst (λ (ps : List Private). In p ps) (privates_beside c k.after) i) s j stands in
         record { statement = o.statement; loops = o.loops; unknown = o.unknown }

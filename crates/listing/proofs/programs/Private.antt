@@ -1,9 +1,13 @@
 -- In the nests of a listing no private scalar is left.
-use Rattle.std.proofs.Common.{◌≡◌, ℕ, ◌<◌, ◌≤◌, Some, List, [], ◌∷◌, Contains, sym, subst, arith}
-use Rattle.expansion_laws.proofs.FoundExpanded.{found_nest_has_no_private_scalars}
-use Rattle.expansion_laws.specs.Left.{NoPrivateScalarIsLeft}
+use Rattle.std.proofs.Common.{ℕ, ◌<◌, ◌≤◌, List, [], ◌∷◌, Contains, sym, ◌∙◌, subst, arith}
+use Rattle.listing.proofs.arrays.Left.{arranged_nest_has_no_private_scalars}
+use Rattle.prepared_passes.proofs.ExpandedNests.Anew.{prepared}
+use Rattle.prepared_passes.proofs.ExpandedNests.Found.{few_before}
+use Rattle.prepared_passes.proofs.ExpandedNests.FoundExpanded.{found_nest_has_no_private_scalars}
+use Rattle.prepared_passes.specs.expansion.Found.{expanded_depth, unexpanded_depth}
+use Rattle.prepared_passes.specs.expansion.Left.{NoPrivateScalarIsLeft}
 use Rattle.find_nests.specs.Found.{Found, InNest, Kept, found_in}
-use Rattle.if_convert.specs.Converted.{converted_nest}
+use Rattle.interchange.specs.Arranged.{arranged}
 use Rattle.meaning.specs.Dialect.{fortran77}
 use Rattle.meaning.specs.Profile77.{IsProgram77}
 use Rattle.meaning_laws.proofs.profiles.Lists.{here, there}
@@ -11,6 +15,7 @@ use Rattle.nest.specs.Plain.{Nest}
 use Rattle.scalar_expand.specs.Expanded.{expanded}
 use Rattle.tree.specs.Plain.{Program}
 use Rattle.listing.proofs.programs.Expanding.{left_beside, masks_kept}
+use Rattle.listing.proofs.programs.Sources.{declared_for, few_made}
 use Rattle.listing.proofs.programs.Stages.{stages_beside}
 use Rattle.listing.specs.graphs.Lines.{Entry}
 use Rattle.listing.specs.programs.Laws.{ListedNestsAreExpanded}
@@ -20,16 +25,24 @@ use Rattle.listing.specs.programs.Stages.{IsListedFrom}
 
 module _ (p : Program) (is : IsProgram77 fortran77 p) where
   none_left : (masks : ℕ) (n m : Nest) → Contains (found_in p) (InNest n) → (h : IsListedFrom masks n m)
-      → NoPrivateScalarIsLeft h.stages.converted m
+      → NoPrivateScalarIsLeft h.stages.anew m
   none_left masks n m c h =
       let b = stages_beside masks n h.stages h.are in
-      let few : (expanded b.converted).masks < 4294967296 = b.passed.counted in
-      let same = masks_kept b.converted in
-      let most : b.converted.masks ≤ 4294967296 = omega (arith, few, same) in
-      subst (NoPrivateScalarIsLeft h.stages.converted) (sym h.last)
-      (left_beside h.stages.converted h.stages.expanded b.converted b.given b.last
-      (found_nest_has_no_private_scalars p n b.passed.normal b.converted masks is c b.passed.made
-      (subst (λ (k : Nest). converted_nest masks b.passed.normal ≡ Some k) b.made b.passed.is_converted) most))
+      let made = b.made in
+      let few : (expanded made.anew).masks < 4294967296 = few_made p masks n b.last is c made in
+      let same = masks_kept made.anew in
+      let most : made.anew.masks ≤ 4294967296 = omega (arith, few, same) in
+      let least = few_before made.normal made.converted made.anew made.is_anew most in
+      let d = declared_for p masks n b.last is c made in
+      let left = found_nest_has_no_private_scalars p n made.normal made.converted made.anew masks is c made.made
+      made.is_converted made.is_anew most in
+      let moved : NoPrivateScalarIsLeft made.anew (arranged (expanded made.anew) made.vectors)
+      = arranged_nest_has_no_private_scalars _ d.declarations _ d.around unexpanded_depth expanded_depth made.anew
+      made.vectors (prepared p n made.normal made.converted made.anew masks is c made.made made.is_converted least made.is_anew)
+      d.prepared left in
+      subst (NoPrivateScalarIsLeft h.stages.anew) (sym h.last)
+      (left_beside h.stages.anew h.stages.arranged made.anew b.last b.given b.behind
+      (subst (NoPrivateScalarIsLeft made.anew) (sym made.is_arranged) moved))
 
   all_expanded : (masks : ℕ) (fs : List Found) (es : List Entry) → ((f : Found) → Contains fs f → Contains (found_in p) f)
       → (h : HaveEntries masks fs es) → AreExpanded masks fs es h

@@ -1,26 +1,34 @@
 -- What is found in a program of FORTRAN 77, and what is made of its nests.
 use Rattle.std.proofs.Common.{◌≡◌, ℕ, ◌≤◌, ◌<◌, ◌^◌, Result, Ok, Err, Some, None, List, is_some, length, map, get_or}
-use Rattle.std.proofs.Common.{true≢false, Contains, sym, ap, ◌∙◌, subst, arith}
-use Rattle.std.specs.Prelude.{IfOk}
+use Rattle.std.proofs.Common.{true≢false, Contains, Option, refl, sym, ap, ◌∙◌, subst, arith}
+use Rattle.std.specs.Prelude.{IfOk, unwrap_or}
 use Rattle.std.proofs.lemmas.List.{get_or-map, length-map}
 use Rattle.tree.specs.Plain.{Block, Program, Reference}
 use Rattle.tree.specs.View.{declaration_of}
 use Rattle.tree.specs.declared.programs.Decl.{Decl}
-use Rattle.expansion_laws.proofs.FoundExpanded.{found_nest_has_expanded_declarations}
-use Rattle.expansion_laws.specs.Found.{HasExpandedDeclarations, expanded_depth}
+use Rattle.prepared_passes.proofs.ExpandedNests.Anew.{prepared}
+use Rattle.prepared_passes.proofs.ExpandedNests.Found.{few_before}
+use Rattle.prepared_passes.proofs.ExpandedNests.FoundExpanded.{found_nest_has_expanded_declarations}
+use Rattle.prepared_passes.specs.expansion.Found.{HasExpandedDeclarations, expanded_depth}
+use Rattle.f90_print.specs.Notes.{text_of}
 use Rattle.meaning.specs.Dialect.{fortran77}
 use Rattle.meaning.specs.Profile77.{IsProgram77}
+use Rattle.dependence_graph.specs.declared.graphs.Graph.{Graph}
 use Rattle.dependence_graph.specs.declared.graphs.Place.{Place}
+use Rattle.dependence_graph.specs.nest_graph.Graph.{IsGraphOf}
 use Rattle.dependence_graph.specs.nest_graph.Ready.{IsReady}
 use Rattle.dependence_graph.specs.nest_graph.Tested.{IsReference}
-use Rattle.convert_laws.proofs.Standing.{loop_of}
+use Rattle.prepared_passes.proofs.ArrangedNests.Again.{arranged_nest_is_prepared}
 use Rattle.if_convert.proofs.BodyLaws.{turns-converted}
 use Rattle.if_convert.specs.Converted.{converted_nest}
+use Rattle.interchange.specs.Arranged.{arranged, vectors_of, with_moved_loops}
 use Rattle.nest.specs.Bodies.{Standing}
 use Rattle.nest.specs.Plain.{Nest}
 use Rattle.nest.specs.View.{nest_of}
 use Rattle.nest.specs.declared.nests.Nest.{Nest as Nest'}
 use Rattle.scalar_expand.specs.Expanded.{expanded}
+use Rattle.subscripts.specs.declared.affine.Dirs.{Dirs}
+use Rattle.symbols_anew.specs.Nests.{with_symbols_found}
 use Rattle.nest_reasons.specs.Symbols.{symbols_of}
 use Rattle.find_nests.proofs.FoundLaws.{found_nest_is_loop}
 use Rattle.find_nests.specs.Found.{Found, InNest, found_in}
@@ -29,16 +37,20 @@ use Rattle.find_nests.specs.Laws.{IsFoundNest}
 use Rattle.find_nests.specs.declared.search.Found.{Found as Found'}
 use Rattle.normal_loops.specs.Normalised.{normalised}
 use Rattle.pass_laws.proofs.NormalNests.Form.{found_nest_has_normal_form}
-use Rattle.pass_laws.proofs.ReadyNests.Made.{made_of}
 use Rattle.pass_laws.proofs.ReadyNests.SourceRanks.{few_symbols}
-use Rattle.prepared_nests.proofs.Ready.{prepared_nest_is_ready}
-use Rattle.prepared_nests.specs.Nests.{IsPrepared}
+use Rattle.pass_laws.proofs.PreparedNests.Emitted.{prepared_nest_may_be_emitted}
+use Rattle.pass_laws.proofs.PreparedNests.Ready.{prepared_nest_is_ready}
+use Rattle.pass_laws.specs.prepared_nests.Nests.{IsPrepared}
+use Rattle.listing.proofs.programs.Arranging.{arranged_rest, arranged_some, last_depth}
 use Rattle.listing.proofs.programs.Expanding.{masks_kept}
-use Rattle.listing.proofs.programs.Stages.{listed_is_passed}
+use Rattle.listing.proofs.programs.Stages.{IsMadeBy, listed_is_made}
 use Rattle.listing.specs.programs.Counted.{AreCounted}
 use Rattle.listing.specs.programs.Laws.{ListedNestIsTestable}
-use Rattle.listing.specs.programs.Passed.{IsLastOf, IsPassedAs}
-use Rattle.listing.specs.programs.Sources.{IsFoundInSource, IsNestOfSource}
+use Rattle.listing.specs.declared.programs.nests.Passed.{Passed}
+use Rattle.listing.specs.programs.Passed.{IsArrangedAs, IsExpandedOf, IsPassed, IsUnexpanded}
+use Rattle.listing.specs.programs.Sources.{IsFoundInSource, IsNestOfSource, IsNormalOfSource}
+use Rattle.listing.specs.programs.Stages.{IsLastGraph}
+use Rattle.listing.specs.programs.Testable.{AreTestsOf, MayBeListed}
 
 -- ---- symbols and declarations
 
@@ -86,59 +98,125 @@ normal_there n h none =
     let form = found_nest_has_normal_form fortran77 h.program n h.profile h.among in
     true≢false (ap is_some (sym form.is ∙ none))
 
--- which has the same symbols
-pub few_of_normal : (n m : Nest) → IsNestOfSource n → normalised n ≡ Some m → length m.symbols ≤ 1000
-few_of_normal n m h made =
-    let few = few_of_source n h in
-    let same : length m.symbols ≡ length n.symbols = ap length (made_of n m made).symbols in
-    omega (arith, few, same)
-
 -- and of that one a nest with masks
-pub masks_there : (n m : Nest) (masks : ℕ) → IsNestOfSource n → normalised n ≡ Some m → converted_nest masks m ≡ None → ⊥
-masks_there n m masks h made none =
-    let form = found_nest_has_normal_form fortran77 h.program n h.profile h.among in
+pub masks_there : (m : Nest) (masks : ℕ) → IsNormalOfSource m → converted_nest masks m ≡ None → ⊥
+masks_there m masks h none =
+    let form = found_nest_has_normal_form fortran77 h.source.program h.nest h.source.profile h.source.among in
     let is = form.is in
+    let made = h.made in
     let same : form.normal ≡ m = cc in
     let there = turns-converted masks form.normal form.loop form.parts form.body in
     true≢false (ap is_some (sym there ∙ ap (converted_nest masks) same ∙ none))
 
--- it has the same symbols, too
-pub few_converted : (masks : ℕ) (m k : Nest) → length m.symbols ≤ 1000 → converted_nest masks m ≡ Some k
+-- whose symbols are found anew
+pub symbols_found : {A E : Type 0} (masks : ℕ) (m k : Nest) (r : Result A E) (nest : A → Nest)
+    → converted_nest masks m ≡ Some k → IfOk r (λ a. nest a ≡ with_symbols_found m k)
+    → IfOk r (λ a. IsUnexpanded masks m (nest a))
+symbols_found masks m k (Err e) nest made h = tt
+symbols_found masks m k (Ok a) nest made h = (k, made, h)
+
+-- they are no more than a program has names
+pub few_unexpanded : (masks : ℕ) (m k : Nest) → IsNormalOfSource m → IsUnexpanded masks m k → k.masks < 2 ^ 32
     → length k.symbols ≤ 1000
-few_converted masks m k few e =
-    let f = loop_of masks m k e in
-    let same : length m.symbols ≡ length k.symbols = ap (λ (j : Nest). length j.symbols) f.made in
-    omega (arith, few, same)
+few_unexpanded masks m k h u few =
+    let less : k.masks < 4294967296 = few in
+    let most : k.masks ≤ 4294967296 = omega (arith, less) in
+    let s = h.source in
+    (prepared s.program h.nest m u.0 k masks s.profile s.among h.made u.1 (few_before m u.0 k u.2 most) u.2).parts.few
 
 -- and its private scalars may become arrays
-pub last_of : {E : Type 0} (masks : ℕ) (m k : Nest) (r : Result Nest' E) → converted_nest masks m ≡ Some k
-    → IfOk r (λ last. nest_of last ≡ expanded k) → IfOk r (λ last. IsLastOf masks m (nest_of last))
-last_of masks m k (Err e) made h = tt
-last_of masks m k (Ok last) made h = (k, made, h)
+pub expanded_of : {E : Type 0} (masks : ℕ) (m k : Nest) (r : Result Nest' E) → IsUnexpanded masks m k
+    → IfOk r (λ made. nest_of made ≡ expanded k) → IfOk r (λ made. IsExpandedOf masks m (nest_of made))
+expanded_of masks m k (Err e) made h = tt
+expanded_of masks m k (Ok new) made h = (k, made, h)
 
--- it may be tested
+-- ---- nests that may be tested
+
+-- with arrays for private scalars
+module _ (p : Program) (masks : ℕ) (n normal k : Nest) (profile : IsProgram77 fortran77 p)
+    (among : Contains (found_in p) (InNest n)) (normal_is : normalised n ≡ Some normal) (e : IsExpandedOf masks normal k)
+    (few : k.masks < 2 ^ 32) where
+  pub declared_before : HasExpandedDeclarations e.0
+  declared_before =
+      let less : k.masks < 4294967296 = few in
+      let same : k.masks ≡ e.0.masks = ap (λ (j : Nest). j.masks) e.2 ∙ masks_kept e.0 in
+      let most : e.0.masks ≤ 4294967296 = omega (arith, less, same) in
+      found_nest_has_expanded_declarations p n normal e.1.0 e.0 masks profile among normal_is e.1.1 e.1.2 most
+
+  pub prepared_before : IsPrepared declared_before.declarations declared_before.around expanded_depth k
+  prepared_before =
+      subst (IsPrepared declared_before.declarations declared_before.around expanded_depth) (sym e.2)
+      declared_before.prepared
+
+  expanded_nest_is_ready : IsReady k
+  expanded_nest_is_ready =
+      prepared_nest_is_ready declared_before.declarations declared_before.around expanded_depth k declared_before.are
+      prepared_before
+
+  expanded_nest_may_be_listed : MayBeListed k
+  expanded_nest_may_be_listed = record {
+    ready = expanded_nest_is_ready;
+    emitted = λ g graph. prepared_nest_may_be_emitted declared_before.declarations declared_before.around expanded_depth k g
+        declared_before.are prepared_before graph;
+  }
+
+  -- and by whatever vectors its loops move
+  moved_nest_is_prepared : (vectors : List Dirs)
+      → IsPrepared declared_before.declarations declared_before.around last_depth (arranged k vectors)
+  moved_nest_is_prepared vectors =
+      arranged_nest_is_prepared declared_before.declarations declared_before.around expanded_depth k vectors prepared_before
+
+  moved_nest_is_ready : (vectors : List Dirs) → IsReady (arranged k vectors)
+  moved_nest_is_ready vectors =
+      prepared_nest_is_ready declared_before.declarations declared_before.around last_depth (arranged k vectors)
+      declared_before.are (moved_nest_is_prepared vectors)
+
+  moved_nest_may_be_listed : (vectors : List Dirs) → MayBeListed (arranged k vectors)
+  moved_nest_may_be_listed vectors = record {
+    ready = moved_nest_is_ready vectors;
+    emitted = λ g graph. prepared_nest_may_be_emitted declared_before.declarations declared_before.around last_depth
+        (arranged k vectors) g declared_before.are (moved_nest_is_prepared vectors) graph;
+  }
+
+pub may_be_listed_before : (masks : ℕ) (m k : Nest) → IsNormalOfSource m → IsExpandedOf masks m k → k.masks < 2 ^ 32
+    → MayBeListed k
+may_be_listed_before masks m k h e few =
+    expanded_nest_may_be_listed h.source.program masks h.nest m k h.source.profile h.source.among h.made e few
+
+pub may_be_listed_moved : (masks : ℕ) (m k : Nest) → IsNormalOfSource m → IsExpandedOf masks m k → k.masks < 2 ^ 32
+    → (vectors : List Dirs) → MayBeListed (arranged k vectors)
+may_be_listed_moved masks m k h e few =
+    moved_nest_may_be_listed h.source.program masks h.nest m k h.source.profile h.source.among h.made e few
+
+-- the last one
 module _ (p : Program) (masks : ℕ) (n m : Nest) (profile : IsProgram77 fortran77 p)
-    (among : Contains (found_in p) (InNest n)) (passed : IsPassedAs masks n m) where
-  pub declared_for : HasExpandedDeclarations passed.converted
-  declared_for =
-      let few : m.masks < 4294967296 = passed.counted in
-      let same : m.masks ≡ passed.converted.masks
-      = ap (λ (k : Nest). k.masks) passed.is_expanded ∙ masks_kept passed.converted in
-      let most : passed.converted.masks ≤ 4294967296 = omega (arith, few, same) in
-      found_nest_has_expanded_declarations p n passed.normal passed.converted masks profile among passed.made
-      passed.is_converted most
+    (among : Contains (found_in p) (InNest n)) (made : IsMadeBy masks n m) where
+  pub few_made : (expanded made.anew).masks < 2 ^ 32
+  few_made =
+      let less : m.masks < 4294967296 = made.counted in
+      let same : m.masks ≡ (expanded made.anew).masks
+      = ap (λ (j : Nest). j.masks) (made.is_arranged ∙ arranged_rest (expanded made.anew) made.vectors) in
+      let few : (expanded made.anew).masks < 4294967296 = omega (arith, less, same) in
+      few
 
-  pub prepared_for : IsPrepared declared_for.declarations declared_for.around expanded_depth m
+  abbrev before : IsExpandedOf masks made.normal (expanded made.anew)
+  before = (made.anew, (made.converted, made.is_converted, made.is_anew), refl)
+
+  pub declared_for : HasExpandedDeclarations made.anew
+  declared_for = declared_before p masks n made.normal (expanded made.anew) profile among made.made before few_made
+
+  pub prepared_for : IsPrepared declared_for.declarations declared_for.around last_depth m
+  unfolding declared_for
   prepared_for =
-      subst (IsPrepared declared_for.declarations declared_for.around expanded_depth) (sym passed.is_expanded)
-      declared_for.prepared
+      subst (IsPrepared declared_for.declarations declared_for.around last_depth) (sym made.is_arranged)
+      (moved_nest_is_prepared p masks n made.normal (expanded made.anew) profile among made.made before few_made made.vectors)
 
   made_nest_is_ready : IsReady m
   made_nest_is_ready =
-      prepared_nest_is_ready declared_for.declarations declared_for.around expanded_depth m declared_for.are prepared_for
+      prepared_nest_is_ready declared_for.declarations declared_for.around last_depth m declared_for.are prepared_for
 
-pub ready : (masks : ℕ) (n m : Nest) → IsNestOfSource n → IsPassedAs masks n m → IsReady m
-ready masks n m h passed = made_nest_is_ready h.program masks n m h.profile h.among passed
+pub ready : (masks : ℕ) (n m : Nest) → IsNestOfSource n → IsMadeBy masks n m → IsReady m
+ready masks n m h made = made_nest_is_ready h.program masks n m h.profile h.among made
 
 -- what stands behind a nest isn't tested
 module _ (n : Nest) (b : Block) (h : IsReady n) where
@@ -158,20 +236,55 @@ module _ (n : Nest) (b : Block) (h : IsReady n) where
 
 pub listed_nest_is_testable : ListedNestIsTestable
 listed_nest_is_testable p masks n m profile among listed =
-    let w = listed_is_passed masks n m listed in
+    let w = listed_is_made masks n m listed in
     subst IsReady (sym w.same)
-    (ready_too w.nest m.after (made_nest_is_ready p masks n w.nest profile among w.passed))
+    (ready_too w.nest m.after (made_nest_is_ready p masks n w.nest profile among w.made))
 
 -- ---- what the code gives
 
-pub passed_as : (masks : ℕ) (n m k : Nest) → normalised n ≡ Some m → IsLastOf masks m k → k.masks < 2 ^ 32
-    → AreCounted k → IsPassedAs masks n k
-passed_as masks n m k made last few counted = record {
-  normal = m;
-  made = made;
-  converted = last.0;
-  is_converted = last.1;
-  is_expanded = last.2;
-  counted = few;
-  numbered = counted;
+-- a nest in which a loop has moved
+pub moved_as : (number : ℕ) (k : Nest) (g : Graph) (r : Passed) → IsGraphOf k g
+    → with_moved_loops k (vectors_of g.edges) ≡ Some (nest_of r.nest.value)
+    → AreTestsOf number (nest_of r.nest.value) r.tests.graph r.tests.holds (map text_of r.tests.lines)
+    → IsArrangedAs number k r
+moved_as number k g r graph e tests = record {
+  graph = g;
+  is_graph = graph;
+  is_arranged = arranged_some k (nest_of r.nest.value) (vectors_of g.edges) e;
+  kept = λ none. absurd (true≢false (ap is_some (sym e ∙ none)));
+  tests = tests;
+}
+
+-- one in which none has
+pub stays_as : (number : ℕ) (k : Nest) (g : Graph) (r : Passed) → IsGraphOf k g
+    → with_moved_loops k (vectors_of g.edges) ≡ None → nest_of r.nest.value ≡ k → r.tests.graph ≡ g
+    → AreTestsOf number (nest_of r.nest.value) r.tests.graph r.tests.holds (map text_of r.tests.lines)
+    → IsArrangedAs number k r
+stays_as number k g r graph e same kept tests = record {
+  graph = g;
+  is_graph = graph;
+  is_arranged = same ∙ sym (ap (λ (o : Option Nest). unwrap_or o k) e);
+  kept = λ none. kept;
+  tests = tests;
+}
+
+pub passed_as : (masks : ℕ) (n m k : Nest) (r : Passed) → normalised n ≡ Some m → IsExpandedOf masks m k
+    → k.masks < 2 ^ 32 → IsArrangedAs n.number k r → AreCounted (nest_of r.nest.value) → IsPassed masks n r
+passed_as masks n m k r made e few h counted = record {
+  passed = record {
+    normal = m;
+    made = made;
+    converted = e.1.0;
+    is_converted = e.1.1;
+    anew = e.0;
+    is_anew = e.1.2;
+    graph = h.graph;
+    is_graph = subst (λ (j : Nest). IsGraphOf j h.graph) e.2 h.is_graph;
+    is_arranged = h.is_arranged ∙ ap (λ (j : Nest). arranged j (vectors_of h.graph.edges)) e.2;
+    counted = subst (λ (i : ℕ). i < 2 ^ 32)
+        (sym (ap (λ (j : Nest). j.masks) (h.is_arranged ∙ arranged_rest k (vectors_of h.graph.edges)))) few;
+    numbered = counted;
+  };
+  kept = subst (λ (j : Nest). IsLastGraph j h.graph r.tests.graph) e.2 h.kept;
+  tests = h.tests;
 }

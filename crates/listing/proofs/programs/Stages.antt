@@ -1,7 +1,8 @@
 -- What passes make of a nest is what it is listed as, link by link, but for what stands behind; and no other nest is
 -- listed.
-use Rattle.std.proofs.Common.{◌≡◌, ℕ, ◌<◌, ◌^◌, Option, Some, None, ap, is_some, sym, true≢false, ◌∙◌, subst, refl}
+use Rattle.std.proofs.Common.{◌≡◌, ℕ, ◌<◌, ◌^◌, List, Option, Some, None, ap, is_some, sym, true≢false, ◌∙◌, subst, refl}
 use Rattle.if_convert.specs.Converted.{converted_loop, converted_nest}
+use Rattle.interchange.specs.Arranged.{arranged, vectors_of}
 use Rattle.nest.specs.Plain.{Choice, Jump, Label, Nest, Part, Run, Turns}
 use Rattle.normal_loops.specs.Listed.{IsListedFrom as HasNormalLoops}
 use Rattle.normal_loops.specs.Normalised.{normalised}
@@ -12,6 +13,11 @@ use Rattle.listing.specs.programs.Laws.{LoopsAreListed}
 use Rattle.listing.specs.programs.Passed.{IsPassedAs}
 use Rattle.listing.specs.programs.Stages.{AreStagesOf, IsListedFrom, Stages}
 use Rattle.scalar_expand.specs.Expanded.{expanded}
+use Rattle.subscripts.specs.declared.affine.Dirs.{Dirs}
+use Rattle.symbols_anew.specs.Nests.{with_symbols_found}
+use Rattle.prepared_passes.proofs.SymbolsAnew.Same.{symbols_are_found_with_anything_behind}
+use Rattle.prepared_passes.proofs.ExpandedNests.Anew.{masks_anew}
+use Rattle.listing.proofs.programs.Arranging.{arranged_beside, arranged_rest}
 use Rattle.listing.proofs.programs.Expanding.{expanded_beside, masks_kept}
 
 -- ---- loops from 1 by 1
@@ -74,21 +80,73 @@ masks_beside masks m k after e = by m.body refl e
     by (Label j) f e = absurd (true≢false (sym (ap is_some e)))
     by (Jump j) f e = absurd (true≢false (sym (ap is_some e)))
 
+-- ---- symbols
+
+-- the same symbols are found anew whatever stands behind both nests
+anew_same : (n m : Nest) (after : Block)
+    → with_symbols_found (record n { after = after }) m ≡ with_symbols_found n m
+unfolding with_symbols_found
+anew_same n m after = refl
+
+anew_beside : (n m k : Nest) (before after : Block)
+    → k ≡ with_symbols_found (record n { after = before }) (record m { after = after })
+    → k ≡ record (with_symbols_found n m) { after = k.after }
+anew_beside n m k before after e =
+    let is = e ∙ anew_same n (record m { after = after }) before ∙ symbols_are_found_with_anything_behind n m after in
+    subst (λ (j : Nest). j ≡ record (with_symbols_found n m) { after = j.after }) (sym is) refl
+
 -- ---- the chain
 
+-- passes make m of n, where the loops move by whatever vectors
+pub record IsMadeBy (masks : ℕ) (n m : Nest) : Type 0 where
+  pub normal : Nest
+  pub made : normalised n ≡ Some normal
+  pub converted : Nest
+  pub is_converted : converted_nest masks normal ≡ Some converted
+  pub anew : Nest
+  pub is_anew : anew ≡ with_symbols_found normal converted
+  pub vectors : List Dirs
+  pub is_arranged : m ≡ arranged (expanded anew) vectors
+  pub counted : m.masks < 2 ^ 32
+  pub numbered : AreCounted m
+
+abbrev pub made_by : (masks : ℕ) (n m : Nest) → IsPassedAs masks n m → IsMadeBy masks n m
+made_by masks n m h = record {
+  normal = h.normal;
+  made = h.made;
+  converted = h.converted;
+  is_converted = h.is_converted;
+  anew = h.anew;
+  is_anew = h.is_anew;
+  vectors = vectors_of h.graph.edges;
+  is_arranged = h.is_arranged;
+  counted = h.counted;
+  numbered = h.numbered;
+}
+
 -- passes make a nest of n, and m is it, whatever stands behind m
-pub record IsPassedBut (masks : ℕ) (n m : Nest) : Type 0 where
+pub record IsMadeBut (masks : ℕ) (n m : Nest) : Type 0 where
   pub nest : Nest
-  pub passed : IsPassedAs masks n nest
+  pub made : IsMadeBy masks n nest
   pub same : m ≡ record nest { after = m.after }
 
-pub passed_is_listed : (masks : ℕ) (n m : Nest) → IsPassedAs masks n m → IsListedFrom masks n m
+abbrev pub passed_is_listed : (masks : ℕ) (n m : Nest) → IsPassedAs masks n m → IsListedFrom masks n m
 passed_is_listed masks n m h = record {
-  stages = record { normal = h.normal; converted = h.converted; expanded = m };
+  stages = record {
+    normal = h.normal;
+    converted = h.converted;
+    anew = h.anew;
+    expanded = expanded h.anew;
+    graph = h.graph;
+    arranged = m;
+  };
   are = record {
     normal = normal_nest_is_listed n h.normal h.made;
     converted = h.is_converted;
-    is_expanded = h.is_expanded;
+    is_anew = h.is_anew;
+    is_expanded = refl;
+    is_graph = h.is_graph;
+    is_arranged = h.is_arranged;
     counted = h.counted;
     numbered = h.numbered;
   };
@@ -102,48 +160,68 @@ counted_beside m k e h =
 
 -- the nests that passes make of n, and those that k are, whatever stands behind these
 pub record AreBeside (masks : ℕ) (n : Nest) (k : Stages) : Type 0 where
-  pub converted : Nest
-  pub passed : IsPassedAs masks n (expanded converted)
-  pub made : passed.converted ≡ converted
-  pub given : k.converted ≡ record converted { after = k.converted.after }
-  pub last : k.expanded ≡ record (expanded converted) { after = k.expanded.after }
+  pub last : Nest
+  pub made : IsMadeBy masks n last
+  pub given : k.anew ≡ record made.anew { after = k.anew.after }
+  pub behind : k.arranged ≡ record last { after = k.arranged.after }
 
 pub stages_beside : (masks : ℕ) (n : Nest) (k : Stages) → AreStagesOf masks n k → AreBeside masks n k
 stages_beside masks n k h =
     let w = normal_link n k.normal h.normal in
     let v = masks_beside masks w.nest k.converted k.normal.after
     (subst (λ (j : Nest). converted_nest masks j ≡ Some k.converted) w.same h.converted) in
-    let x = expanded_beside k.converted v.nest k.expanded v.same h.is_expanded in
+    let a = with_symbols_found w.nest v.nest in
+    let u = anew_beside w.nest v.nest k.anew k.normal.after k.converted.after
+    (subst (λ (i : Nest). k.anew ≡ with_symbols_found i (record v.nest { after = k.converted.after })) w.same
+    (subst (λ (i : Nest). k.anew ≡ with_symbols_found k.normal i) v.same h.is_anew)) in
+    let x = expanded_beside k.anew a k.expanded u h.is_expanded in
+    let y = arranged_beside k.expanded (expanded a) k.arranged (vectors_of k.graph.edges) x h.is_arranged in
     record {
-      converted = v.nest;
-      passed = record {
+      last = arranged (expanded a) (vectors_of k.graph.edges);
+      made = record {
         normal = w.nest;
         made = w.made;
         converted = v.nest;
         is_converted = v.made;
-        is_expanded = refl;
-        counted = subst (λ (j : Nest). j.masks < 2 ^ 32) x h.counted;
-        numbered = counted_beside k.expanded (expanded v.nest) x h.numbered;
+        anew = a;
+        is_anew = refl;
+        vectors = vectors_of k.graph.edges;
+        is_arranged = refl;
+        counted = subst (λ (j : Nest). j.masks < 2 ^ 32) y h.counted;
+        numbered = counted_beside k.arranged (arranged (expanded a) (vectors_of k.graph.edges)) y h.numbered;
       };
-      made = refl;
-      given = v.same;
-      last = x;
+      given = u;
+      behind = y;
     }
 
-pub listed_is_passed : (masks : ℕ) (n m : Nest) → IsListedFrom masks n m → IsPassedBut masks n m
-listed_is_passed masks n m h =
+pub listed_is_made : (masks : ℕ) (n m : Nest) → IsListedFrom masks n m → IsMadeBut masks n m
+listed_is_made masks n m h =
     let b = stages_beside masks n h.stages h.are in
-    subst (IsPassedBut masks n) (sym h.last) (record { nest = expanded b.converted; passed = b.passed; same = b.last })
+    subst (IsMadeBut masks n) (sym h.last) (record { nest = b.last; made = b.made; same = b.behind })
 
 pub loops_are_listed : LoopsAreListed
-loops_are_listed masks n m k h made few counted = record {
-  stages = record { normal = m; converted = k; expanded = expanded k };
-  are = record {
-    normal = h;
-    converted = made;
-    is_expanded = refl;
-    counted = subst (λ (j : ℕ). j < 2 ^ 32) (sym (masks_kept k)) few;
-    numbered = counted;
-  };
-  last = refl;
-}
+loops_are_listed masks n m k g h made few graph counted =
+    let e = expanded (with_symbols_found m k) in
+    record {
+      stages = record {
+        normal = m;
+        converted = k;
+        anew = with_symbols_found m k;
+        expanded = e;
+        graph = g;
+        arranged = arranged e (vectors_of g.edges);
+      };
+      are = record {
+        normal = h;
+        converted = made;
+        is_anew = refl;
+        is_expanded = refl;
+        is_graph = graph;
+        is_arranged = refl;
+        counted = subst (λ (j : ℕ). j < 2 ^ 32)
+            (sym (ap (λ (j : Nest). j.masks) (arranged_rest e (vectors_of g.edges))
+            ∙ (masks_kept (with_symbols_found m k) ∙ masks_anew m k (with_symbols_found m k) refl))) few;
+        numbered = counted;
+      };
+      last = refl;
+    }

@@ -3,12 +3,17 @@ use Rattle.std.specs.Prelude.{◌≡◌, ◌<◌, ◌^◌, ℕ, Some, Contains, 
 use Rattle.tree.specs.Plain.{Program}
 use Rattle.meaning.specs.Dialect.{fortran77}
 use Rattle.meaning.specs.Profile77.{IsProgram77}
+use Rattle.dependence_graph.specs.declared.graphs.Graph.{Graph}
+use Rattle.dependence_graph.specs.nest_graph.Graph.{IsGraphOf}
 use Rattle.dependence_graph.specs.nest_graph.Ready.{IsReady}
 use Rattle.find_nests.specs.Found.{InNest, found_in}
 use Rattle.if_convert.specs.Converted.{converted_nest}
+use Rattle.interchange.specs.Arranged.{arranged, vectors_of}
 use Rattle.nest.specs.Plain.{Nest}
 use Rattle.normal_loops.specs.Listed.{IsListedFrom as HasNormalLoops}
 use Rattle.scalar_expand.specs.Expanded.{expanded}
+use Rattle.symbols_anew.specs.Nests.{with_symbols_found}
+use Rattle.listing.specs.programs.Causes.{AreCaused}
 use Rattle.listing.specs.programs.Counted.{AreCounted}
 use Rattle.listing.specs.programs.Listing.{IsListing}
 use Rattle.listing.specs.programs.Private.{AreExpanded}
@@ -19,12 +24,20 @@ abbrev pub ListedNestIsTestable : Type 0
 ListedNestIsTestable = (p : Program) (masks : ℕ) (n m : Nest) → IsProgram77 fortran77 p
     → Contains (found_in p) (InNest n) → IsListedFrom masks n m → IsReady m
 
--- a nest whose loops can be listed, and for which masks can be made, is listed, with these loops and statements
+-- a nest whose loops can be listed, and for which masks can be made, is listed with these loops and statements, whose
+-- loops are moved by any graph of it
 abbrev pub LoopsAreListed : Type 0
-LoopsAreListed = (masks : ℕ) (n m k : Nest) → HasNormalLoops n m → converted_nest masks m ≡ Some k → k.masks < 2 ^ 32
-    → AreCounted (expanded k) → IsListedFrom masks n (expanded k)
+LoopsAreListed = (masks : ℕ) (n m k : Nest) (g : Graph) → HasNormalLoops n m → converted_nest masks m ≡ Some k
+    → k.masks < 2 ^ 32 → IsGraphOf (expanded (with_symbols_found m k)) g
+    → AreCounted (arranged (expanded (with_symbols_found m k)) (vectors_of g.edges))
+    → IsListedFrom masks n (arranged (expanded (with_symbols_found m k)) (vectors_of g.edges))
 
 -- its private scalars are arrays, in each listing of a program of FORTRAN 77
 abbrev pub ListedNestsAreExpanded : Type 0
 ListedNestsAreExpanded = (p : Program) (lines : List (List ℕ)) → IsProgram77 fortran77 p → (l : IsListing p lines)
     → AreExpanded 0 (found_in p) l.entries l.are
+
+-- its loops have causes, in each listing of a program of FORTRAN 77
+abbrev pub ListedNestsHaveCauses : Type 0
+ListedNestsHaveCauses = (p : Program) (lines : List (List ℕ)) → IsProgram77 fortran77 p → (l : IsListing p lines)
+    → AreCaused 0 (found_in p) l.entries l.are

@@ -6,13 +6,15 @@ use Rattle.nest.specs.Plain.{Nest}
 use Rattle.find_nests.specs.Found.{Found, InNest, Kept, found_in}
 use Rattle.find_nests.specs.declared.reasons.Reason.{Reason}
 use Rattle.find_nests.specs.declared.reasons.Reason.TheVariants.{Exit, InnerIf, Bound, Step, Deep, Large}
+use Rattle.dependence_graph.specs.declared.graphs.Cycle.{Cycle}
 use Rattle.dependence_graph.specs.declared.graphs.Graph.{Graph}
 use Rattle.dependence_graph.specs.nest_graph.Graph.{IsGraphOf}
 use Rattle.array_form.specs.holds.Holds.{all_holds}
+use Rattle.emission.specs.emission_pieces.Cycles.{AreCyclesOf}
 use Rattle.f90_grammar.specs.PrintedText.{with_line_feed}
 use Rattle.listing.specs.graphs.Lines.{Entry, KeepEntry}
 use Rattle.listing.specs.graphs.Listing.{entries_of, lines_of_entries}
-use Rattle.listing.specs.programs.Stages.{IsListedFrom}
+use Rattle.listing.specs.programs.Stages.{IsLastGraph, IsListedFrom}
 
 -- why a loop is kept
 abbrev pub reason_word : Reason → List ℕ
@@ -25,17 +27,26 @@ reason_word Large = codes "LARGE"
 
 -- ---- nests
 
--- with this number, by its graph and all its holds; cycles aren't listed so far
-abbrev pub tested_entries : ℕ → Nest → Graph → List Entry
-tested_entries number n g = entries_of n number g (all_holds n) []
+-- with this number, by its graph, all its holds, and these cycles
+abbrev pub tested_entries : ℕ → Nest → Graph → List Cycle → List Entry
+tested_entries number n g cs = entries_of n number g (all_holds n) cs
 
-abbrev pub HasGraphEntries : ℕ → Nest → List Entry → Type 0
-HasGraphEntries number n entries = (g : Graph) × IsGraphOf n g × (entries ≡ tested_entries number n g)
+-- the cycles are those of what is emitted for the nest by this graph and all its holds
+pub record HasCycleEntries (number : ℕ) (n : Nest) (g : Graph) (entries : List Entry) : Type 0 where
+  pub cycles : List Cycle
+  pub cycles_are : AreCyclesOf n g.edges (all_holds n) cycles
+  pub entries_are : entries ≡ tested_entries number n g cycles
 
--- a nest is listed by the graph of the last nest that passes make of it, where so many masks were made before in the
--- program
+-- by a graph of the nest, of which this holds
+abbrev pub HasGraphEntries : ℕ → Nest → (Graph → Type 0) → List Entry → Type 0
+HasGraphEntries number n P entries = (g : Graph) × IsGraphOf n g × HasCycleEntries number n g entries × P g
+
+-- A nest is listed by a graph of the last nest that passes make of it, where so many masks were made before in the
+-- program. Where the last pass moves no loop, it is the graph by which none was moved
 abbrev pub HasNestEntries : ℕ → Nest → List Entry → Type 0
-HasNestEntries masks n entries = (m : Nest) × IsListedFrom masks n m × HasGraphEntries n.number m entries
+HasNestEntries masks n entries =
+    (m : Nest) × (h : IsListedFrom masks n m)
+    × HasGraphEntries n.number m (IsLastGraph h.stages.expanded h.stages.graph) entries
 
 -- a kept loop
 abbrev pub kept : ℕ → Reason → List Entry

@@ -1,29 +1,48 @@
 -- The nests that passes make of a nest that was found, one after another. The last one is listed, and translated. Each
--- link is a relation between two nests of its pass, on loops, trips and statements; what stands behind them is free.
-use Rattle.std.specs.Prelude.{◌≡◌, ◌<◌, ◌^◌, ℕ, Some}
+-- link is a relation between nests, on loops, trips and statements; what stands behind them is free.
+use Rattle.std.specs.Prelude.{◌≡◌, ◌<◌, ◌^◌, ℕ, None, Some}
+use Rattle.dependence_graph.specs.declared.graphs.Graph.{Graph}
+use Rattle.dependence_graph.specs.nest_graph.Graph.{IsGraphOf}
 use Rattle.if_convert.specs.Converted.{converted_nest}
+use Rattle.interchange.specs.Arranged.{arranged, vectors_of, with_moved_loops}
 use Rattle.nest.specs.Plain.{Nest}
 use Rattle.listing.specs.programs.Counted.{AreCounted}
 use Rattle.normal_loops.specs.Listed.{IsListedFrom as HasNormalLoops}
 use Rattle.scalar_expand.specs.Expanded.{expanded}
+use Rattle.symbols_anew.specs.Nests.{with_symbols_found}
 
 -- what each pass makes
 pub record Stages : Type 0 where
+  -- loops go from 1 by 1
   pub normal : Nest
+  -- masks stand for IFs, labels and jumps
   pub converted : Nest
+  -- INTEGER scalars that get no value since then are symbols
+  pub anew : Nest
+  -- arrays stand for private scalars
   pub expanded : Nest
+  -- a graph of this one, by which its loops are moved
+  pub graph : Graph
+  pub arranged : Nest
 
--- Each link: what a pass makes comes from what the pass before it made, and the first one from n. So many masks were
+-- Each link: what a pass makes comes from what the passes before it made, and the first one from n. So many masks were
 -- made before in the program; with those of n there are at most 2^32-1, and so many statements and references
 pub record AreStagesOf (masks : ℕ) (n : Nest) (k : Stages) : Type 0 where
   pub normal : HasNormalLoops n k.normal
   pub converted : converted_nest masks k.normal ≡ Some k.converted
-  pub is_expanded : k.expanded ≡ expanded k.converted
-  pub counted : k.expanded.masks < 2 ^ 32
-  pub numbered : AreCounted k.expanded
+  pub is_anew : k.anew ≡ with_symbols_found k.normal k.converted
+  pub is_expanded : k.expanded ≡ expanded k.anew
+  pub is_graph : IsGraphOf k.expanded k.graph
+  pub is_arranged : k.arranged ≡ arranged k.expanded (vectors_of k.graph.edges)
+  pub counted : k.arranged.masks < 2 ^ 32
+  pub numbered : AreCounted k.arranged
 
 abbrev pub last_stage : Stages → Nest
-last_stage k = k.expanded
+last_stage k = k.arranged
+
+-- Of the nest that is made of k by the graph g this graph is listed: where no loop of k moves, it is g itself
+abbrev pub IsLastGraph : Nest → Graph → Graph → Type 0
+IsLastGraph k g last = with_moved_loops k (vectors_of g.edges) ≡ None → last ≡ g
 
 -- m is the last of them
 pub record IsListedFrom (masks : ℕ) (n m : Nest) : Type 0 where

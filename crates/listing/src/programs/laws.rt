@@ -1,5 +1,6 @@
 //! A law is a function without a body: its contract is what holds.
-ghost use Rattle.listing.specs.programs.Laws.{ListedNestIsTestable, ListedNestsAreExpanded, LoopsAreListed};
+ghost use Rattle.listing.specs.programs.Laws.{ListedNestIsTestable, ListedNestsAreExpanded, ListedNestsHaveCauses};
+ghost use Rattle.listing.specs.programs.Laws.{LoopsAreListed};
 
 /// A nest that is listed with a graph, of one of a program of FORTRAN 77, can be tested.
 pub fn listed_nests_are_testable()
@@ -11,8 +12,13 @@ pub fn loops_are_listed()
     ensures { LoopsAreListed }
 {}
 
-/// In no nest of a listing a scalar is left that was private before the last pass, but where its element is copied to
-/// it.
+/// In no nest of a listing a scalar is left that was private before expansion, but where its element is copied to it.
 pub fn listed_nests_are_expanded()
     ensures { ListedNestsAreExpanded }
+{}
+
+/// Each statement that stands in a loop of what is emitted for a nest of a listing has a cycle there, or is by itself
+/// and held there.
+pub fn listed_nests_have_causes()
+    ensures { ListedNestsHaveCauses }
 {}

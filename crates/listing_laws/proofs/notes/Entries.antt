@@ -3,6 +3,7 @@ use Rattle.std.proofs.Common.{refl, ℕ, zero, suc, ◌+◌, Bool, true, false, 
 use Rattle.std.proofs.Common.{map, codes, decimal}
 use Rattle.std.specs.Fmt.{signed_decimal}
 use Rattle.std.specs.List.{AllByRecursion}
+use Rattle.dependence_graph.specs.declared.graphs.Cycle.{Cycle}
 use Rattle.dependence_graph.specs.declared.graphs.Dep.{Dep}
 use Rattle.dependence_graph.specs.declared.graphs.Dep.TheVariants.{Flow, Anti, Output}
 use Rattle.dependence_graph.specs.declared.graphs.Dropped.{Dropped}
@@ -15,12 +16,12 @@ use Rattle.dependence_graph.specs.declared.graphs.Place.{Place}
 use Rattle.f90_grammar.specs.PrintedText.{expression_text, guarded_assignment_text}
 use Rattle.listing.specs.graphs.Lines.{Dependence, Meeting, Entry, NestEntry, LoopEntry, StatementEntry, EdgeEntry}
 use Rattle.listing.specs.graphs.Lines.{DropEntry}
-use Rattle.listing.specs.graphs.Lines.{HoldEntry, KeepEntry, blank_then, tuple_text, statement_name, place_text}
-use Rattle.listing.specs.graphs.Lines.{dependence_text}
+use Rattle.listing.specs.graphs.Lines.{CycleEntry, HoldEntry, KeepEntry, blank_then, tuple_text, statement_name, place_text}
+use Rattle.listing.specs.graphs.Lines.{dependence_text, walk_text}
 use Rattle.listing.specs.graphs.Lines.{level_text, meeting_text, entry_text}
 use Rattle.listing.specs.graphs.Listing.{loop_entries, loop_entries_in, loop_entries_under, loop_numbers}
 use Rattle.listing.specs.graphs.Listing.{statement_entries, meeting_of, related, answer_entry}
-use Rattle.listing.specs.graphs.Listing.{dependence_entries, hold_entries, entries_of}
+use Rattle.listing.specs.graphs.Listing.{cycle_entry, dependence_entries, hold_entries, entries_of}
 use Rattle.listing.specs.graphs.Order.{Answered, Found, RuledOut, comes_before, before, not_before, in_order}
 use Rattle.listing.specs.graphs.Words.{kind_word, test_word, hold_word, sign_of}
 use Rattle.nest.specs.Bodies.{Standing, nest_statements}
@@ -36,7 +37,7 @@ use Rattle.listing_laws.proofs.notes.Arrays.{HasNamedArcs, IsNamedEdge, IsNamedD
 use Rattle.listing_laws.proofs.notes.Made.{IsPrintableStanding, IsPrintableIn, IsPrintableNest}
 use Rattle.listing_laws.proofs.notes.Notes.{IsPrintableEntry}
 use Rattle.listing_laws.proofs.notes.Phrases.{expression_printable, statement_printable}
-use Rattle.listing_laws.proofs.notes.Printable.{ArePrintable, joined, both, blank, word, number, signed_number, tuple}
+use Rattle.listing_laws.proofs.notes.Printable.{ArePrintable, joined, both, blank, each_text, word, number, signed_number, tuple}
 
 -- ---- words
 
@@ -151,6 +152,12 @@ one_hold h =
     (both (statement_name h.stmt) behind (statement h.stmt)
     (both (blank_then (decimal h.level)) (blank_then (hold_word h.reason)) (blank, number h.level) (blank, hold h.reason)))
 
+one_cycle : (level : ℕ) (ss : List ℕ) → IsPrintableEntry (CycleEntry level ss)
+unfolding entry_text
+one_cycle level ss =
+    both (codes "CYCLE ") (decimal level ++ walk_text ss) (word (codes "CYCLE ") refl)
+    (both (decimal level) (walk_text ss) (number level) (each_text (λ s. blank_then (statement_name s)) (λ s. (blank, statement s)) ss))
+
 pub kept : (line : ℕ) (reason : List ℕ) → ArePrintable reason → IsPrintableEntry (KeepEntry line reason)
 unfolding entry_text
 kept line reason h =
@@ -239,15 +246,20 @@ holds : (hs : List Hold) → ArePrintableEntries (hold_entries hs)
 holds [] = tt
 holds (h ∷ hs) = (one_hold h, holds hs)
 
-pub nest_printable : (m : Nest) (nest : ℕ) (g : Graph) (hs : List Hold) → IsPrintableNest m → HasNamedArcs g → ArePrintableEntries (entries_of m nest g hs [])
-nest_printable m nest g hs h k =
+cycles : (cs : List Cycle) → ArePrintableEntries (map cycle_entry cs)
+cycles [] = tt
+cycles (c ∷ cs) = (one_cycle c.level c.stmts, cycles cs)
+
+pub nest_printable : (m : Nest) (nest : ℕ) (g : Graph) (hs : List Hold) (cs : List Cycle) → IsPrintableNest m → HasNamedArcs g
+    → ArePrintableEntries (entries_of m nest g hs cs)
+nest_printable m nest g hs cs h k =
     let ts = nest_statements m in
-    let last = hold_entries hs ++ [] in
+    let last = hold_entries hs ++ map cycle_entry cs in
     let arcs = dependence_entries ts g ++ last in
     let behind = statement_entries 1 ts ++ arcs in (
       nest_entry nest m.line,
       several (loop_entries 0 m.body) behind (loops [] 0 m.body h.loops)
           (several (statement_entries 1 ts) arcs (statements 1 ts h.statements)
           (several (dependence_entries ts g) last (each_answer ts (in_order g.edges g.dropped) (answers g.edges g.dropped k.edges k.drops))
-          (several (hold_entries hs) [] (holds hs) tt))),
+          (several (hold_entries hs) (map cycle_entry cs) (holds hs) (cycles cs)))),
     )

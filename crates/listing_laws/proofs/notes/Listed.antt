@@ -5,10 +5,10 @@ use Rattle.find_nests.specs.declared.reasons.Reason.{Reason}
 use Rattle.find_nests.specs.declared.reasons.Reason.TheVariants.{Exit, InnerIf, Bound, Step, Deep, Large}
 use Rattle.meaning.specs.Dialect.{fortran77}
 use Rattle.meaning.specs.Profile77.{IsProgram77}
-use Rattle.expansion_laws.specs.Found.{expanded_depth}
 use Rattle.tree.specs.Plain.{Block, Program}
+use Rattle.listing.proofs.programs.Arranging.{last_depth}
 use Rattle.listing.proofs.programs.Sources.{declared_for, prepared_for}
-use Rattle.listing.proofs.programs.Stages.{listed_is_passed}
+use Rattle.listing.proofs.programs.Stages.{listed_is_made}
 use Rattle.listing.specs.graphs.Lines.{Entry}
 use Rattle.listing.specs.programs.Stages.{IsListedFrom}
 use Rattle.nest.specs.Plain.{Nest}
@@ -40,19 +40,19 @@ printable_beside m after h = record { statements = h.statements; loops = h.loops
 module _ (p : Program) (is : IsProgram77 fortran77 p) where
   nest_is_printable : (masks : ℕ) (n m : Nest) → Contains (found_in p) (InNest n) → IsListedFrom masks n m → IsPrintableNest m
   nest_is_printable masks n m c listed =
-      let w = listed_is_passed masks n m listed in
-      let d = declared_for p masks n w.nest is c w.passed in
+      let w = listed_is_made masks n m listed in
+      let d = declared_for p masks n w.nest is c w.made in
       subst IsPrintableNest (sym w.same)
       (printable_beside w.nest m.after
-      (is_printable d.declarations d.around expanded_depth w.nest d.are (prepared_for p masks n w.nest is c w.passed)))
+      (is_printable d.declarations d.around last_depth w.nest d.are (prepared_for p masks n w.nest is c w.made)))
 
   nest_entries : (masks : ℕ) (n : Nest) (es : List Entry) → Contains (found_in p) (InNest n) → HasNestEntries masks n es
       → ArePrintableEntries es
   nest_entries masks n es c h =
       let m = h.0 in
       let printable = nest_is_printable masks n m c h.1 in
-      subst ArePrintableEntries (sym h.2.2)
-      (nest_printable m n.number h.2.0 (all_holds m) printable (graph_named m h.2.0 printable.statements h.2.1))
+      subst ArePrintableEntries (sym h.2.2.entries_are)
+      (nest_printable m n.number h.2.0 (all_holds m) h.2.2.cycles printable (graph_named m h.2.0 printable.statements h.2.1))
 
   -- ---- a program
 

@@ -1,12 +1,14 @@
 -- What is listed of a prepared nest may stand as notes, and is read back.
 use Rattle.std.proofs.Common.{◌≡◌, refl, sym, subst, ◌∙◌, ℕ, ◌<◌, ◌≤◌, ◌^◌, ◌==◌, Bool, true, false, ◌||◌}
-use Rattle.std.proofs.Common.{List, [], ◌∷◌, ◌++◌, length, Some, arith, lit≤}
+use Rattle.std.proofs.Common.{List, [], ◌∷◌, ◌++◌, length, map, Some, arith, lit≤}
 use Rattle.std.specs.List.{AllByRecursion, list_all}
 use Rattle.std.proofs.lemmas.Bool.{and_parts}
 use Rattle.components.specs.Lists.{Each}
 use Rattle.dependence_graph.specs.nest_graph.References.{references_of}
 use Rattle.listing.specs.graphs.Listing.{loop_numbers}
 use Rattle.array_form.specs.holds.Holds.{all_holds}
+use Rattle.listing.specs.graphs.Lines.{Entry}
+use Rattle.listing.specs.graphs.Listing.{lines_of_entries}
 use Rattle.listing.specs.programs.Listing.{tested_entries}
 use Rattle.listing_laws.proofs.notes.Arrays.{graph_named}
 use Rattle.listing_laws.proofs.notes.Entries.{nest_printable}
@@ -19,7 +21,9 @@ use Rattle.listing_laws.proofs.read_back.Made.{IsTidy, IsTidyIn, IsTidyLoop, IsT
 use Rattle.listing_laws.proofs.read_back.Words.{counter, name_character as word_character}
 use Rattle.listing_laws.proofs.reader.Rejoined.{listing-is-read}
 use Rattle.listing_laws.specs.prepared.Laws.{AreCounted, PreparedNestIsPrintable, PreparedNestIsTidy}
+use Rattle.f90_grammar.specs.PrintedText.{IsNote}
 use Rattle.listing_laws.specs.reader.Listable.{IsSmall, IsWord}
+use Rattle.listing_laws.specs.reader.Reader.{read_listing}
 use Rattle.meaning.specs.SymbolicNames.{IsLongName, is_digit, is_letter}
 use Rattle.meaning.specs.Profile90.{AreDeclarations, IsDeclaration}
 use Rattle.meaning.specs.Typed.{declared}
@@ -31,11 +35,11 @@ use Rattle.nest.specs.Plain.{part}
 use Rattle.nest_order.specs.orders.Lists.{In}
 use Rattle.pass_laws.proofs.NormalFacts.LoopWalk as walk
 use Rattle.pass_laws.proofs.NormalFacts.Tables.{all_in, each_from}
-use Rattle.prepared_nests.proofs.Ready.{prepared_nest_is_ready, round_statement}
-use Rattle.prepared_nests.proofs.Walks.{Follow}
-use Rattle.prepared_nests.specs.Loops as loops
-use Rattle.prepared_nests.specs.Loops.{IsPreparedLoop}
-use Rattle.prepared_nests.specs.Nests.{IsPrepared}
+use Rattle.pass_laws.proofs.PreparedNests.Ready.{prepared_nest_is_ready, round_statement}
+use Rattle.pass_laws.proofs.PreparedNests.Walks.{Follow}
+use Rattle.pass_laws.specs.prepared_nests.Loops as loops
+use Rattle.pass_laws.specs.prepared_nests.Loops.{IsPreparedLoop}
+use Rattle.pass_laws.specs.prepared_nests.Nests.{IsPrepared}
 use Rattle.tree.specs.Plain.{Declaration}
 
 -- ---- long names
@@ -139,13 +143,16 @@ module _ (es : List Declaration) (around : List (List ℕ)) (deepest : ℕ) (m :
       }
 
 pub prepared_nest_is_printable : PreparedNestIsPrintable
-prepared_nest_is_printable es around deepest m number g are h graph =
+prepared_nest_is_printable es around deepest m number g entries are h graph listed =
     let is = is_printable es around deepest m are h in
-    entry_notes (tested_entries number m g) (nest_printable m number g (all_holds m) is (graph_named m g is.statements graph))
+    subst (λ (xs : List Entry). AllByRecursion IsNote (lines_of_entries xs)) (sym listed.entries_are)
+    (entry_notes (tested_entries number m g listed.cycles)
+    (nest_printable m number g (all_holds m) listed.cycles is (graph_named m g is.statements graph)))
 
 pub prepared_nest_is_tidy : PreparedNestIsTidy
-prepared_nest_is_tidy es around deepest m number g are h counted few graph =
+prepared_nest_is_tidy es around deepest m number g entries are h counted few graph listed =
     let line = h.parts.line.1 in
-    listing-is-read (tested_entries number m g)
-    (nest_listable m number g few (omega (arith, line)) (prepared_nest_is_ready es around deepest m are h)
-    (is_tidy es around deepest m are h counted) counted.statements graph)
+    subst (λ (xs : List Entry). read_listing (lines_of_entries xs) ≡ map Some xs) (sym listed.entries_are)
+    (listing-is-read (tested_entries number m g listed.cycles)
+    (nest_listable m number g listed.cycles few (omega (arith, line)) (prepared_nest_is_ready es around deepest m are h)
+    (is_tidy es around deepest m are h counted) counted.statements graph listed.cycles_are))

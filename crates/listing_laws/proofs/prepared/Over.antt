@@ -17,10 +17,10 @@ use Rattle.pass_laws.proofs.NormalFacts.LoopWalk as walk
 use Rattle.pass_laws.proofs.NormalFacts.Tables.{all_in, each_from}
 use Rattle.pass_laws.proofs.NormalFacts.Texts.{AreOver, EachIsOver, GuardIsOver, IsOver, IsStatementOver, OneIsOver, trip_over}
 use Rattle.pass_laws.specs.normal_facts.Laws.{IsCounter}
-use Rattle.prepared_nests.specs.Loops as loops
-use Rattle.prepared_nests.specs.Loops.{IsPreparedLoop, IsPreparedTrip, variables_of_loops}
-use Rattle.prepared_nests.specs.Nests.{IsPrepared, IsPreparedSymbol}
-use Rattle.prepared_nests.specs.Statements.{IsPreparedStatement}
+use Rattle.pass_laws.specs.prepared_nests.Loops as loops
+use Rattle.pass_laws.specs.prepared_nests.Loops.{IsPreparedLoop, IsPreparedTrip, variables_of_loops}
+use Rattle.pass_laws.specs.prepared_nests.Nests.{IsPrepared, IsPreparedSymbol}
+use Rattle.pass_laws.specs.prepared_nests.Statements.{IsPreparedStatement}
 use Rattle.tree.specs.OperatorTable.{operand_kind}
 use Rattle.tree.specs.Plain.{Apply, Binary, Constructor, Declaration, Expression, Expressions, Logic, Named, Number, Only, Reduce}
 use Rattle.tree.specs.Plain.{Reshape, Section, Spread, Subscript, Subscripts, Transpose, Unary, expression, no_expressions}

@@ -1,27 +1,36 @@
 -- What a listing says of a nest of a program can be listed.
-use Rattle.std.proofs.Common.{sym, subst, ℕ, zero, suc, ◌+◌, ◌<◌, ◌≤◌, ◌^◌, Bool, true, false, cond, Option, Some}
+use Rattle.std.proofs.Common.{refl, sym, subst, ℕ, zero, suc, ◌+◌, ◌<◌, ◌≤◌, ◌^◌, Bool, true, false, cond, Option, Some}
 use Rattle.std.proofs.Common.{None, List, [], ◌∷◌, ◌++◌, map, length, arith, flat_map}
 use Rattle.std.proofs.lemmas.Bool.{cases_lt}
 use Rattle.std.proofs.lemmas.List.{get_or_past}
 use Rattle.std.specs.List.{AllByRecursion}
 use Rattle.std.specs.Prelude.{◌⊎◌, ◌-◌, slice_index_or}
 use Rattle.std.proofs.Common.{inl, inr}
+use Rattle.components.specs.Lists.{Each}
+use Rattle.dependence_graph.specs.declared.graphs.Cycle.{Cycle}
 use Rattle.dependence_graph.specs.declared.graphs.Dropped.{Dropped}
 use Rattle.dependence_graph.specs.declared.graphs.Edge.{Edge}
 use Rattle.dependence_graph.specs.declared.graphs.Graph.{Graph}
 use Rattle.dependence_graph.specs.declared.graphs.Hold.{Hold}
 use Rattle.dependence_graph.specs.declared.graphs.HoldReason.{HoldReason}
 use Rattle.meaning.specs.ArrayValues.{counted}
+use Rattle.emission.proofs.EmissionCauses.Inside.{IsInside, cycles_are_inside}
+use Rattle.emission.proofs.EmissionForms.WrittenTables.{ready_is_shallow}
+use Rattle.emission.proofs.GraphEdges.Leading.{edges_lead}
+use Rattle.emission.specs.emission_pieces.Cycles.{AreCyclesOf}
+use Rattle.emission.specs.emission_pieces.Edges.{AreEdgesOf}
+use Rattle.emission.specs.graph_edges.Laws.{IsShallow}
 use Rattle.listing.specs.graphs.Lines.{Entry}
 use Rattle.listing.specs.graphs.Listing.{loop_entries, loop_entries_in, loop_entries_under}
 use Rattle.listing.specs.graphs.Listing.{statement_entries, answer_entry, edge_entry, dependence_entries}
-use Rattle.listing.specs.graphs.Listing.{hold_entries}
+use Rattle.listing.specs.graphs.Listing.{cycle_entry, hold_entries}
 use Rattle.listing.specs.graphs.Order.{Answered, Found, RuledOut, comes_before, before, not_before, in_order}
 use Rattle.listing_laws.proofs.notes.Printable.{joined}
 use Rattle.listing_laws.specs.reader.Listable.{IsSmall, IsListable, IsListableHold}
 use Rattle.dependence_graph.specs.nest_graph.Graph.{IsGraphOf}
 use Rattle.dependence_graph.specs.nest_graph.Ready.{IsReady}
-use Rattle.nest.specs.Bodies.{Standing, nest_statements}
+use Rattle.nest_order.specs.orders.Lists.{In}
+use Rattle.nest.specs.Bodies.{Standing, nest_statements, statement_number}
 use Rattle.nest.specs.Plain.{Loop, Nest, Part, Run, Turns, Choice, Label, Jump, Parts, no_parts, part, Branches}
 use Rattle.nest.specs.Plain.{no_branches, branch}
 use Rattle.pass_laws.proofs.NormalFacts.LoopWalk.{EachLoop, EachLoopIn, EachLoopUnder}
@@ -159,12 +168,34 @@ hold_list (x ∷ hs) h = (h.0, hold_list hs h.1)
 
 -- ---- all entries of a nest
 
-pub nest_listable : (m : Nest) (number : ℕ) (g : Graph) → IsSmall number → IsSmall m.line → IsReady m → IsTidyNest m
-    → length (nest_statements m) ≤ 2 ^ 40 → IsGraphOf m g
-    → AreListable (tested_entries number m g)
-nest_listable m number g a b ready tidy few h =
+-- ---- cycles
+
+-- over statements of a nest, at levels of its loops
+cycle_list : (m : Nest) (cs : List Cycle) → IsShallow m → length (nest_statements m) ≤ 2 ^ 40 → ((c : Cycle) → In c cs → IsInside m c)
+    → AreListable (map cycle_entry cs)
+cycle_list m [] shallow few of = tt
+cycle_list m (c ∷ cs) shallow few of = (one (of c (inl refl)), cycle_list m cs shallow few (λ x i. of x (inr i)))
+  where
+    small : (walk : List ℕ) → Each (λ s. s < length (nest_statements m)) walk → AllByRecursion IsSmall (map statement_number walk)
+    small [] h = tt
+    small (s ∷ walk) h =
+        let most : length (nest_statements m) ≤ 1099511627776 = few in
+        let inside = h.0 in
+        (omega (arith, inside, most), small walk h.1)
+
+    one : IsInside m c → IsListable (cycle_entry c)
+    one h =
+        let deep = h.deep in
+        let seven = shallow h.statement in
+        (omega (arith, deep, seven), subst (AllByRecursion IsSmall) (sym h.is) (small h.walk h.below))
+
+pub nest_listable : (m : Nest) (number : ℕ) (g : Graph) (cs : List Cycle) → IsSmall number → IsSmall m.line → IsReady m → IsTidyNest m
+    → length (nest_statements m) ≤ 2 ^ 40 → IsGraphOf m g → AreCyclesOf m g.edges (all_holds m) cs
+    → AreListable (tested_entries number m g cs)
+nest_listable m number g cs a b ready tidy few h cycles =
+    let legal : AreEdgesOf m g.edges = edges_lead m g (ready_is_shallow m ready) h in
     let ts = nest_statements m in
-    let last = hold_entries (all_holds m) ++ [] in
+    let last = hold_entries (all_holds m) ++ map cycle_entry cs in
     let arcs = dependence_entries ts g ++ last in
     let behind = statement_entries 1 ts ++ arcs in (
       (a, b),
@@ -173,5 +204,6 @@ nest_listable m number g a b ready tidy few h =
           (several (dependence_entries ts g) last
           (each_answer ts (in_order g.edges g.dropped)
           (answers ts g.edges g.dropped (graph_edges m ready tidy few g h) (graph_drops m ready tidy few g h)))
-          (several (hold_entries (all_holds m)) [] (hold_list (all_holds m) (every_hold m ready few)) tt))),
+          (several (hold_entries (all_holds m)) (map cycle_entry cs) (hold_list (all_holds m) (every_hold m ready few))
+          (cycle_list m cs (ready_is_shallow m ready) few (cycles_are_inside m g.edges (all_holds m) cs legal cycles))))),
     )

@@ -1,7 +1,7 @@
 -- The entries of the listing of a program can be listed, so that they are read from its lines.
 use Rattle.std.proofs.Common.{sym, ap, ◌∙◌, subst, ℕ, ◌+◌, ◌≤◌, ◌<◌, ◌^◌, List, [], ◌∷◌, length, Contains, arith}
 use Rattle.std.proofs.lemmas.List.Elements.{All-weaker}
-use Rattle.convert_laws.proofs.Rounds.{nest_number}
+use Rattle.prepared_passes.proofs.ConvertedNests.Rounds.{nest_number}
 use Rattle.dependence_graph.specs.nest_graph.References.{references_of}
 use Rattle.find_nests.proofs.FoundLaws.{kept_is_loop}
 use Rattle.find_nests.specs.Found.{Found, InNest, Kept, found_in}
@@ -10,7 +10,6 @@ use Rattle.find_nests.specs.declared.reasons.Reason.{Reason}
 use Rattle.meaning.specs.Blocks.{outermost}
 use Rattle.meaning.specs.Dialect.{fortran77}
 use Rattle.meaning.specs.Profile77.{IsProgram77}
-use Rattle.expansion_laws.specs.Found.{expanded_depth}
 use Rattle.tree.specs.Plain.{Block, Program}
 use Rattle.listing.specs.graphs.Lines.{Entry}
 use Rattle.listing_laws.proofs.notes.Printable.{joined}
@@ -19,8 +18,9 @@ use Rattle.listing_laws.proofs.reader.Rejoined.{listing-is-read}
 use Rattle.listing_laws.specs.prepared.Laws.{AreCounted}
 use Rattle.listing_laws.specs.reader.Listable.{IsListable}
 use Rattle.listing_laws.specs.reader.Reader.{read_listing}
+use Rattle.listing.proofs.programs.Arranging.{last_depth}
 use Rattle.listing.proofs.programs.Sources.{declared_for, listed_nest_is_testable, prepared_for}
-use Rattle.listing.proofs.programs.Stages.{listed_is_passed}
+use Rattle.listing.proofs.programs.Stages.{listed_is_made}
 use Rattle.listing.specs.programs.Counted as listing
 use Rattle.listing.specs.programs.Listing.{HasNestEntries, HasEntries, HaveEntries, masks_behind}
 use Rattle.listing.specs.programs.Stages.{IsListedFrom}
@@ -60,14 +60,14 @@ module _ (p : Program) (is : IsProgram77 fortran77 p) where
 
   readable : (masks : ℕ) (n m : Nest) → Contains (found_in p) (InNest n) → IsListedFrom masks n m → IsReadable m
   readable masks n m c listed =
-      let w = listed_is_passed masks n m listed in
-      let d = declared_for p masks n w.nest is c w.passed in
-      let prepared = prepared_for p masks n w.nest is c w.passed in
-      let numbers = counted w.nest w.passed.numbered in
+      let w = listed_is_made masks n m listed in
+      let d = declared_for p masks n w.nest is c w.made in
+      let prepared = prepared_for p masks n w.nest is c w.made in
+      let numbers = counted w.nest w.made.numbered in
       subst IsReadable (sym w.same)
       (record {
         line = prepared.parts.line.1;
-        tidy = tidy_beside w.nest m.after (is_tidy d.declarations d.around expanded_depth w.nest d.are prepared numbers);
+        tidy = tidy_beside w.nest m.after (is_tidy d.declarations d.around last_depth w.nest d.are prepared numbers);
         few = numbers.statements;
       })
 
@@ -78,9 +78,9 @@ module _ (p : Program) (is : IsProgram77 fortran77 p) where
       let r = readable masks n m c h.1 in
       let line = r.line in
       let number = nest_number p 0 (looked_at p.declarations p.body) n (omega arith) c in
-      subst AreListable (sym h.2.2)
-      (nest_listable m n.number h.2.0 (omega (arith, number)) (omega (arith, line))
-      (listed_nest_is_testable p masks n m is c h.1) r.tidy r.few h.2.1)
+      subst AreListable (sym h.2.2.entries_are)
+      (nest_listable m n.number h.2.0 h.2.2.cycles (omega (arith, number)) (omega (arith, line))
+      (listed_nest_is_testable p masks n m is c h.1) r.tidy r.few h.2.1 h.2.2.cycles_are)
 
   -- ---- a program
 

@@ -6,19 +6,20 @@ use Rattle.dependence_graph.specs.nest_graph.Graph.{IsGraphOf}
 use Rattle.dependence_graph.specs.nest_graph.References.{references_of}
 use Rattle.f90_grammar.specs.PrintedText.{IsNote}
 use Rattle.listing.specs.graphs.Listing.{lines_of_entries}
-use Rattle.listing.specs.programs.Listing.{tested_entries}
+use Rattle.listing.specs.graphs.Lines.{Entry}
+use Rattle.listing.specs.programs.Listing.{HasCycleEntries}
 use Rattle.listing_laws.specs.reader.Reader.{read_listing}
 use Rattle.meaning.specs.Profile90.{AreDeclarations}
 use Rattle.nest.specs.Bodies.{Standing, nest_statements}
 use Rattle.nest.specs.Plain.{Nest}
-use Rattle.prepared_nests.specs.Nests.{IsPrepared}
+use Rattle.pass_laws.specs.prepared_nests.Nests.{IsPrepared}
 use Rattle.tree.specs.Plain.{Declaration}
 
 -- by a graph of it, its lines may stand as notes before a printed program
 abbrev pub PreparedNestIsPrintable : Type 0
 PreparedNestIsPrintable = (es : List Declaration) (around : List (List ℕ)) (deepest : ℕ) (m : Nest) (number : ℕ)
-    (g : Graph) → AreDeclarations es → IsPrepared es around deepest m → IsGraphOf m g
-    → AllByRecursion IsNote (lines_of_entries (tested_entries number m g))
+    (g : Graph) (entries : List Entry) → AreDeclarations es → IsPrepared es around deepest m → IsGraphOf m g
+    → HasCycleEntries number m g entries → AllByRecursion IsNote (lines_of_entries entries)
 
 -- statements and references have numbers that a listing shows whole
 pub record AreCounted (m : Nest) : Type 0 where
@@ -28,5 +29,6 @@ pub record AreCounted (m : Nest) : Type 0 where
 -- and from them its entries are read
 abbrev pub PreparedNestIsTidy : Type 0
 PreparedNestIsTidy = (es : List Declaration) (around : List (List ℕ)) (deepest : ℕ) (m : Nest) (number : ℕ)
-    (g : Graph) → AreDeclarations es → IsPrepared es around deepest m → AreCounted m → number < 2 ^ 63 → IsGraphOf m g
-    → read_listing (lines_of_entries (tested_entries number m g)) ≡ map Some (tested_entries number m g)
+    (g : Graph) (entries : List Entry) → AreDeclarations es → IsPrepared es around deepest m → AreCounted m
+    → number < 2 ^ 63 → IsGraphOf m g → HasCycleEntries number m g entries
+    → read_listing (lines_of_entries entries) ≡ map Some entries

@@ -1,5 +1,5 @@
 -- What is made of a nest that was found in a program of FORTRAN 77.
-use Rattle.std.proofs.Common.{◌≡◌, ◌∙◌, ℕ, ◌≤◌, ◌<◌, ◌^◌, Option, Some, None, Result, Ok, Err, List, [], length, map, refl}
+use Rattle.std.proofs.Common.{◌≡◌, ℕ, ◌≤◌, ◌<◌, ◌^◌, Option, Some, None, Result, Ok, Err, List, [], length, map, refl}
 use Rattle.std.proofs.Common.{ap, subst, arith, option_map}
 use Rattle.std.specs.Prelude.{IfOk}
 use Rattle.f90_print.specs.Notes.{text_of}
@@ -16,14 +16,15 @@ use Rattle.listing.specs.graphs.Listing.{lines_of_entries}
 use Rattle.emission.specs.nest_emission.Given.{MayBeEmitted}
 use Rattle.dependence_graph.specs.nest_graph.Graph.{IsGraphOf}
 use Rattle.nest.specs.Plain.{Nest}
-use Rattle.listing.proofs.programs.Sources.{few_of_source, ready}
+use Rattle.listing.proofs.programs.Sources.{prepared_for, ready}
+use Rattle.listing.proofs.programs.Stages.{made_by}
 use Rattle.listing.specs.programs.Listing.{kept}
 use Rattle.listing.specs.programs.Passed.{IsPassed, IsPassedAs}
 use Rattle.listing.specs.declared.programs.nests.Passed.{Passed}
 use Rattle.listing.specs.programs.Sources.{IsNestOfSource}
+use Rattle.listing.specs.programs.Stages.{IsLastGraph}
 use Rattle.listing.specs.programs.Testable.{AreTestsOf}
-use Rattle.pass_laws.proofs.ReadyNests.Made.{made_of}
-use Rattle.translation.proofs.Converting.{converted_from, expanded_from}
+use Rattle.scalar_expand.specs.Expanded.{expanded}
 use Rattle.translation.specs.made_declarations.Declaring.{declaration_of_made, declaration_of_name}
 use Rattle.translation.specs.declared.nest_blocks.loop_answers.Answer.{Answer as Answer'}
 use Rattle.translation.specs.nest_blocks.LoopAnswers.{IsAnswerTo, Kept, Translated}
@@ -33,26 +34,25 @@ use Rattle.translation.specs.nest_blocks.LoopAnswers.{IsAnswerTo, Kept, Translat
 pub may_be_emitted : (masks : ℕ) (n m : Nest) (g : Graph) → IsNestOfSource n → IsPassedAs masks n m → IsGraphOf m g
     → MayBeEmitted m g
 may_be_emitted masks n m g h passed graph =
-    let of_source : length n.symbols ≤ 1000 = few_of_source n h in
-    let same : length m.symbols ≡ length n.symbols
-    = ap (λ (xs : List (List ℕ)). length xs)
-    ((expanded_from passed.converted m passed.is_expanded).symbols
-    ∙ (converted_from masks passed.normal passed.converted passed.is_converted).symbols
-    ∙ (made_of n passed.normal passed.made).symbols) in
-    let few : length m.symbols < 2 ^ 16 = omega (arith, of_source, same) in
-    ready_nests_may_be_emitted m g (ready masks n m h passed) few graph
+    let made = made_by masks n m passed in
+    let least : length m.symbols ≤ 1000 = (prepared_for h.program masks n m h.profile h.among made).parts.few in
+    let few : length m.symbols < 2 ^ 16 = omega (arith, least) in
+    ready_nests_may_be_emitted m g (ready masks n m h made) few graph
 
 -- ---- answers
 
 pub translated : (masks : ℕ) (n m : Nest) (g : Graph) (holds : List Hold) (lines : List (List ℕ)) (b : Block)
-    (ds : List Declaration) (next : ℕ) → IsPassedAs masks n m → AreTestsOf n.number m g holds lines → IsEmission m g holds b
+    (ds : List Declaration) (next : ℕ) (passed : IsPassedAs masks n m) → IsLastGraph (expanded passed.anew) passed.graph g
+    → AreTestsOf n.number m g holds lines → IsEmission m g holds b
     → ds ≡ map declaration_of_made m.made → next ≡ m.masks → IsAnswerTo masks (InNest n) lines (Some b) ds next
-translated masks n m g holds lines b ds next passed tests e declared count =
+translated masks n m g holds lines b ds next passed kept tests e declared count =
     let same = subst (λ (hs : List Hold). IsEmission m g hs b) tests.holds_are e in
     record {
       answer = Translated n m g same.pieces;
-      right = record { passed = passed; graph = tests.graph; emitted = same.emitted };
+      right = record { passed = passed; graph = tests.graph; kept = kept; emitted = same.emitted };
       found = refl;
+      entries = tests.entries;
+      listed = tests.listed;
       lines_are = tests.lines_are;
       block_is = ap Some same.block;
       made_are = declared;
@@ -66,6 +66,8 @@ kept_as masks line r lines block ds is none declared = record {
   answer = Kept line r;
   right = tt;
   found = refl;
+  entries = kept line r;
+  listed = refl;
   lines_are = is;
   block_is = none;
   made_are = declared;

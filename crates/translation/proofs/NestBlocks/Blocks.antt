@@ -276,10 +276,10 @@ answers_are_blocks p lines blocks made program h = record {
         last_of : (x y : Nest) (g : Graph) (ps : Pieces) → Contains h.answers (Translated x y g ps) → x ≡ n
             → IsTranslation (masks_before 0 h.answers x.number) x y g ps → last.masks ≤ masks_before 0 h.answers k
         last_of x y g ps i same own =
-            let is : last ≡ y
-            = passed_once (masks_before 0 h.answers n.number) n last y passed
-            (subst (λ (z : Nest). IsPassedAs (masks_before 0 h.answers z.number) z y) same own.passed) in
-            subst (λ (z : Nest). z.masks ≤ masks_before 0 h.answers k) (sym is)
+            let is : last.masks ≡ y.masks
+            = (passed_once (masks_before 0 h.answers n.number) n last y passed
+            (subst (λ (z : Nest). IsPassedAs (masks_before 0 h.answers z.number) z y) same own.passed)).1 in
+            subst (λ (i : ℕ). i ≤ masks_before 0 h.answers k) (sym is)
             (behind_rises 0 h.answers x y g ps k h.are.right order i
             (subst (λ (z : Nest). z.number < k) (sym same) less))
 

@@ -1,6 +1,7 @@
 -- The answers to all that was found so far.
 use Rattle.std.proofs.Common.{◌≡◌, ◌⊎◌, inl, inr, refl, ◌∙◌, ap, subst, sym, ℕ, ◌+◌, ◌<◌, ◌≤◌, Option}
 use Rattle.std.proofs.Common.{List, [], ◌∷◌, ◌++◌, map, take, drop, length, get_or, option_map, Contains, append-nil}
+use Rattle.std.proofs.Common.{append_assoc}
 use Rattle.std.proofs.Common.{take-append-drop}
 use Rattle.std.specs.List.{flat_map}
 use Rattle.std.proofs.lemmas.List.{drop_more, map-append, take_all, take_more}
@@ -18,18 +19,19 @@ use Rattle.tree.specs.View.{block_of}
 use Rattle.tree.specs.declared.programs.Line.{Line}
 use Rattle.tree.specs.declared.stmts.Block.{Block as Tree}
 use Rattle.listing.proofs.graphs.LoopLines.{entries-append}
+use Rattle.listing.specs.graphs.Lines.{Entry}
 use Rattle.listing.specs.graphs.Listing.{lines_of_entries}
 use Rattle.translation.proofs.LoopNumbers.Nests.{loop_numbers_count, nests_are_numbered}
 use Rattle.translation.specs.loop_numbers.Numbers.{ComesBefore, nests_among}
 use Rattle.translation.specs.loop_placing.Placing.{blocks_of}
 use Rattle.nest.specs.Plain.{Nest}
 use Rattle.meaning_laws.proofs.profiles.Lists.{cases_of, here, nowhere}
-use Rattle.translation.specs.nest_blocks.Answers.{AreAnswersFor, ArePlaced, AreRight}
+use Rattle.translation.specs.nest_blocks.Answers.{AreAllEntriesBy, AreAnswersFor, ArePlaced, AreRight}
 use Rattle.translation.specs.nest_blocks.Places.{IsPutFor}
 use Rattle.translation.proofs.NestBlocks.Placed.{IsBehind, placed_more, placed_none}
 use Rattle.translation.specs.made_declarations.Declaring.{declaration_of_name}
 use Rattle.translation.specs.declared.made_declarations.names.MadeName.{MadeName}
-use Rattle.translation.specs.nest_blocks.LoopAnswers.{Answer, IsAnswerTo, IsRight, entries_by, found_by, made_by}
+use Rattle.translation.specs.nest_blocks.LoopAnswers.{Answer, AreEntriesBy, IsAnswerTo, IsRight, found_by, made_by}
 use Rattle.translation.specs.nest_blocks.LoopAnswers.{masks_by}
 
 -- ---- masks
@@ -49,6 +51,19 @@ masks_too : (masks : ℕ) (answers : List Answer) (a : Answer)
 masks_too masks [] a = refl
 masks_too masks (x ∷ answers) a = masks_too (masks_by masks x) answers a
 
+-- ---- entries
+
+listed_too : (answers : List Answer) (a : Answer) (es last : List Entry) → AreAllEntriesBy answers es → AreEntriesBy a last
+    → AreAllEntriesBy (answers ++ a ∷ []) (es ++ last)
+listed_too [] a es last h own = (last, [], ap (λ us. us ++ last) h ∙ sym (append-nil last), own, refl)
+listed_too (x ∷ answers) a es last h own = (
+  h.0,
+  h.1 ++ last,
+  ap (λ us. us ++ last) h.2 ∙ append_assoc h.0 h.1 last,
+  h.3,
+  listed_too answers a h.1 last h.4 own,
+)
+
 -- ---- answers
 
 -- answers to these, what they list, what they put in the place of loops, what passes made, and how many masks
@@ -57,7 +72,9 @@ pub record AreAnswersTo (fs : List Found) (lines : List (List ℕ)) (blocks : Li
   pub answers : List Answer
   pub right : AreRight 0 answers
   pub found : map found_by answers ≡ fs
-  pub lines_are : lines ≡ lines_of_entries (flat_map entries_by answers)
+  pub entries : List Entry
+  pub listed : AreAllEntriesBy answers entries
+  pub lines_are : lines ≡ lines_of_entries entries
   pub placed : ArePlaced answers blocks
   pub made_are : made ≡ flat_map made_by answers
   pub masks_are : masks ≡ masks_after 0 answers
@@ -67,6 +84,8 @@ answers_none = record {
   answers = [];
   right = tt;
   found = refl;
+  entries = [];
+  listed = refl;
   lines_are = refl;
   placed = placed_none;
   made_are = refl;
@@ -83,10 +102,11 @@ answers_more fs f old more new block before after had own have masks next h a be
   found =
       map-append found_by h.answers (a.answer ∷ []) ∙ ap (λ gs. gs ++ found_by a.answer ∷ []) h.found
       ∙ ap (λ g. fs ++ g ∷ []) a.found;
+  entries = h.entries ++ a.entries;
+  listed = listed_too h.answers a.answer h.entries a.entries h.listed a.listed;
   lines_are =
-      lines ∙ ap (λ us. us ++ more) h.lines_are
-      ∙ ap (λ us. lines_of_entries (flat_map entries_by h.answers) ++ us) a.lines_are
-      ∙ sym (entries-append (flat_map entries_by h.answers) (entries_by a.answer)) ∙ ap lines_of_entries (sym entries);
+      lines ∙ ap (λ us. us ++ more) h.lines_are ∙ ap (λ us. lines_of_entries h.entries ++ us) a.lines_are
+      ∙ sym (entries-append h.entries a.entries);
   placed =
       placed_more h.answers a.answer f block before after a.found a.block_is
       (subst (λ (gs : List Found). IsBehind gs f) (sym h.found) behind) h.placed put;
@@ -97,11 +117,6 @@ answers_more fs f old more new block before after had own have masks next h a be
   masks_are =
       a.masks_are ∙ ap (λ (k : ℕ). masks_by k a.answer) h.masks_are ∙ sym (masks_too 0 h.answers a.answer);
 }
-  where
-    entries : flat_map entries_by (h.answers ++ a.answer ∷ []) ≡ flat_map entries_by h.answers ++ entries_by a.answer
-    entries =
-        flat_map-append entries_by h.answers (a.answer ∷ [])
-        ∙ ap (λ es. flat_map entries_by h.answers ++ es) (append-nil (entries_by a.answer))
 
 -- ---- numbers of nests
 
@@ -201,6 +216,8 @@ module _ (p : Program) (items : List Found') (is : map found_of items ≡ found_
       (subst (λ (ls : List Line). AreAnswersFor p (map text_of ls) (blocks_of blocks) (declared_as made)) (sym l) (record {
         answers = k.answers;
         are = record { right = k.right; found = k.found ∙ ap (map found_of) (take_all i items h) ∙ is };
+        entries = k.entries;
+        listed = k.listed;
         lines_are = k.lines_are;
         placed = k.placed;
         made_are = k.made_are;

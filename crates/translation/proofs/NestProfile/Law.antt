@@ -1,19 +1,19 @@
 -- What stands in the place of a nest is of the profile.
 use Rattle.std.proofs.Common.{refl, sym, subst, ◌+◌, ◌≤◌, List, arith}
-use Rattle.expansion_laws.specs.Found.{expanded_depth}
 use Rattle.tree.specs.Limits.{expression_depth90}
 use Rattle.tree.specs.Plain.{Block, Declaration}
 use Rattle.array_form.specs.profile.Laws.{rise}
+use Rattle.listing.proofs.programs.Arranging.{last_depth}
 use Rattle.meaning.specs.Profile90.{IsBlock}
 use Rattle.meaning_laws.specs.profiles.Profiles.{AddMadeNames}
-use Rattle.prepared_runs.proofs.Profile.{prepared_translation_is_of_profile}
+use Rattle.pass_laws.proofs.PreparedRuns.Profile.{prepared_translation_is_of_profile}
 use Rattle.translation.proofs.NestTranslation.Prepared.{passed_nest_is_prepared, same_declarations}
 use Rattle.translation.specs.nest_profile.Laws.{TranslationIsOfProfile}
 
 -- ---- the law
 
-room : expanded_depth + rise ≤ expression_depth90
-room = let e : 766 ≤ 1000 = omega arith in e
+room : last_depth + rise ≤ expression_depth90
+room = let e : 802 ≤ 1000 = omega arith in e
 
 pub translation_is_of_profile : TranslationIsOfProfile
 translation_is_of_profile p r n m b w found is among added translated counters made transpose reshape number round source =
@@ -21,6 +21,6 @@ translation_is_of_profile p r n m b w found is among added translated counters m
     passed_nest_is_prepared p translated.masks n m w found is among translated.passed round source r added counters made in
     let own = same_declarations p translated.masks n m found translated.passed in
     subst (λ (c : Block). IsBlock r.declarations c w) (sym translated.block)
-    (prepared_translation_is_of_profile r.declarations w.variables expanded_depth m translated.pieces w added.are prepared
+    (prepared_translation_is_of_profile r.declarations w.variables last_depth m translated.pieces w added.are prepared
     translated.are translated.passed.numbered.statements room
     (subst (λ (ds : List Declaration). AddMadeNames ds r.declarations) (sym own) added) transpose reshape refl)

@@ -21,12 +21,12 @@ use Rattle.nest_order.specs.orders.Lists.{In}
 use Rattle.nest_order.specs.runs.Touched.{nth_of}
 use Rattle.pass_laws.proofs.NormalFacts.Tables.{all_in, each_from}
 use Rattle.pass_laws.proofs.ReadyNests.Lists.{Each-All}
-use Rattle.prepared_nests.proofs.Lists.{Contains-In, In-Contains}
-use Rattle.prepared_nests.specs.Made.{AreBoundsBy, IsPreparedMade, extent_for}
-use Rattle.prepared_nests.specs.Nests.{IsPrepared, IsPreparedSymbol}
-use Rattle.prepared_runs.proofs.Allocating.{arrays_of}
-use Rattle.prepared_runs.proofs.Together.{in_list}
-use Rattle.prepared_runs.specs.Allocations.{AreFree, HasMade, IsAllocated, IsSameBut, made_arrays, name_of_array}
+use Rattle.pass_laws.proofs.PreparedNests.Lists.{Contains-In, In-Contains}
+use Rattle.pass_laws.specs.prepared_nests.Made.{AreBoundsBy, IsPreparedMade, extent_for}
+use Rattle.pass_laws.specs.prepared_nests.Nests.{IsPrepared, IsPreparedSymbol}
+use Rattle.pass_laws.proofs.PreparedRuns.Allocating.{arrays_of}
+use Rattle.pass_laws.proofs.PreparedRuns.Together.{in_list}
+use Rattle.pass_laws.specs.prepared_runs.Allocations.{AreFree, HasMade, IsAllocated, IsSameBut, made_arrays, name_of_array}
 use Rattle.translation.proofs.NestTranslation.Cleaned.{cleaned, cleaned_bounds, cleaned_free, sized}
 use Rattle.translation.specs.placed_loops.Beside.{AreUnallocated, IsUnallocated}
 use Rattle.tree.specs.Names.{IsSourceName}

@@ -1,13 +1,14 @@
--- The nest with loops from 1 by 1, and with masks in place of its IFs, labels and jumps, goes on as the source's loop.
+-- The nest with loops from 1 by 1, and with masks in place of its IFs, labels and jumps, goes on as the source's loop,
+-- and so does that nest with its symbols found anew.
 use Rattle.std.proofs.Common.{◌≡◌, refl, sym, ap, ◌∙◌, subst, ℕ, ◌^◌, ◌≤◌, ℤ, Bool, List, [], ◌∷◌, Option, Some}
 use Rattle.std.proofs.Common.{None, IfSome, Contains}
 use Rattle.std.specs.Option.{IsSomeAnd}
 use Rattle.std.specs.Prelude.{All}
-use Rattle.convert_laws.proofs.Masked.{AreBeside as AreBesideMasks, IsOther}
-use Rattle.convert_laws.proofs.ProgramNames.{program_has_no_masks}
-use Rattle.convert_laws.proofs.Standing.{IsLoopOf, loop_of, nest_leads}
-use Rattle.convert_laws.specs.Branching.{IsBranching}
-use Rattle.convert_laws.specs.Places.{IsMask}
+use Rattle.prepared_passes.proofs.ConvertedNests.Masked.{AreBeside as AreBesideMasks, IsOther}
+use Rattle.prepared_passes.proofs.ConvertedNests.ProgramNames.{program_has_no_masks}
+use Rattle.prepared_passes.proofs.ConvertedNests.Standing.{IsLoopOf, loop_of, nest_leads}
+use Rattle.prepared_passes.specs.conversion.Branching.{IsBranching}
+use Rattle.prepared_passes.specs.conversion.Places.{IsMask}
 use Rattle.find_nests.specs.Found.{InNest, found_in}
 use Rattle.find_nests.specs.Laws.{IsFoundNest}
 use Rattle.find_nests.specs.Loops.{as_statement}
@@ -29,10 +30,13 @@ use Rattle.nest_order.specs.runs.Guarded.{variable_cell}
 use Rattle.nest_steps.specs.Keeping.{GoOnAlike}
 use Rattle.nest_steps.specs.Leading.{Led}
 use Rattle.pass_laws.specs.normal_facts.Laws.{IsCounter}
-use Rattle.prepared_runs.proofs.Found.{normal_nest_goes_on_as_loop}
-use Rattle.prepared_runs.proofs.Pieces.{does_then}
-use Rattle.prepared_runs.specs.Running.{loops_then_after}
+use Rattle.pass_laws.specs.prepared_nests.Laws.{normal_depth}
+use Rattle.pass_laws.specs.prepared_nests.Nests.{IsPrepared}
+use Rattle.pass_laws.proofs.PreparedRuns.Found.{normal_nest_goes_on_as_loop}
+use Rattle.pass_laws.proofs.PreparedRuns.Pieces.{does_then}
+use Rattle.pass_laws.specs.prepared_runs.Running.{loops_then_after}
 use Rattle.rewrite.specs.Following.{IsSound}
+use Rattle.prepared_passes.proofs.SymbolsAnew.Runs.{nest_with_symbols_runs_alike}
 use Rattle.tree.specs.OperationFaults.{kind_of}
 use Rattle.tree.specs.Plain.{Block, Declaration, Expression, Program, statement}
 use Rattle.tree.specs.declared.ops.Kind.TheVariants.{Logical}
@@ -40,7 +44,8 @@ use Rattle.tree.specs.declared.ops.Value.{Value}
 use Rattle.tree.specs.declared.ops.Value.TheVariants.{Int, Truth}
 use Rattle.listing.specs.programs.Passed.{IsPassedAs}
 use Rattle.translation.proofs.NestTranslation.Cleaned.{agree_on, same_agree}
-use Rattle.translation.proofs.NestTranslation.Prepared.{AreMasksDeclared, few_masks, passed_nest_is_branching}
+use Rattle.translation.proofs.NestTranslation.Prepared.{AreMasksDeclared, few_converted, passed_nest_is_converted}
+use Rattle.translation.proofs.NestTranslation.Prepared.{same_masks}
 use Rattle.translation.proofs.ProgramTranslation.Standing.{Stands, loop_stands}
 
 -- ---- without arrays as values no array comes or goes
@@ -150,10 +155,13 @@ module _ (p b : Program) (masks : ℕ) (n m : Nest) (found : IsFoundNest p n) (p
   stands : Stands program found.loop
   stands = loop_stands program found.loop found.stands
 
-  branching : IsBranching passed.normal
-  branching =
-      passed_nest_is_branching p masks n m stands.round found program is_nest passed stands.named stands.is b add
+  branching_and_prepared : IsBranching passed.normal × IsPrepared b.declarations stands.round.variables normal_depth k
+  branching_and_prepared =
+      passed_nest_is_converted p masks n m stands.round found program is_nest passed stands.named stands.is b add
       counters marks
+
+  branching : IsBranching passed.normal
+  branching = branching_and_prepared.0
 
   no_mask : (x : List ℕ) → Contains (names_of p) x → IsOther x
   no_mask x i j e = program_has_no_masks p j program (subst (Contains (names_of p)) (sym e) i)
@@ -180,7 +188,7 @@ module _ (p b : Program) (masks : ℕ) (n m : Nest) (found : IsFoundNest p n) (p
     two : Led (AreBesideMasks masks passed.converted.masks) second third
     two =
         masks_lead masks passed.normal v branching (ap (λ (x : State). x.way) start.rest ∙ start.going)
-        (subst IsSound (sym second_goes) tt) passed.converted passed.is_converted (few_masks masks n m passed)
+        (subst IsSound (sym second_goes) tt) passed.converted passed.is_converted (few_converted masks n m passed)
         (masks_beside b masks passed.converted.masks v marks holds)
 
     goes_on : GoOnAlike p first third
@@ -193,15 +201,29 @@ module _ (p b : Program) (masks : ℕ) (n m : Nest) (found : IsFoundNest p n) (p
           two.rest ∙ ap (λ (x : State). record x { store = third.store; steps = third.steps }) one.rest;
     }
 
+    -- with its symbols found anew it comes to the same moment
+    third_goes : third.way ≡ Going
+    third_goes = ap (λ (x : State). x.way) goes_on.rest ∙ goes_on.going
+
+    alike : does_all fortran77 None (loops_then_after passed.anew) v ≡ third
+    alike =
+        ap (λ (z : Nest). does_all fortran77 None (loops_then_after z) v) passed.is_anew
+        ∙ nest_with_symbols_runs_alike passed.normal passed.converted v branching_and_prepared.1.plain sized
+        (subst IsSound (sym third_goes) tt)
+
+    goes_on_anew : GoOnAlike p first (does_all fortran77 None (loops_then_after passed.anew) v)
+    goes_on_anew = subst (λ (x : State). GoOnAlike p first x) (sym alike) goes_on
+
 -- from moments that agree on p, where b declares the counters and the masks, and where the loop meets no fault
-pub converted_nest_goes_on_as_loop : (p b : Program) (masks : ℕ) (n m : Nest) (found : IsFoundNest p n) (s v : State)
+pub unexpanded_nest_goes_on_as_loop : (p b : Program) (masks : ℕ) (n m : Nest) (found : IsFoundNest p n) (s v : State)
     → IsProgram77 fortran77 p → Contains (found_in p) (InNest n) → (passed : IsPassedAs masks n m)
     → AddMadeNames p.declarations b.declarations
     → All (λ (l : Loop). IsSomeAnd (declared b.declarations l.variable) IsCounter) (nest_loops passed.normal)
-    → AreMasksDeclared b masks passed.converted.masks → HoldsProgram fortran77 b v.store → HoldsSized v.store
+    → AreMasksDeclared b masks passed.anew.masks → HoldsProgram fortran77 b v.store → HoldsSized v.store
     → GoOnAlike p s v
     → IsSound (does fortran77 None (as_statement found.loop.loop.loop) s).way
     → GoOnAlike p (does fortran77 None (as_statement found.loop.loop.loop) s)
-    (does_all fortran77 None (loops_then_after passed.converted) v)
-converted_nest_goes_on_as_loop p b masks n m found s v program is_nest passed add counters marks holds sized start sound =
-    goes_on p b masks n m found program is_nest passed add counters marks s v holds sized start sound
+    (does_all fortran77 None (loops_then_after passed.anew) v)
+unexpanded_nest_goes_on_as_loop p b masks n m found s v program is_nest passed add counters marks holds sized start sound =
+    goes_on_anew p b masks n m found program is_nest passed add counters
+    (subst (AreMasksDeclared b masks) (same_masks masks n m passed) marks) s v holds sized start sound

@@ -4,17 +4,18 @@ use Rattle.std.proofs.Common.{List, [], ◌∷◌, Option, Some, None, get_or, C
 use Rattle.std.specs.Option.{IsSomeAnd, option_map}
 use Rattle.std.specs.Prelude.{All}
 use Rattle.std.proofs.lemmas.List.Elements.{All-from_recursion, Contains-get_or}
-use Rattle.convert_laws.proofs.Flat.{mask_counter}
-use Rattle.convert_laws.proofs.FoundConverted.{found_nest_is_converted}
-use Rattle.convert_laws.proofs.Walk.{mask_long}
-use Rattle.convert_laws.specs.Branching.{IsBranching}
-use Rattle.convert_laws.specs.Places.{IsMask}
+use Rattle.prepared_passes.proofs.ArrangedNests.Again.{arranged_nest_is_prepared}
+use Rattle.prepared_passes.proofs.ConvertedNests.Flat.{mask_counter}
+use Rattle.prepared_passes.proofs.ConvertedNests.FoundConverted.{found_nest_is_converted}
+use Rattle.prepared_passes.proofs.ConvertedNests.Walk.{mask_long}
+use Rattle.prepared_passes.specs.conversion.Branching.{IsBranching}
+use Rattle.prepared_passes.specs.conversion.Places.{IsMask}
 use Rattle.find_nests.specs.Found.{InNest, found_in}
 use Rattle.find_nests.specs.Laws.{IsFoundNest}
 use Rattle.find_nests.specs.LookedAt.{looked_at}
 use Rattle.find_nests.specs.Loops.{as_statement}
-use Rattle.expansion_laws.proofs.Found.{found_nest_is_expanded_in_places}
-use Rattle.expansion_laws.specs.Found.{IsFoundInPlaces, expanded_depth}
+use Rattle.prepared_passes.proofs.ExpandedNests.Found.{found_nest_is_expanded_in_places}
+use Rattle.prepared_passes.specs.expansion.Found.{IsFoundInPlaces, expanded_depth}
 use Rattle.if_convert.specs.Masks.{mask_name}
 use Rattle.meaning.specs.Blocks.{Surroundings}
 use Rattle.meaning.specs.Dialect.{fortran77}
@@ -24,18 +25,22 @@ use Rattle.meaning_laws.proofs.profiles.Lists.{nowhere}
 use Rattle.meaning_laws.proofs.profiles.Names.{found}
 use Rattle.meaning_laws.specs.profiles.Profiles.{AddMadeNames}
 use Rattle.nest.specs.Bodies.{nest_loops}
-use Rattle.nest.specs.Plain.{Loop, Nest, Part}
+use Rattle.nest.specs.Plain.{Loop, Made, Nest, Part}
 use Rattle.normal_loops.specs.Bodies.{normal_part}
 use Rattle.normal_loops.specs.Loops.{nested_loops}
 use Rattle.normal_loops.specs.Normal.{is_normal}
 use Rattle.normal_loops.specs.Normalised.{normalised, only_one, with_body, with_loops}
 use Rattle.pass_laws.proofs.NormalMeaning.Made as texts
 use Rattle.pass_laws.specs.normal_facts.Laws.{IsCounter}
-use Rattle.prepared_nests.specs.Nests.{IsPrepared}
+use Rattle.pass_laws.specs.prepared_nests.Laws.{normal_depth}
+use Rattle.pass_laws.specs.prepared_nests.Nests.{IsPrepared}
 use Rattle.tree.specs.Names.{IsSourceName}
 use Rattle.tree.specs.Plain.{Block, Declaration, Program}
+use Rattle.interchange.specs.Arranged.{vectors_of}
+use Rattle.listing.proofs.programs.Arranging.{last_depth}
 use Rattle.listing.specs.programs.Passed.{IsPassedAs}
-use Rattle.translation.proofs.Converting.{converted_from, expanded_from}
+use Rattle.scalar_expand.specs.Expanded.{expanded}
+use Rattle.translation.proofs.Converting.{anew_from, converted_from, passed_from}
 use Rattle.translation.proofs.LoopNumbers.Nests.{nest_number}
 use Rattle.translation.proofs.MadeDeclarations.Made.{made_names}
 use Rattle.translation.proofs.ProgramTranslation.Counted.{IsNumbered, counter_declarations, each_of, of_counter}
@@ -62,10 +67,17 @@ abbrev pub AreMasksDeclared : Program → ℕ → ℕ → Type 0
 AreMasksDeclared r k e = (i : ℕ) → k ≤ i → i < e → IsSomeAnd (declared r.declarations (mask_name i)) IsMask
 
 -- as many as passes have made by then
-pub few_masks : (masks : ℕ) (n m : Nest) (passed : IsPassedAs masks n m) → passed.converted.masks ≤ 2 ^ 32
+pub few_masks : (masks : ℕ) (n m : Nest) (passed : IsPassedAs masks n m) → passed.anew.masks ≤ 2 ^ 32
 few_masks masks n m passed =
-    subst (λ (i : ℕ). i ≤ 2 ^ 32) (expanded_from passed.converted m passed.is_expanded).masks
+    subst (λ (i : ℕ). i ≤ 2 ^ 32) (passed_from masks n m passed).masks
     (at_most m.masks passed.counted)
+
+pub same_masks : (masks : ℕ) (n m : Nest) (passed : IsPassedAs masks n m) → passed.anew.masks ≡ passed.converted.masks
+same_masks masks n m passed = (anew_from passed.normal passed.converted passed.anew passed.is_anew).masks
+
+pub few_converted : (masks : ℕ) (n m : Nest) (passed : IsPassedAs masks n m) → passed.converted.masks ≤ 2 ^ 32
+few_converted masks n m passed =
+    subst (λ (i : ℕ). i ≤ 2 ^ 32) (same_masks masks n m passed) (few_masks masks n m passed)
 
 -- ---- the names of p and all counters: no mask is among them
 
@@ -134,7 +146,8 @@ module _ (n m : Nest) where
 pub same_declarations : (p : Program) (masks : ℕ) (n m : Nest) → IsFoundNest p n → IsPassedAs masks n m
     → m.declarations ≡ p.declarations
 same_declarations p masks n m found passed =
-    (expanded_from passed.converted m passed.is_expanded).declarations
+    (passed_from masks n m passed).declarations
+    ∙ (anew_from passed.normal passed.converted passed.anew passed.is_anew).declarations
     ∙ (converted_from masks passed.normal passed.converted passed.is_converted).declarations
     ∙ (normal_declarations n passed.normal passed.made ∙ ap (λ (k : Nest). k.declarations) found.is)
 
@@ -149,27 +162,30 @@ module _ (p : Program) (masks : ℕ) (n m : Nest) (w : Surroundings) (found : Is
       let less : n.number < 4294967296 = omega (arith, least) in
       less
 
-  -- masks may be made for the nest with loops from 1 by 1, where b declares its counters and its masks
-  pub passed_nest_is_branching : (b : Program) → AddMadeNames p.declarations b.declarations
+  -- masks may be made for the nest with loops from 1 by 1, where b declares its counters and its masks, and the nest
+  -- with masks is prepared
+  pub passed_nest_is_converted : (b : Program) → AddMadeNames p.declarations b.declarations
       → All (λ (l : Loop). IsSomeAnd (declared b.declarations l.variable) IsCounter) (nest_loops passed.normal)
-      → AreMasksDeclared b masks passed.converted.masks → IsBranching passed.normal
-  passed_nest_is_branching b add counters marks =
-      (found_nest_is_converted p n passed.normal passed.converted (bare p program) b.declarations masks w found program
-      is_nest passed.made passed.is_converted (few_masks masks n m passed) (with_counters p program).more
+      → AreMasksDeclared b masks passed.converted.masks
+      → IsBranching passed.normal × IsPrepared b.declarations w.variables normal_depth passed.converted
+  passed_nest_is_converted b add counters marks =
+      found_nest_is_converted p n passed.normal passed.converted (bare p program) b.declarations masks w found program
+      is_nest passed.made passed.is_converted (few_converted masks n m passed) (with_counters p program).more
       (no_masks p program) (counted p program n passed.normal is_nest passed.made) add marks counters small
-      (all_source w.variables named) is).0
+      (all_source w.variables named) is
 
   -- where r declares the counters of the nest's loops, and what passes made for it
   module _ (r : Program) (add : AddMadeNames p.declarations r.declarations)
       (counters : All (λ (l : Loop). IsSomeAnd (declared r.declarations l.variable) IsCounter) (nest_loops passed.normal))
       (made : AreMadeDeclared r m) where
-    pub passed_nest_is_in_places : IsFoundInPlaces p r passed.normal passed.converted masks w.variables
+    pub passed_nest_is_in_places : IsFoundInPlaces p r passed.normal passed.anew masks w.variables
     passed_nest_is_in_places =
-        found_nest_is_expanded_in_places p r n passed.normal passed.converted masks w found program is_nest passed.made
-        passed.is_converted (few_masks masks n m passed) add counters
-        (subst (AreMadeDeclared r) passed.is_expanded made) small (all_source w.variables named) is
+        found_nest_is_expanded_in_places p r n passed.normal passed.converted passed.anew masks w found program is_nest
+        passed.made passed.is_converted passed.is_anew (few_masks masks n m passed) add counters
+        (λ a c. made a (subst (λ (ms : List Made). Contains ms a) (sym (passed_from masks n m passed).made) c)) small (all_source w.variables named) is
 
-    pub passed_nest_is_prepared : IsPrepared r.declarations w.variables expanded_depth m
+    pub passed_nest_is_prepared : IsPrepared r.declarations w.variables last_depth m
     passed_nest_is_prepared =
-        subst (IsPrepared r.declarations w.variables expanded_depth) (sym passed.is_expanded)
-        passed_nest_is_in_places.places.behind
+        subst (IsPrepared r.declarations w.variables last_depth) (sym passed.is_arranged)
+        (arranged_nest_is_prepared r.declarations w.variables expanded_depth (expanded passed.anew)
+        (vectors_of passed.graph.edges) passed_nest_is_in_places.places.behind)

@@ -4,18 +4,21 @@
 use Rattle.std.proofs.Common.{◌≡◌, refl, sym, ap, ◌∙◌, subst, ℕ, ℤ, false, List, [], ◌∷◌, Option, Some, None, Contains}
 use Rattle.std.specs.Option.{IsSomeAnd}
 use Rattle.std.specs.Prelude.{All}
+use Rattle.listing.proofs.arrays.GuardedNames.{arranged_nest_has_guarded_names}
+use Rattle.prepared_passes.proofs.ArrangedNests.GoesOn.{arranged_nest_goes_on_as_nest}
 use Rattle.emission.specs.emission_forms.Written.{HaveGuardedNames}
 use Rattle.emission.specs.emission_pieces.Pieces.{Pieces, block_of_pieces}
 use Rattle.emission.specs.graph_orders.Nests.{run_nest}
-use Rattle.expansion_laws.proofs.Begun.{expanded_nest_is_begun_before}
-use Rattle.expansion_laws.proofs.Guarded.{expanded_nest_has_guarded_names}
-use Rattle.expansion_laws.specs.Before.{before_expansion}
-use Rattle.expansion_laws.specs.Found.{IsFoundInPlaces, expanded_depth}
-use Rattle.expansion_laws.specs.Places.{IsBegunBefore}
+use Rattle.prepared_passes.proofs.ExpandedNests.Begun.{expanded_nest_is_begun_before}
+use Rattle.prepared_passes.specs.expansion.Before.{before_expansion}
+use Rattle.prepared_passes.specs.expansion.Found.{IsFoundInPlaces, expanded_depth, unexpanded_depth}
+use Rattle.prepared_passes.specs.expansion.Places.{IsBegunBefore}
 use Rattle.find_nests.specs.Found.{InNest, found_in}
 use Rattle.find_nests.specs.Laws.{IsFoundNest}
 use Rattle.find_nests.specs.Loops.{as_statement}
+use Rattle.interchange.specs.Arranged.{arranged, vectors_of}
 use Rattle.linear_forms.specs.Laws.{HoldsSized}
+use Rattle.listing.proofs.programs.Arranging.{arranged_rest, last_depth}
 use Rattle.meaning.proofs.Agreeing.{statements_keep_agreement}
 use Rattle.meaning.specs.Agreement.{MomentsAgree}
 use Rattle.meaning.specs.Reads.{names_in_block}
@@ -45,20 +48,20 @@ use Rattle.nest_steps.specs.Keeping.{GoOnAlike}
 use Rattle.pass_laws.proofs.NormalFacts.MadeStatements.{counter_long}
 use Rattle.pass_laws.proofs.NormalFacts.Tables.{all_in}
 use Rattle.pass_laws.specs.normal_facts.Laws.{IsCounter}
-use Rattle.prepared_nests.specs.Laws.{normal_depth}
-use Rattle.prepared_nests.specs.Made.{AreOf64Bits}
-use Rattle.prepared_nests.specs.Nests.{IsPrepared, IsPreparedSymbol}
-use Rattle.prepared_runs.proofs.Allocations.{arrays_are_allocated, arrays_are_deallocated}
-use Rattle.prepared_runs.proofs.Counters.{no_variable}
-use Rattle.prepared_runs.proofs.Endings.{endings_no_label}
-use Rattle.prepared_runs.proofs.Found.{short_name, with_rest}
-use Rattle.prepared_runs.proofs.Pieces.{does_then, pieces_no_label, then_no_label}
-use Rattle.prepared_runs.proofs.Together.{in_list, pieces_go_on_as_nest}
-use Rattle.prepared_runs.proofs.Symbols.{IsNumber, holds_number, value_there, values_in, values_sized}
-use Rattle.prepared_runs.specs.Allocations.{HoldSymbols, IsAllocated, IsDeallocated, made_arrays}
-use Rattle.prepared_runs.specs.Running.{GoOnTogether, MayRun, loops_then_after, pieces_then_after, setting_at}
-use Rattle.prepared_runs.specs.Unlabelled.{HasNoLabel}
+use Rattle.pass_laws.specs.prepared_nests.Made.{AreOf64Bits}
+use Rattle.pass_laws.specs.prepared_nests.Nests.{IsPrepared, IsPreparedSymbol}
+use Rattle.pass_laws.proofs.PreparedRuns.Allocations.{arrays_are_allocated, arrays_are_deallocated}
+use Rattle.pass_laws.proofs.PreparedRuns.Counters.{no_variable}
+use Rattle.pass_laws.proofs.PreparedRuns.Endings.{endings_no_label}
+use Rattle.pass_laws.proofs.PreparedRuns.Found.{short_name, with_rest}
+use Rattle.pass_laws.proofs.PreparedRuns.Pieces.{does_then, pieces_no_label, then_no_label}
+use Rattle.pass_laws.proofs.PreparedRuns.Together.{in_list, pieces_go_on_as_nest}
+use Rattle.pass_laws.proofs.PreparedRuns.Symbols.{IsNumber, holds_number, value_there, values_in, values_sized}
+use Rattle.pass_laws.specs.prepared_runs.Allocations.{HoldSymbols, IsAllocated, IsDeallocated, made_arrays}
+use Rattle.pass_laws.specs.prepared_runs.Running.{GoOnTogether, MayRun, loops_then_after, pieces_then_after, setting_at}
+use Rattle.pass_laws.specs.prepared_runs.Unlabelled.{HasNoLabel}
 use Rattle.rewrite.specs.Following.{IsSound}
+use Rattle.scalar_expand.specs.Expanded.{expanded}
 use Rattle.tree.specs.Names.{IsSourceName}
 use Rattle.tree.specs.Plain.{Block, Declaration, Expression, Program, Statement, no_statements, statement}
 use Rattle.translation.proofs.NestTranslation.Arrays.{arrays_free, free_again, made_apart, made_still, none_of_source}
@@ -66,7 +69,7 @@ use Rattle.translation.proofs.NestTranslation.Arrays.{of_77, of_90, sized_still}
 use Rattle.translation.proofs.NestTranslation.Bounds.{sequential_keeps_bounds}
 use Rattle.translation.proofs.NestTranslation.Cleaned.{add_both, agree_back, agree_fewer, agree_on, cleaned, cleaned_agrees}
 use Rattle.translation.proofs.NestTranslation.Cleaned.{cleaned_holds, cleaned_sized, same_agree}
-use Rattle.translation.proofs.NestTranslation.Converted.{converted_nest_goes_on_as_loop}
+use Rattle.translation.proofs.NestTranslation.Converted.{unexpanded_nest_goes_on_as_loop}
 use Rattle.translation.proofs.NestTranslation.Prepared.{passed_nest_is_in_places, passed_nest_is_prepared}
 use Rattle.translation.proofs.PlacedProfile.SourceNames.{source_name}
 use Rattle.translation.proofs.ProgramTranslation.Standing.{Stands, loop_stands}
@@ -157,7 +160,7 @@ module _ (p q r : Program) (n m : Nest) (b : Block) (w : Surroundings) (found : 
 
   -- the nest before private scalars become arrays, and the program in which it stands
   abbrev k : Nest
-  k = translated.passed.converted
+  k = translated.passed.anew
 
   abbrev before : Program
   before = before_expansion r k
@@ -167,7 +170,14 @@ module _ (p q r : Program) (n m : Nest) (b : Block) (w : Surroundings) (found : 
       passed_nest_is_in_places p translated.masks n m stands.round found program is_nest translated.passed stands.named
       stands.is r all counters made
 
-  prepared : IsPrepared r.declarations around expanded_depth m
+  -- and with arrays for these, before its loops are moved
+  abbrev x : Nest
+  x = expanded k
+
+  prepared_before : IsPrepared r.declarations around expanded_depth x
+  prepared_before = in_places.places.behind
+
+  prepared : IsPrepared r.declarations around last_depth m
   prepared =
       passed_nest_is_prepared p translated.masks n m stands.round found program is_nest translated.passed stands.named
       stands.is r all counters made
@@ -189,12 +199,28 @@ module _ (p q r : Program) (n m : Nest) (b : Block) (w : Surroundings) (found : 
 
   -- no name of p is that of an array which is made
   of_p : (x : List ℕ) → Contains (names_of p) x → ¬ Contains (made_arrays m) x
-  of_p x i = none_of_source r around expanded_depth m prepared x (own_source x i)
+  of_p y i = none_of_source r around last_depth m prepared y (own_source y i)
 
   apart : (d : Cell) → Contains (names_of p) d.name → is_variable (run_nest m) d ≡ false
   apart d i =
-      no_variable r.declarations around expanded_depth m prepared d
+      no_variable r.declarations around last_depth m prepared d
       (λ k e. counter_long d.name k (short_name p program d.name i) e)
+
+  apart_before : (d : Cell) → Contains (names_of p) d.name → is_variable (run_nest x) d ≡ false
+  apart_before d i =
+      no_variable r.declarations around expanded_depth x prepared_before d
+      (λ k e. counter_long d.name k (short_name p program d.name i) e)
+
+  -- what made the nest m of that one keeps symbols and arrays
+  may_before : (u : State) → MayRun r m u → MayRun r (expanded k) u
+  may_before u h = of_body (subst (λ (z : Nest). MayRun r z u) same h)
+    where
+      same : m ≡ record (expanded k) { body = (arranged (expanded k) (vectors_of translated.passed.graph.edges)).body }
+      same = translated.passed.is_arranged ∙ arranged_rest (expanded k) (vectors_of translated.passed.graph.edges)
+
+      of_body : MayRun r (record (expanded k) { body = (arranged (expanded k) (vectors_of translated.passed.graph.edges)).body }) u
+          → MayRun r (expanded k) u
+      of_body i = record { going = i.going; holds = i.holds; values = i.values; valued = i.valued; made = i.made }
 
   module _ (s t : State) (going : s.way ≡ Going) (beside : AreBeside p q s t) (sound : IsSound (does fortran77 None c s).way) where
     -- ---- the store from which the nest's run starts: names that q hasn't are as at the opening of a run
@@ -229,8 +255,8 @@ module _ (p q r : Program) (n m : Nest) (b : Block) (w : Surroundings) (found : 
 
     allocated : IsAllocated r m v t0
     allocated =
-        arrays_are_allocated r around expanded_depth m v t0 all.are prepared wide (of_77 r store holds) valued
-        (arrays_free q r around expanded_depth m t.store more prepared beside.free) (sym beside.way ∙ going)
+        arrays_are_allocated r around last_depth m v t0 all.are prepared wide (of_77 r store holds) valued
+        (arrays_free q r around last_depth m t.store more prepared beside.free) (sym beside.way ∙ going)
 
     abbrev u : State
     u = allocated.state
@@ -262,44 +288,75 @@ module _ (p q r : Program) (n m : Nest) (b : Block) (w : Surroundings) (found : 
       going = allocated.going;
       holds = u_holds;
       values = v;
-      valued = λ k x e. allocated.others.held (variable_cell x) (made_apart r around expanded_depth m prepared x k e) ∙ valued k x e;
+      valued = λ k x e. allocated.others.held (variable_cell x) (made_apart r around last_depth m prepared x k e) ∙ valued k x e;
       made = allocated.made;
     }
 
     u_sized : HoldsSized u.store
-    u_sized = sized_still r around expanded_depth m v t0 prepared sized allocated
+    u_sized = sized_still r around last_depth m v t0 prepared sized allocated
+
+    may_there : MayRun r (expanded k) u
+    may_there = may_before u may
 
     -- ---- from the loop to the nest before private scalars become arrays
 
     begun : IsBegunBefore p before k u
     begun =
-        expanded_nest_is_begun_before p before r around normal_depth expanded_depth k u in_places.places
-        (subst (λ (z : Nest). MayRun r z u) translated.passed.is_expanded may) u_sized
+        expanded_nest_is_begun_before p before r around unexpanded_depth expanded_depth k u in_places.places
+        may_there u_sized
 
     abbrev earlier : State
     earlier = does_all fortran77 None (loops_then_after k) begun.state
 
     from_loop : GoOnAlike p (does fortran77 None c s) earlier
     from_loop =
-        converted_nest_goes_on_as_loop p before translated.masks n m found s begun.state program is_nest translated.passed
+        unexpanded_nest_goes_on_as_loop p before translated.masks n m found s begun.state program is_nest translated.passed
         in_places.places.places.before in_places.counters in_places.masks begun.holds begun.sized
         (alike_beside p s begun.state u start begun.alike) sound
 
     earlier_goes : earlier.way ≡ Going
     earlier_goes = ap (λ (x : State). x.way) from_loop.rest ∙ from_loop.going
 
-    -- ---- to the last nest that the passes make
+    -- ---- to the nest with arrays for these
+
+    abbrev with_arrays : State
+    with_arrays = does_all fortran77 None (loops_then_after (expanded k)) u
+
+    to_arrays : GoOnAlike p earlier with_arrays
+    to_arrays = begun.leads (subst IsSound (sym earlier_goes) tt)
+
+    arrays_go : with_arrays.way ≡ Going
+    arrays_go = ap (λ (x : State). x.way) to_arrays.rest ∙ earlier_goes
+
+    -- ---- to the last nest that the passes make, whose loops are moved
 
     abbrev second : State
     second = does_all fortran77 None (loops_then_after m) u
 
-    to_last : GoOnAlike p earlier second
-    to_last =
-        subst (λ (z : Nest). GoOnAlike p earlier (does_all fortran77 None (loops_then_after z) u))
-        (sym translated.passed.is_expanded) (begun.leads (subst IsSound (sym earlier_goes) tt))
+    together : GoOnTogether (expanded k) u with_arrays second
+    together =
+        subst (λ (z : Nest). GoOnTogether (expanded k) u with_arrays (does_all fortran77 None (loops_then_after z) u))
+        (sym translated.passed.is_arranged)
+        (arranged_nest_goes_on_as_nest r around expanded_depth (expanded k) translated.passed.graph u all.are prepared_before
+        translated.passed.is_graph may_there u_sized (subst IsSound (sym arrays_go) tt))
+
+    to_last : GoOnAlike p with_arrays second
+    to_last = record {
+      going = together.going;
+      agree = record {
+        bounds = λ y i. together.beside.near.bounds y;
+        held = λ d i here. together.beside.near.held d (apart_before d i);
+        kinds = λ d i. ap nought_like (together.beside.near.held d (apart_before d i));
+      };
+      rest =
+          with_rest second with_arrays (together.lines_beside.written ∙ sym together.lines.written)
+          (together.lines_beside.input ∙ sym together.lines.input)
+          (together.lines_beside.had_value ∙ sym together.lines.had_value) (together.beside.way ∙ sym together.going);
+    }
 
     one : GoOnAlike p (does fortran77 None c s) second
-    one = alike_then p (does fortran77 None c s) earlier second from_loop to_last
+    one =
+        alike_then p (does fortran77 None c s) earlier second from_loop (alike_then p earlier with_arrays second to_arrays to_last)
 
     second_goes : second.way ≡ Going
     second_goes = ap (λ (x : State). x.way) one.rest ∙ one.going
@@ -311,12 +368,13 @@ module _ (p q r : Program) (n m : Nest) (b : Block) (w : Surroundings) (found : 
 
     guarded : HaveGuardedNames m (setting_at may)
     guarded =
-        subst (λ (z : Nest). (h : MayRun r z u) → HaveGuardedNames z (setting_at h)) (sym translated.passed.is_expanded)
-        (λ h. expanded_nest_has_guarded_names p before r around normal_depth expanded_depth k u in_places.places h u_sized) may
+        subst (λ (z : Nest). (h : MayRun r z u) → HaveGuardedNames z (setting_at h)) (sym translated.passed.is_arranged)
+        (λ h. arranged_nest_has_guarded_names p before r around unexpanded_depth expanded_depth k
+        (vectors_of translated.passed.graph.edges) u in_places.places h u_sized) may
 
     two : GoOnTogether m u second third
     two =
-        pieces_go_on_as_nest r around expanded_depth m ps u all.are prepared translated.are may guarded
+        pieces_go_on_as_nest r around last_depth m ps u all.are prepared translated.are may guarded
         (subst IsSound (sym second_goes) tt)
 
     near : Agree p second.store third.store
@@ -333,7 +391,7 @@ module _ (p q r : Program) (n m : Nest) (b : Block) (w : Surroundings) (found : 
 
     went : IsDeallocated m third
     went =
-        arrays_are_deallocated r around expanded_depth m v third prepared wide
+        arrays_are_deallocated r around last_depth m v third prepared wide
         (made_still m v u.store third.store third_bounds allocated.made) two.beside.way
 
     abbrev fourth : State

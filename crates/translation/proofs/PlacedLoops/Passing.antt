@@ -10,7 +10,7 @@ use Rattle.meaning.specs.Run.{State, Way, Going, Jumping, Stopped, Failed, Cut, 
 use Rattle.meaning.specs.Run.{counts_step, does, does_all}
 use Rattle.meaning.specs.Store.{Store}
 use Rattle.nest.specs.Allocations.{block_then}
-use Rattle.prepared_runs.specs.Unlabelled.{IsNoLabel, HasNoLabel}
+use Rattle.pass_laws.specs.prepared_runs.Unlabelled.{IsNoLabel, HasNoLabel}
 
 -- not going
 abbrev pub IsElsewhere : Way → Type 0

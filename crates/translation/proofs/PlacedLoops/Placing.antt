@@ -22,7 +22,7 @@ use Rattle.meaning_laws.proofs.dialects.MadeNames.{opening_agrees}
 use Rattle.translation.proofs.PlacedLoops.Frames.{opening_free}
 use Rattle.translation.specs.placed_loops.Beside.{AreBeside, DoesAs}
 use Rattle.translation.specs.placed_loops.Laws.{PlacedLoopsKeepMeaning}
-use Rattle.prepared_runs.specs.Unlabelled.{HasNoLabel}
+use Rattle.pass_laws.specs.prepared_runs.Unlabelled.{HasNoLabel}
 use Rattle.translation.specs.placed_loops.Placed.{one, StandsFor, ArePlaced, IsPlaced}
 use Rattle.translation.proofs.PlacedLoops.Passing.{IsElsewhere, evaluates_passed, does_then, EachIn, each_in, front_in, back_in}
 use Rattle.translation.proofs.PlacedLoops.Passing.{block_passed}

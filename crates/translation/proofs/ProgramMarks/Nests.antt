@@ -19,6 +19,7 @@ use Rattle.last_values.specs.ValuesBehind.{values_behind}
 use Rattle.last_values.specs.declared.behind.NestedLoop.{NestedLoop}
 use Rattle.scalar_expand.specs.Laws.{own_of}
 use Rattle.listing.proofs.programs.Sources as sources
+use Rattle.listing.proofs.programs.Stages.{made_by}
 use Rattle.listing.specs.programs.Passed.{IsPassedAs}
 use Rattle.nest_order.specs.shapes.Shapes.{IsPlain}
 use Rattle.normal_loops.specs.Bodies.{normal_part}
@@ -33,7 +34,7 @@ use Rattle.pass_laws.proofs.NormalMeaning.Made.{behind, made_of}
 use Rattle.array_form.specs.holds.Holds.{all_holds}
 use Rattle.array_form.specs.holds.Statements.{no_statement}
 use Rattle.std.specs.Option.{option_map}
-use Rattle.translation.proofs.Converting.{IsConvertedFrom, IsExpandedFrom, converted_from, expanded_from}
+use Rattle.translation.proofs.Converting.{IsAnewFrom, IsConvertedFrom, IsLastFrom, anew_from, converted_from, passed_from}
 use Rattle.translation.specs.nest_blocks.LoopAnswers.{IsTranslation}
 use Rattle.translation.specs.program_marks.Marks.{IsMarkedByGraph}
 use Rattle.translation.proofs.ProgramMarks.Endings.{last_values_unmarked, then_unmarked}
@@ -80,24 +81,27 @@ module _ (p : Program) (masks : ℕ) (n m : Nest) (g : Graph) (ps : Pieces) (pro
   passed = translated.passed
 
   abbrev k : Nest
-  k = passed.converted
+  k = passed.anew
 
-  converted : IsConvertedFrom masks passed.normal k
-  converted = converted_from masks passed.normal k passed.is_converted
+  converted : IsConvertedFrom masks passed.normal passed.converted
+  converted = converted_from masks passed.normal passed.converted passed.is_converted
 
-  expanded_so : IsExpandedFrom k m
-  expanded_so = expanded_from k m passed.is_expanded
+  anew_so : IsAnewFrom passed.converted k
+  anew_so = anew_from passed.normal passed.converted k passed.is_anew
+
+  last_so : IsLastFrom k m
+  last_so = passed_from masks n m passed
 
   ready : IsReady m
-  ready = sources.ready masks n m (record { program = p; profile = program; among = found }) passed
+  ready = sources.ready masks n m (record { program = p; profile = program; among = found }) (made_by masks n m passed)
 
   after_is : k.after ≡ behind n
   after_is =
-      converted.after ∙ (made_of n passed.normal passed.made).after
+      anew_so.after ∙ converted.after ∙ (made_of n passed.normal passed.made).after
       ∙ ap (λ (z : Nest). block_then z.after (behind n)) (found_nest_is_loop p n found).is
 
   plain : IsPlain m.body
-  plain = (sources.prepared_for p masks n m program found passed).plain
+  plain = (sources.prepared_for p masks n m program found (made_by masks n m passed)).plain
 
   may_be : MayBeMarked m g.edges
   may_be = record {
@@ -105,14 +109,14 @@ module _ (p : Program) (masks : ℕ) (n m : Nest) (g : Graph) (ps : Pieces) (pro
     numbers = ready.loops;
     edges_are = edges_lead m g (shallow m ready) translated.graph;
     after =
-        ap (marked_in []) expanded_so.after
+        ap (marked_in []) last_so.after
         ∙ then_unmarked k.symbols k.line (own_of k) k.after (ap (marked_in []) after_is ∙ last_values_unmarked n);
   }
 
   pub marked_by_graph : EmissionIsMarked → EmissionKeepsTogether
       → IsMarkedByGraph (record { found = n; normal = m; graph = g }) (translation m ps)
   marked_by_graph is_marked keeps_together = record {
-    number = expanded_so.number ∙ converted.number ∙ same_number n passed.normal passed.made;
+    number = last_so.number ∙ anew_so.number ∙ converted.number ∙ same_number n passed.normal passed.made;
     core = block_of_pieces m 1 ps;
     throughout = marked_throughout m 1 ps;
     is = refl;

@@ -8,7 +8,7 @@ use Rattle.emission.specs.emission_pieces.Pieces.{Formed, Kept, Piece, Pieces, T
 use Rattle.emission.specs.emission_pieces.Pieces.{kept_assignment, mark_of, no_pieces, piece}
 use Rattle.nest.specs.Allocations.{block_then}
 use Rattle.nest.specs.Plain.{Guarded, Nest}
-use Rattle.prepared_runs.proofs.Pieces.{of_form, of_kept}
+use Rattle.pass_laws.proofs.PreparedRuns.Pieces.{of_form, of_kept}
 use Rattle.tree.specs.Plain.{Block, Expression, Statement, no_statements, statement}
 use Rattle.translation.specs.program_marks.Marks.{AreMarkedThroughout, IsMarkedThroughout}
 

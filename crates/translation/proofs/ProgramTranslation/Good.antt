@@ -12,6 +12,7 @@ use Rattle.find_nests.proofs.FoundLaws.{found_nest_is_loop}
 use Rattle.find_nests.specs.Laws.{IsFoundNest}
 use Rattle.find_nests.specs.Loops.{Placed, as_statement, loops_in_block}
 use Rattle.find_nests.specs.LookedAt.{looked_at}
+use Rattle.listing.proofs.programs.Arranging.{last_depth}
 use Rattle.meaning.specs.Reads.{names_in_block}
 use Rattle.meaning.specs.Blocks.{Surroundings}
 use Rattle.meaning.specs.Dialect.{fortran77}
@@ -34,8 +35,7 @@ use Rattle.find_nests.specs.nest_parts.Numbers.{next}
 use Rattle.translation.proofs.NestProfile.Law.{translation_is_of_profile}
 use Rattle.translation.specs.nest_profile.Laws.{TranslationIsOfProfile}
 use Rattle.translation.specs.nest_translation.Laws.{AreMadeDeclared}
-use Rattle.prepared_nests.specs.Nests.{IsPrepared}
-use Rattle.expansion_laws.specs.Found.{expanded_depth}
+use Rattle.pass_laws.specs.prepared_nests.Nests.{IsPrepared}
 use Rattle.translation.proofs.NestTranslation.Prepared.{passed_nest_is_prepared}
 use Rattle.translation.proofs.NestTranslation.Translation.{translation_does_as_loop}
 use Rattle.nest.specs.Bodies.{nest_loops}
@@ -169,7 +169,7 @@ module _ (within : WithMadeNames) (profile : TranslationIsOfProfile) (p q : Prog
         by d n (inl i) = inl (subst (Contains (names_of p)) n (name_among p.declarations d i))
         by d n (inr i) = inr (here_made d n (either within p program made given d i))
 
-    prepared : IsPrepared rs (stands.round.variables) expanded_depth is_block.normal
+    prepared : IsPrepared rs (stands.round.variables) last_depth is_block.normal
     prepared =
         passed_nest_is_prepared p is_block.translated.masks is_block.nest is_block.normal stands.round found_nest program
         is_block.among is_block.translated.passed stands.named stands.is r with_others.more counters made_declared

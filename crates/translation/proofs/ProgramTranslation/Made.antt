@@ -6,14 +6,16 @@ use Rattle.std.specs.Option.{IsSomeAnd}
 use Rattle.std.specs.Prelude.{codes}
 use Rattle.std.proofs.lemmas.Bool.{cases_lt}
 use Rattle.components.specs.Lists as lists
-use Rattle.convert_laws.proofs.Masked.{mask_same}
-use Rattle.expansion_laws.proofs.ArrayNames.{array_names_are_apart}
-use Rattle.expansion_laws.proofs.FoundExpanded.{found_nest_has_made_names}
-use Rattle.expansion_laws.proofs.Names.{source_is}
-use Rattle.expansion_laws.specs.Found.{HasExpandedDeclarations, IsArrayOfNest, IsMaskOfNest, expanded_depth}
+use Rattle.prepared_passes.proofs.ConvertedNests.Masked.{mask_same}
+use Rattle.prepared_passes.proofs.ExpandedNests.ArrayNames.{array_names_are_apart}
+use Rattle.prepared_passes.proofs.ExpandedNests.FoundExpanded.{found_nest_has_made_names}
+use Rattle.prepared_passes.proofs.ExpandedNests.Names.{source_is}
+use Rattle.prepared_passes.specs.expansion.Found.{HasExpandedDeclarations, IsArrayOfNest, IsMaskOfNest}
 use Rattle.find_nests.specs.Found.{InNest, found_in}
 use Rattle.find_nests.specs.LookedAt.{looked_at}
+use Rattle.listing.proofs.programs.Arranging.{last_depth}
 use Rattle.listing.proofs.programs.Sources.{declared_for, prepared_for}
+use Rattle.listing.proofs.programs.Stages.{made_by}
 use Rattle.listing.specs.programs.Passed.{IsPassedAs}
 use Rattle.meaning.specs.Dialect.{fortran77}
 use Rattle.meaning.specs.Profile77.{IsProgram77}
@@ -25,13 +27,13 @@ use Rattle.meaning_laws.proofs.profiles.Names.{found}
 use Rattle.nest.specs.Plain.{Made, Nest}
 use Rattle.nest_order.specs.orders.Lists.{In}
 use Rattle.pass_laws.proofs.NormalFacts.Tables.{all_in}
-use Rattle.prepared_nests.proofs.Lists.{Contains-In}
-use Rattle.prepared_nests.specs.Made.{IsPreparedMade, extent_for}
-use Rattle.prepared_nests.specs.Nests.{IsPrepared}
-use Rattle.prepared_nests.specs.Statements.{made_names}
+use Rattle.pass_laws.proofs.PreparedNests.Lists.{Contains-In}
+use Rattle.pass_laws.specs.prepared_nests.Made.{IsPreparedMade, extent_for}
+use Rattle.pass_laws.specs.prepared_nests.Nests.{IsPrepared}
+use Rattle.pass_laws.specs.prepared_nests.Statements.{made_names}
 use Rattle.scalar_expand.specs.Privates.{number_behind}
 use Rattle.tree.specs.Plain.{Block, Declaration, Expression, Program}
-use Rattle.translation.proofs.Converting.{expanded_from, passed_once}
+use Rattle.translation.proofs.Converting.{passed_from, passed_once}
 use Rattle.translation.proofs.LoopNumbers.Nests.{nest_number, nests_are_numbered}
 use Rattle.translation.proofs.NestTranslation.Prepared.{few_masks}
 use Rattle.translation.proofs.ProgramMarks.Found.{among_nests}
@@ -107,7 +109,7 @@ module _ (p : Program) (program : IsProgram77 fortran77 p) where
 
   module _ (masks : ℕ) (n m : Nest) (among : Contains (found_in p) (InNest n)) (passed : IsPassedAs masks n m) where
     abbrev k : Nest
-    k = passed.converted
+    k = passed.anew
 
     small : n.number < 2 ^ 32
     small =
@@ -117,22 +119,23 @@ module _ (p : Program) (program : IsProgram77 fortran77 p) where
 
     named : (a : Made) → Contains m.made a → IsNamedFor n k masks a
     named a c =
-        found_nest_has_made_names p n passed.normal k masks program among passed.made passed.is_converted
-        (few_masks masks n m passed) a (subst (λ (z : Nest). Contains z.made a) passed.is_expanded c)
+        found_nest_has_made_names p n passed.normal passed.converted k masks program among passed.made
+        passed.is_converted passed.is_anew (few_masks masks n m passed) a
+        (subst (λ (ms : List Made). Contains ms a) (passed_from masks n m passed).made c)
 
     -- there are declarations by which the nest is prepared
     abbrev has : HasExpandedDeclarations k
-    has = declared_for p masks n m program among passed
+    has = declared_for p masks n m program among (made_by masks n m passed)
 
-    prepared : IsPrepared has.declarations has.around expanded_depth m
-    prepared = prepared_for p masks n m program among passed
+    prepared : IsPrepared has.declarations has.around last_depth m
+    prepared = prepared_for p masks n m program among (made_by masks n m passed)
 
     once : lists.Distinct (made_names m)
     once = prepared.parts.made_once
 
-    made_is : (a : Made) → Contains m.made a → IsPreparedMade has.declarations m.symbols expanded_depth a
+    made_is : (a : Made) → Contains m.made a → IsPreparedMade has.declarations m.symbols last_depth a
     made_is a c =
-        all_in (IsPreparedMade has.declarations m.symbols expanded_depth) m.made prepared.parts.made a
+        all_in (IsPreparedMade has.declarations m.symbols last_depth) m.made prepared.parts.made a
         (Contains-In a m.made c)
 
     no_bounds : (es : List Expression) → dimensions (extent_for es) ≡ []
@@ -164,23 +167,23 @@ module _ (p : Program) (program : IsProgram77 fortran77 p) where
     all = nests_among (found_in p)
 
     named_for : (d : Declaration) (h : IsMadeForNest p before d)
-        → IsNamedFor h.nest h.passed.converted (before h.nest.number) h.array
+        → IsNamedFor h.nest h.passed.anew (before h.nest.number) h.array
     named_for d h = named (before h.nest.number) h.nest h.last h.among h.passed h.array h.made
 
     -- a mask of one nest is none of a nest behind it
-    past : (d : Declaration) (h : IsMadeForNest p before d) (j i : ℕ) → i < h.passed.converted.masks → before j ≤ i
+    past : (d : Declaration) (h : IsMadeForNest p before d) (j i : ℕ) → i < h.passed.anew.masks → before j ≤ i
         → h.nest.number < j → ⊥
     past d h j i below from less =
         let rise = numbered h.nest h.last j h.among h.passed less in
-        let same = (expanded_from h.passed.converted h.last h.passed.is_expanded).masks in
+        let same = (passed_from (before h.nest.number) h.nest h.last h.passed).masks in
         omega (arith, below, from, rise, same)
 
     module _ (d e : Declaration) (h : IsMadeForNest p before d) (g : IsMadeForNest p before e) (same : d.name ≡ e.name) where
       names : h.array.name ≡ g.array.name
       names = ap (λ (z : Declaration). z.name) h.is ∙ same ∙ sym (ap (λ (z : Declaration). z.name) g.is)
 
-      masks_number : IsMaskOfNest h.passed.converted (before h.nest.number) h.array
-          → IsMaskOfNest g.passed.converted (before g.nest.number) g.array → h.nest.number ≡ g.nest.number
+      masks_number : IsMaskOfNest h.passed.anew (before h.nest.number) h.array
+          → IsMaskOfNest g.passed.anew (before g.nest.number) g.array → h.nest.number ≡ g.nest.number
       masks_number a b = by (cases_lt h.nest.number g.nest.number) (cases_lt g.nest.number h.nest.number)
         where
           few : (k i : ℕ) → i < k → k ≤ 2 ^ 32 → i < 2 ^ 32
@@ -192,8 +195,8 @@ module _ (p : Program) (program : IsProgram77 fortran77 p) where
           one : a.number ≡ b.number
           one =
               mask_same a.number b.number
-              (few h.passed.converted.masks a.number a.below (few_masks (before h.nest.number) h.nest h.last h.passed))
-              (few g.passed.converted.masks b.number b.below (few_masks (before g.nest.number) g.nest g.last g.passed))
+              (few h.passed.anew.masks a.number a.below (few_masks (before h.nest.number) h.nest h.last h.passed))
+              (few g.passed.anew.masks b.number b.below (few_masks (before g.nest.number) g.nest g.last g.passed))
               (sym a.name ∙ names ∙ b.name)
 
           by : (h.nest.number < g.nest.number) ⊎ (g.nest.number ≤ h.nest.number)
@@ -207,13 +210,13 @@ module _ (p : Program) (program : IsProgram77 fortran77 p) where
       nest_number_same : h.nest.number ≡ g.nest.number
       nest_number_same = by (named_for d h) (named_for e g)
         where
-          by : IsNamedFor h.nest h.passed.converted (before h.nest.number) h.array
-              → IsNamedFor g.nest g.passed.converted (before g.nest.number) g.array → h.nest.number ≡ g.nest.number
+          by : IsNamedFor h.nest h.passed.anew (before h.nest.number) h.array
+              → IsNamedFor g.nest g.passed.anew (before g.nest.number) g.array → h.nest.number ≡ g.nest.number
           by (inl a) (inl b) = masks_number a b
           by (inl a) (inr b) =
-              absurd (no_mask g.nest h.passed.converted (before h.nest.number) g.array h.array b a (sym names))
+              absurd (no_mask g.nest h.passed.anew (before h.nest.number) g.array h.array b a (sym names))
           by (inr a) (inl b) =
-              absurd (no_mask h.nest g.passed.converted (before g.nest.number) h.array g.array a b names)
+              absurd (no_mask h.nest g.passed.anew (before g.nest.number) h.array g.array a b names)
           by (inr a) (inr b) =
               (array_names_are_apart h.nest.number g.nest.number a.scalar b.scalar
               (small (before h.nest.number) h.nest h.last h.among h.passed)
@@ -225,15 +228,15 @@ module _ (p : Program) (program : IsProgram77 fortran77 p) where
           same_nest all (nests_are_numbered p program) h.nest g.nest (among_nests (found_in p) h.nest h.among)
           (among_nests (found_in p) g.nest g.among) nest_number_same
 
-      last_same : h.last ≡ g.last
-      last_same =
-          passed_once (before g.nest.number) g.nest h.last g.last
-          (subst (λ (z : Nest). IsPassedAs (before z.number) z h.last) nest_same h.passed) g.passed
+      made_same : h.last.made ≡ g.last.made
+      made_same =
+          (passed_once (before g.nest.number) g.nest h.last g.last
+          (subst (λ (z : Nest). IsPassedAs (before z.number) z h.last) nest_same h.passed) g.passed).0
 
       array_same : h.array ≡ g.array
       array_same =
           once_named g.last.made (once (before g.nest.number) g.nest g.last g.among g.passed) h.array g.array
-          (Contains-In h.array g.last.made (subst (λ (z : Nest). Contains z.made h.array) last_same h.made))
+          (Contains-In h.array g.last.made (subst (λ (ms : List Made). Contains ms h.array) made_same h.made))
           (Contains-In g.array g.last.made g.made) names
 
       pub declared_same : d ≡ e
@@ -254,7 +257,7 @@ module _ (p : Program) (program : IsProgram77 fortran77 p) where
       other_letter : (f : List ℕ) → (get_or f 0 0 ≡ 70 → ⊥) → ¬ (d.name ≡ f)
       other_letter f other e =
           other (subst (λ (x : List ℕ). get_or x 0 0 ≡ 70) (named_so ∙ e)
-          (letter_of h.nest h.passed.converted (before h.nest.number) h.array (named_for d h)))
+          (letter_of h.nest h.passed.anew (before h.nest.number) h.array (named_for d h)))
 
 pub names_are_made : (p : Program) (blocks : List (Option Block)) (made : List Declaration) → IsProgram77 fortran77 p
     → AreNestBlocks p blocks made → AreMade made

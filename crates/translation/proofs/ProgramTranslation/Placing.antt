@@ -9,7 +9,7 @@ use Rattle.translation.specs.loop_placing.Placing.{block_at, instead, placed, pl
 use Rattle.find_nests.specs.nest_parts.Numbers.{after, after_arms, after_block, next}
 use Rattle.nest.specs.Allocations.{block_then}
 use Rattle.translation.specs.placed_loops.Beside.{DoesAs}
-use Rattle.prepared_runs.specs.Unlabelled.{HasNoLabel}
+use Rattle.pass_laws.specs.prepared_runs.Unlabelled.{HasNoLabel}
 use Rattle.translation.specs.placed_loops.Placed.{ArePlaced, IsPlaced, StandsFor}
 
 -- ---- blocks and lists

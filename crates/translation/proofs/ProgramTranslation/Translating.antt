@@ -7,7 +7,7 @@ use Rattle.meaning.specs.Profile77.{IsProgram77}
 use Rattle.translation.specs.nest_translation.Laws.{TranslationDoesAsLoop}
 use Rattle.translation.proofs.PlacedLoops.Placing.{placed_loops_keep_meaning}
 use Rattle.translation.specs.placed_loops.Beside.{DoesAs}
-use Rattle.prepared_runs.specs.Unlabelled.{HasNoLabel}
+use Rattle.pass_laws.specs.prepared_runs.Unlabelled.{HasNoLabel}
 use Rattle.translation.specs.placed_loops.Placed.{IsPlaced}
 use Rattle.meaning_laws.specs.profiles.Profiles.{AddMadeNames}
 use Rattle.translation.specs.program_translation.Laws.{IsTranslationOf, TranslationKeepsMeaning}

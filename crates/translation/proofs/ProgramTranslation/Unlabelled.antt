@@ -8,10 +8,10 @@ use Rattle.emission.specs.emission_pieces.Pieces.{kept_assignment, kept_statemen
 use Rattle.meaning.specs.Labels.{all_labels_in, all_labels_of, targets_in, targets_of}
 use Rattle.tree.specs.Plain.{Expression, Statement, Assignment, Where, If, Do, Label, GoTo, Stop, Read}
 use Rattle.tree.specs.Plain.{Print, Allocate, Deallocate, Block, arm, no_arms, no_statements, statement}
-use Rattle.prepared_nests.specs.After.{AreEndings, IsEnding}
+use Rattle.pass_laws.specs.prepared_nests.After.{AreEndings, IsEnding}
 use Rattle.nest.specs.Allocations.{allocation_then, allocations_then, block_then, deallocation_then, deallocations}
 use Rattle.nest.specs.Plain.{Guarded, Made, Nest}
-use Rattle.prepared_runs.proofs.Pieces.{of_form, of_kept}
+use Rattle.pass_laws.proofs.PreparedRuns.Pieces.{of_form, of_kept}
 use Rattle.translation.specs.placed_profile.Laws.{IsWithoutLabels}
 use Rattle.array_form.specs.holds.Surroundings.{surroundings_of}
 

@@ -6,7 +6,7 @@ use Rattle.std.specs.declared.cmp.Ordering.{Ordering}
 use Rattle.std.specs.declared.cmp.Ordering.TheVariants.{Less, Equal, Greater}
 use Rattle.meaning.specs.Typed.{declared}
 use Rattle.nest.specs.Plain.{Made}
-use Rattle.prepared_nests.specs.Made.{extent_for}
+use Rattle.pass_laws.specs.prepared_nests.Made.{extent_for}
 use Rattle.tree.specs.Plain.{Declaration, Extent, Given, Later}
 use Rattle.tree.specs.declared.ops.Kind.TheVariants.{Integer}
 use Rattle.translation.specs.declared.made_declarations.names.MadeName.{MadeName}

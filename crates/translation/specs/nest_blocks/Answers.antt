@@ -1,14 +1,15 @@
 -- The answers to all that was found in a program: its listing, and the blocks that stand in the place of its loops.
-use Rattle.std.specs.Prelude.{◌≡◌, ◌≤◌, ⊤, ℕ, Option, Some, List, [], ◌∷◌, Contains, map}
+use Rattle.std.specs.Prelude.{◌≡◌, ◌≤◌, ⊤, ℕ, Option, Some, List, [], ◌∷◌, ◌++◌, Contains, map}
 use Rattle.std.specs.List.{flat_map}
 use Rattle.tree.specs.Plain.{Block, Declaration, Program}
 use Rattle.find_nests.specs.Found.{InNest, found_in}
+use Rattle.listing.specs.graphs.Lines.{Entry}
 use Rattle.listing.specs.graphs.Listing.{lines_of_entries}
 use Rattle.translation.specs.loop_numbers.Numbers.{loop_number}
 use Rattle.translation.specs.loop_placing.Placing.{block_at}
 use Rattle.nest.specs.Plain.{Nest}
 use Rattle.listing.specs.programs.Listing.{ListedNest}
-use Rattle.translation.specs.nest_blocks.LoopAnswers.{Answer, IsRight, block_by, entries_by, found_by, made_by}
+use Rattle.translation.specs.nest_blocks.LoopAnswers.{Answer, AreEntriesBy, IsRight, block_by, found_by, made_by}
 use Rattle.translation.specs.nest_blocks.LoopAnswers.{masks_by, nest_by}
 
 -- the answer is for a nest whose outermost loop has this number, and puts the block in the loop's place
@@ -34,6 +35,13 @@ pub record AreAnswers (p : Program) (answers : List Answer) : Type 0 where
   pub right : AreRight 0 answers
   pub found : map found_by answers ≡ found_in p
 
+-- what they list, one after the other
+abbrev pub AreAllEntriesBy : List Answer → List Entry → Type 0
+AreAllEntriesBy [] es = es ≡ []
+AreAllEntriesBy (a ∷ answers) es =
+    (first : List Entry) × (rest : List Entry) × (es ≡ first ++ rest) × AreEntriesBy a first
+    × AreAllEntriesBy answers rest
+
 -- the nests that they list with a graph
 abbrev pub nests_by : List Answer → List ListedNest
 nests_by answers = flat_map nest_by answers
@@ -43,6 +51,8 @@ pub record AreAnswersFor (p : Program) (lines : List (List ℕ)) (blocks : List 
     : Type 0 where
   pub answers : List Answer
   pub are : AreAnswers p answers
-  pub lines_are : lines ≡ lines_of_entries (flat_map entries_by answers)
+  pub entries : List Entry
+  pub listed : AreAllEntriesBy answers entries
+  pub lines_are : lines ≡ lines_of_entries entries
   pub placed : ArePlaced answers blocks
   pub made_are : made ≡ flat_map made_by answers

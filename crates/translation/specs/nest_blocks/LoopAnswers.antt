@@ -14,8 +14,10 @@ use Rattle.dependence_graph.specs.nest_graph.Graph.{IsGraphOf}
 use Rattle.nest.specs.Bodies.{nest_statements}
 use Rattle.nest.specs.Plain.{Nest}
 use Rattle.array_form.specs.holds.Holds.{all_holds}
-use Rattle.listing.specs.programs.Listing.{ListedNest, kept, tested_entries}
+use Rattle.listing.specs.programs.Listing.{HasCycleEntries, ListedNest, kept}
 use Rattle.listing.specs.programs.Passed.{IsPassedAs}
+use Rattle.listing.specs.programs.Stages.{IsLastGraph}
+use Rattle.scalar_expand.specs.Expanded.{expanded}
 use Rattle.translation.specs.made_declarations.Declaring.{declaration_of_made}
 
 pub data Answer : Type 0 where
@@ -29,10 +31,10 @@ abbrev pub found_by : Answer → Found
 found_by (Translated n m g ps) = InNest n
 found_by (Kept line r) = found.Kept line r
 
--- what is listed
-abbrev pub entries_by : Answer → List Entry
-entries_by (Translated n m g ps) = tested_entries n.number m g
-entries_by (Kept line r) = kept line r
+-- what is listed: of a nest its graph, its holds and its cycles
+abbrev pub AreEntriesBy : Answer → List Entry → Type 0
+AreEntriesBy (Translated n m g ps) es = HasCycleEntries n.number m g es
+AreEntriesBy (Kept line r) es = es ≡ kept line r
 
 -- the nest that is listed with a graph, if it is one
 abbrev pub nest_by : Answer → List ListedNest
@@ -54,10 +56,12 @@ abbrev pub masks_by : ℕ → Answer → ℕ
 masks_by masks (Translated n m g ps) = m.masks
 masks_by masks (Kept line r) = masks
 
--- One graph of the nest is listed, and by it and all holds of the nest the pieces are emitted
+-- One graph of the nest is listed, and by it and all holds of the nest the pieces are emitted. Where the last pass
+-- moves no loop, it is the graph by which none was moved
 pub record IsTranslation (masks : ℕ) (n m : Nest) (g : Graph) (ps : Pieces) : Type 0 where
   pub passed : IsPassedAs masks n m
   pub graph : IsGraphOf m g
+  pub kept : IsLastGraph (expanded passed.anew) passed.graph g
   pub emitted : AreEmitted m g.edges (all_holds m) 1 (range_with_len 0 (length (nest_statements m))) ps
 
 -- each nest is translated as what passes make of it, after so many masks
@@ -71,7 +75,9 @@ pub record IsAnswerTo (masks : ℕ) (f : Found) (lines : List (List ℕ)) (block
   pub answer : Answer
   pub right : IsRight masks answer
   pub found : found_by answer ≡ f
-  pub lines_are : lines ≡ lines_of_entries (entries_by answer)
+  pub entries : List Entry
+  pub listed : AreEntriesBy answer entries
+  pub lines_are : lines ≡ lines_of_entries entries
   pub block_is : block ≡ block_by answer
   pub made_are : made ≡ made_by answer
   pub masks_are : next ≡ masks_by masks answer

@@ -15,8 +15,8 @@ use Rattle.meaning.specs.Typed.{declared}
 use Rattle.nest.specs.Bodies.{nest_loops}
 use Rattle.nest.specs.Plain.{Loop, Made, Nest}
 use Rattle.pass_laws.specs.normal_facts.Laws.{IsCounter}
-use Rattle.prepared_runs.specs.Running.{ArePiecesOf}
-use Rattle.prepared_runs.specs.Unlabelled.{HasNoLabel}
+use Rattle.pass_laws.specs.prepared_runs.Running.{ArePiecesOf}
+use Rattle.pass_laws.specs.prepared_runs.Unlabelled.{HasNoLabel}
 use Rattle.listing.specs.programs.Passed.{IsPassedAs}
 use Rattle.translation.specs.made_declarations.Declaring.{declaration_of_made}
 use Rattle.translation.specs.placed_loops.Beside.{DoesAs}

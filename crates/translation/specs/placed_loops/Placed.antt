@@ -2,7 +2,7 @@
 use Rattle.std.specs.Prelude.{◌≡◌, ◌⊎◌}
 use Rattle.tree.specs.Plain.{Statement, If, Do, Arms, no_arms, arm, Block, no_statements, statement, Program}
 use Rattle.nest.specs.Allocations.{block_then}
-use Rattle.prepared_runs.specs.Unlabelled.{HasNoLabel}
+use Rattle.pass_laws.specs.prepared_runs.Unlabelled.{HasNoLabel}
 use Rattle.translation.specs.placed_loops.Beside.{DoesAs}
 
 abbrev pub one : Statement → Block

@@ -12,4 +12,4 @@ returns c =
     let nest = nest_of p.nest.value in
     let is = c.in_ok-passed.ensures in
     listed_nest c.args.masks found nest _ _ (record { lines = p.tests.lines; masks = c.deref.result.now.masks })
-    (passed_is_listed c.args.masks found nest is.passed) is.tests (ap (λ (n : Nest). n.masks) c.deref.ensures)
+    (passed_is_listed c.args.masks found nest is.passed) is.kept is.tests (ap (λ (n : Nest). n.masks) c.deref.ensures)

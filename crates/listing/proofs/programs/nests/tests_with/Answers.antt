@@ -9,7 +9,7 @@ all_holds-requires c =
     let count = c.requires.graph.statements in
     plain_nest (nest_of c.args.nest.now) c.requires.ready (first_of (omega (arith, count), grind (arith, count)))
 
-pub returns : goal.returns
-returns c =
-    tests_of c.args.number (nest_of c.args.nest.now) c.args.graph c.in_ok-holds.holds c.new.result
-    c.in_ok-lines.lines c.requires.graph c.in_ok-holds.ensures c.new.ensures c.in_ok-lines.ensures
+pub returns-clause-tests : goal.returns-clause-tests
+returns-clause-tests c =
+    tests_of c.args.number (nest_of c.args.nest.now) c.args.graph c.in_ok-holds.holds c.in_ok-cycles.cycles
+    c.in_ok-lines.lines c.requires.graph c.in_ok-holds.ensures c.in_ok-cycles.ensures c.in_ok-lines.ensures

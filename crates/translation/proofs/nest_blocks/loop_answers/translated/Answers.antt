@@ -23,6 +23,6 @@ returns c masks n passed =
     = c.in_ok-made.ensures ∙ ap (λ (ms : List Made). map declaration_of_made (map made_of ms)) c.as_slice.ensures
     ∙ ap (λ (k : Nest). map declaration_of_made (map made_of k.made)) c.deref-nest.ensures in
     translated masks n m tests.graph tests.holds _ block
-    (map declaration_of_name c.in_ok-made.made) c.deref-nest.result.now.masks passed.passed passed.tests
+    (map declaration_of_name c.in_ok-made.made) c.deref-nest.result.now.masks passed.passed passed.kept passed.tests
     (subst (λ (k : Nest). IsEmission (nest_of k) tests.graph tests.holds block) c.deref-nest.ensures c.in_ok-block.ensures)
     made (ap (λ (k : Nest). (nest_of k).masks) c.deref-nest.ensures)

@@ -1,0 +1,16 @@
+pub mod BlockLaws
+pub mod FoundLaws
+pub mod GrowthLaws
+pub mod HeldRule
+pub mod ItemLaws
+pub mod Listed
+pub mod Lists
+pub mod NotWritten
+pub mod Placing
+pub mod Profile
+pub mod Ring
+pub mod StepLaws
+pub mod Suited
+pub mod Texts
+pub mod Together
+pub mod WriteLaws

@@ -1,0 +1,6 @@
+pub mod Elements
+pub mod GuardedNames
+pub mod Iterations
+pub mod Left
+pub mod Moved
+pub mod References

@@ -1,0 +1,329 @@
+-- Each reference of a nest whose loops have moved to what was made for private scalars names a cell, whatever the guard
+-- of its statement is.
+use Rattle.std.proofs.Common.{◌≡◌, ◌⊎◌, inl, inr, refl, sym, ap, ap₂, ◌∙◌, subst, ℕ, zero, suc, ◌+◌, ◌<◌, ℤ, pos, true, List, []}
+use Rattle.std.proofs.Common.{◌∷◌, ◌++◌, map, reverse, length, get_or, Option, Some, None, arith}
+use Rattle.std.specs.Option.{option_map}
+use Rattle.std.specs.Prelude.{unwrap_or}
+use Rattle.array_form.specs.holds.Bounds.{is_made}
+use Rattle.array_form.specs.holds.Statements.{no_statement}
+use Rattle.array_form.specs.lone.Cells.{AreLinear, HasCells}
+use Rattle.prepared_passes.proofs.ArrangedNests.Again.{arranged_nest_is_prepared}
+use Rattle.prepared_passes.proofs.ArrangedNests.MovedChains.{IsMovedChain, moved_chain, moved_is}
+use Rattle.prepared_passes.proofs.ArrangedNests.Names.{found_in}
+use Rattle.prepared_passes.proofs.ArrangedNests.Shapes.{standing_under}
+use Rattle.emission.proofs.EmissionForms.Surroundings.{statements_stand}
+use Rattle.emission.specs.emission_forms.Written.{HasGuardedNames, HaveGuardedNames}
+use Rattle.emission.specs.emission_pieces.Nests.{standing_at}
+use Rattle.emission.specs.graph_orders.Nests.{run_nest, turns_in}
+use Rattle.prepared_passes.proofs.ExpandedNests.Guarded.{expanded_nest_has_guarded_names}
+use Rattle.prepared_passes.proofs.ExpandedNests.Rounds.{each_here, linear_variable}
+use Rattle.prepared_passes.proofs.ExpandedNests.Variables.{Here, Pairs, are_linear, has_each}
+use Rattle.prepared_passes.specs.expansion.Left.{references_of}
+use Rattle.prepared_passes.specs.expansion.Places.{IsExpandedInPlaces}
+use Rattle.interchange.specs.Arranged.{arranged, with_moved_loops}
+use Rattle.last_values.specs.normal_forms.NormalLoops.{counter_name}
+use Rattle.linear_forms.specs.Laws.{HoldsSized}
+use Rattle.meaning.specs.Run.{State}
+use Rattle.nest.specs.Bodies.{Standing, nest_loops, nest_statements}
+use Rattle.nest.specs.Plain.{Guarded, Loop, Made, Nest}
+use Rattle.nest_order.proofs.orders.Lists.{In-append}
+use Rattle.nest_order.proofs.orders.Membership.{In-map, map-In}
+use Rattle.nest_order.specs.orders.Lists.{Distinct, In}
+use Rattle.nest_order.specs.orders.Nests.{IsInstance}
+use Rattle.nest_order.specs.orders.Shapes.{Instance, Within}
+use Rattle.nest_order.specs.runs.Cells.{NamesCell}
+use Rattle.nest_order.specs.runs.Guarded as runs
+use Rattle.nest_order.specs.runs.Stores.{Setting}
+use Rattle.nest_order.specs.runs.Touched.{IsPlainAssignment, MayHaveEach, nth_of, references_read}
+use Rattle.nest_order.specs.shapes.Shapes.{guarded_of, loops_round as rounds_of, numbers_of}
+use Rattle.nest_rewrite.specs.Statements.{rewritten_statement}
+use Rattle.pass_laws.proofs.NormalFacts.Tables.{all_in}
+use Rattle.pass_laws.proofs.PreparedNests.Lists.{distinct_too}
+use Rattle.pass_laws.proofs.PreparedNests.Ready.{prepared_nest_is_ready}
+use Rattle.pass_laws.specs.prepared_nests.Loops.{IsPreparedLoop, variables_of_loops}
+use Rattle.pass_laws.specs.prepared_nests.Made.{IsPreparedMade}
+use Rattle.pass_laws.specs.prepared_nests.Nests.{IsPrepared, IsPreparedSymbol}
+use Rattle.pass_laws.specs.prepared_nests.Statements.{IsPreparedStatement, assignment}
+use Rattle.pass_laws.specs.prepared_runs.Running.{MayRun, setting_at}
+use Rattle.rewrite.specs.Making.{made, made_subscripts}
+use Rattle.scalar_expand.specs.Expanded.{expanded}
+use Rattle.scalar_expand.specs.declared.privates.RoundLoop.{RoundLoop}
+use Rattle.tree.specs.Plain.{Declaration, Program, Reference, Subscripts}
+use Rattle.listing.proofs.arrays.Elements.{IsElementIn, elements_stand, made_named}
+use Rattle.listing.proofs.arrays.Iterations.{AreBefore, HaveBoth, are_before, both, of_loops, one_each}
+use Rattle.listing.proofs.arrays.Moved.{IsInBoth, in_both, loops_made, making, nest_is, new, old, old_loops, there}
+use Rattle.listing.proofs.arrays.Moved.{variables_made}
+use Rattle.listing.proofs.arrays.References.{ComesFrom, of_statement, subscripts_stay}
+use Rattle.listing.specs.arrays.Laws.{ArrangedNestHasGuardedNames}
+
+-- ---- lists
+
+nth_in : (xs : List Standing) (s : ℕ) (x : Standing) → nth_of xs s ≡ Some x → In x xs
+nth_in [] s x e = let no : ⊥ = cc in absurd no
+nth_in (y ∷ xs) zero x e = let same : y ≡ x = cc in inl (sym same)
+nth_in (y ∷ xs) (suc s) x e = inr (nth_in xs s x e)
+
+at_place : (xs : List Standing) (s : ℕ) (x d : Standing) → nth_of xs s ≡ Some x
+    → (s < length xs) × (get_or xs s d ≡ x)
+at_place [] s x d e = let no : ⊥ = cc in absurd no
+at_place (y ∷ xs) zero x d e = (omega arith, cc)
+at_place (y ∷ xs) (suc s) x d e = let r = at_place xs s x d e in let less = r.0 in (omega (arith, less), r.1)
+
+-- ---- what passes made has no name of a loop or a symbol
+
+module _ (es : List Declaration) (around : List (List ℕ)) (deepest : ℕ) (n : Nest) (h : IsPrepared es around deepest n) where
+  made_is : (c : Made) → In c n.made → IsPreparedMade es n.symbols deepest c
+  made_is c i = all_in (IsPreparedMade es n.symbols deepest) n.made h.parts.made c i
+
+  counter_is : (l : Loop) → In l (nest_loops n) → l.variable ≡ counter_name l.number
+  counter_is l i = (found_in (IsPreparedLoop es n.symbols) l [] n.body h.plain h.parts.loops i).1.variable
+
+  no_variable : (c : Made) → In c n.made → (ls : List Loop) → ((l : Loop) → In l ls → In l (nest_loops n))
+      → ¬ In c.name (variables_of_loops ls)
+  no_variable c i ls f j =
+      let o = In-map (λ (l : Loop). l.variable) c.name ls j in
+      (made_is c i).counter o.it.number (o.is ∙ counter_is o.it (f o.it o.inside))
+
+  no_symbol : (c : Made) → In c n.made → ¬ In c.name n.symbols
+  no_symbol c i j =
+      (made_is c i).made (all_in (IsPreparedSymbol es) n.symbols h.parts.symbols c.name j).name
+
+  made_apart : (ls : List Loop) → ((l : Loop) → In l ls → In l (nest_loops n)) → (y : List ℕ) → is_made n y ≡ true
+      → ¬ In y (variables_of_loops ls ++ n.symbols)
+  made_apart ls f y e i =
+      let c = made_named n.made y e in
+      by c.0 c.1 c.2 (In-append y (variables_of_loops ls) n.symbols i)
+    where
+      by : (c : Made) → In c n.made → c.name ≡ y → In y (variables_of_loops ls) ⊎ In y n.symbols → ⊥
+      by c k same (inl j) = no_variable c k ls f (subst (λ z. In z (variables_of_loops ls)) (sym same) j)
+      by c k same (inr j) = no_symbol c k (subst (λ z. In z n.symbols) (sym same) j)
+
+-- ---- a nest whose loops have moved
+
+module _ (p b a : Program) (around : List (List ℕ)) (deepest deeper : ℕ) (m : Nest)
+    (x : IsExpandedInPlaces p b a around deepest deeper m) (k : Nest) (c : IsMovedChain (expanded m) k)
+    (g : IsPrepared a.declarations around (deeper + 18) (there (expanded m) k c)) (u : State)
+    (may : MayRun a (there (expanded m) k c) u) (sized : HoldsSized u.store) where
+  abbrev e : Nest
+  e = expanded m
+
+  abbrev t : Nest
+  t = there (expanded m) k c
+
+  -- before a loop moved it might be run there, too
+  abbrev may_before : MayRun a (expanded m) u
+  may_before = record {
+    going = may.going;
+    holds = may.holds;
+    values = may.values;
+    valued = may.valued;
+    made = may.made;
+  }
+
+  abbrev w : Setting
+  w = setting_at may
+
+  once : Distinct (numbers_of (nest_loops (expanded m)))
+  once = distinct_too (numbers_of (nest_loops (expanded m))) x.behind.parts.once
+
+  once_there : Distinct (numbers_of (nest_loops (there (expanded m) k c)))
+  once_there = distinct_too (numbers_of (nest_loops (there (expanded m) k c))) g.parts.once
+
+  module _ (s : ℕ) (q : IsInBoth (expanded m) k c s) where
+    abbrev was : Standing
+    was = standing_under (old (expanded m) k c) q.guarded
+
+    abbrev is : Standing
+    is = standing_under (loops_made (making (expanded m) k c) (new (expanded m) k c)) (rewritten_statement (making (expanded m) k c) q.guarded)
+
+    was_in : In was (nest_statements (expanded m))
+    was_in = nth_in (nest_statements (expanded m)) s was q.was
+
+    is_in : In is (nest_statements (there (expanded m) k c))
+    is_in = nth_in (nest_statements (there (expanded m) k c)) s is q.is
+
+    before : Standing → Type 0
+    before y = standing_at (expanded m) s ≡ y
+
+    before_is : (s < length (nest_statements (expanded m))) × (standing_at (expanded m) s ≡ was)
+    before_is = at_place (nest_statements (expanded m)) s was no_statement q.was
+
+    plain : IsPlainAssignment (assignment q.guarded)
+    plain =
+        (all_in (IsPreparedStatement a.declarations (expanded m) deeper) (nest_statements (expanded m))
+        x.behind.parts.statements was was_in).plain
+
+    module _ (guarded : ¬ (q.guarded.guard ≡ None)) where
+      names : HasGuardedNames (expanded m) (setting_at may_before) s
+      names =
+          expanded_nest_has_guarded_names p b a around deepest deeper m u x may_before sized s before_is.0
+          (λ none. guarded (sym (ap (λ (y : Standing). y.statement.guard) before_is.1) ∙ none))
+
+      -- ---- an element
+
+      module _ (r : Reference) (inside : In r (references_of q.guarded)) (made : is_made (expanded m) r.name ≡ true) where
+        cells : HasCells (run_nest (expanded m)) (setting_at may_before) s r
+        cells =
+            names.made r (subst (λ (y : runs.Guarded). In r (y.left ∷ references_read y)) (sym (ap guarded_of q.was)) inside)
+            made
+
+        element : IsElementIn (old (expanded m) k c) r
+        element = elements_stand p b a around deepest deeper m x was was_in guarded r inside made
+
+        module _ (o : Instance)
+            (instance : IsInstance (run_nest (there (expanded m) k c)).loops_of ((run_nest (there (expanded m) k c)).turns_of may.values)
+            (run_nest (there (expanded m) k c)).shape o) (at : o.statement ≡ s) where
+          abbrev HereNow : List ℕ → ℕ → Type 0
+          HereNow = Here (run_nest (there (expanded m) k c)) may.values s o.iterations
+
+          turns : Within (turns_in (there (expanded m) k c) may.values) [] (numbers_of (loops_made (making (expanded m) k c) (new (expanded m) k c))) o.iterations
+          turns =
+              subst (λ (ls : List ℕ). Within (turns_in (there (expanded m) k c) may.values) [] ls o.iterations)
+              (ap (run_nest (there (expanded m) k c)).loops_of at ∙ ap rounds_of q.is) instance.1
+
+          now : Pairs HereNow (variables_of_loops (loops_made (making (expanded m) k c) (new (expanded m) k c))) o.iterations
+          now =
+              each_here a.declarations around (deeper + 18) (there (expanded m) k c) g may.values s is q.is is_in o.iterations
+              turns
+
+          first : AreBefore (expanded m) k c may.values once once_there HereNow o.iterations (old (expanded m) k c)
+          first = are_before (expanded m) k c may.values once once_there HereNow o.iterations now turns
+
+          abbrev HereThen : List ℕ → ℕ → Type 0
+          HereThen = Here (run_nest (expanded m)) may.values s first.iterations
+
+          then_here : Pairs HereThen (variables_of_loops (old (expanded m) k c)) first.iterations
+          then_here =
+              each_here a.declarations around deeper (expanded m) x.behind may.values s was q.was was_in first.iterations
+              (first.within [])
+
+          abbrev place : Instance
+          place = record { statement = s; iterations = first.iterations }
+
+          stands : IsInstance (run_nest (expanded m)).loops_of ((run_nest (expanded m)).turns_of may.values) (run_nest (expanded m)).shape place
+          stands = (
+            (statements_stand (expanded m) x.behind.plain
+                (prepared_nest_is_ready a.declarations around deeper (expanded m) x.places.behind.are x.behind) s was q.was).0,
+            subst (λ (ls : List ℕ). Within (turns_in (expanded m) may.values) [] ls first.iterations)
+                (sym (ap rounds_of q.was)) (first.within []),
+          )
+
+          named : NamesCell (run_nest (expanded m)) (setting_at may_before) place r
+          named = cells.names place stands refl
+
+          -- the variables of the element have the same iterations in both
+          have : HaveBoth HereThen HereNow element.loops
+          have =
+              of_loops HereThen HereNow (variables_of_loops (old (expanded m) k c)) first.iterations
+              (both HereThen HereNow (variables_of_loops (old (expanded m) k c)) first.iterations then_here first.here)
+              element.loops element.among
+
+          abbrev values : List ℤ
+          values = reverse (map pos have.iterations)
+
+          same : reverse (map pos have.iterations) ≡ named.cell.subscripts
+          same =
+              one_each (run_nest (expanded m)) may.values s first.iterations r.subscripts values named.cell.subscripts
+              cells.linear
+              (subst (λ (qs : Subscripts). MayHaveEach (run_nest (expanded m)) may.values s first.iterations qs values)
+              (sym element.is)
+              (has_each (run_nest (expanded m)) may.values s first.iterations element.loops have.iterations have.first))
+              named.may.subscripts
+
+          there_too : MayHaveEach (run_nest (there (expanded m) k c)) may.values s o.iterations r.subscripts named.cell.subscripts
+          there_too =
+              subst (λ (zs : List ℤ). MayHaveEach (run_nest (there (expanded m) k c)) may.values s o.iterations r.subscripts zs) same
+              (subst (λ (qs : Subscripts). MayHaveEach (run_nest (there (expanded m) k c)) may.values s o.iterations qs values)
+              (sym element.is)
+              (has_each (run_nest (there (expanded m) k c)) may.values s o.iterations element.loops have.iterations have.second))
+
+          names_now : NamesCell (run_nest (there (expanded m) k c)) (setting_at may) o r
+          names_now = record {
+            cell = named.cell;
+            may = record {
+              name = named.may.name;
+              subscripts =
+                  subst (λ (n : ℕ). MayHaveEach (run_nest (there (expanded m) k c)) may.values n o.iterations r.subscripts named.cell.subscripts)
+                  (sym at) there_too;
+            };
+            within = named.within;
+          }
+
+        variable_now : (l : RoundLoop) → In l element.loops
+            → In l.variable (variables_of_loops (loops_made (making (expanded m) k c) (new (expanded m) k c)))
+        variable_now l i =
+            let v = In-map (λ (y : Loop). y.variable) l.variable (old (expanded m) k c) (element.among l i) in
+            subst (In l.variable) (sym (variables_made (making (expanded m) k c) (new (expanded m) k c)))
+            (subst (λ z. In z (variables_of_loops (new (expanded m) k c))) (sym v.is)
+            (map-In (λ (y : Loop). y.variable) v.it (new (expanded m) k c) (c.all v.it v.inside)))
+
+        has_cells : HasCells (run_nest (there (expanded m) k c)) (setting_at may) s r
+        has_cells = record {
+          linear =
+              subst (AreLinear (run_nest (there (expanded m) k c)) s) (sym element.is)
+              (are_linear (run_nest (there (expanded m) k c)) s element.loops
+              (λ l i. linear_variable a.declarations around (deeper + 18) (there (expanded m) k c) g may.values s is q.is is_in
+              l.variable (variable_now l i)));
+          names = λ o instance at. names_now o instance at;
+        }
+
+      -- ---- whichever it is
+
+      in_nest : (l : Loop) → In l (new (expanded m) k c) → In l (nest_loops (expanded m))
+      in_nest l i = subst (In l) (sym (old_loops (expanded m) k c)) (c.among l i)
+
+      of_made : (r : Reference) → In r (references_of (rewritten_statement (making (expanded m) k c) q.guarded))
+          → is_made (expanded m) r.name ≡ true → HasCells (run_nest (there (expanded m) k c)) (setting_at may) s r
+      of_made r i made =
+          by (of_statement (variables_of_loops (new (expanded m) k c)) (expanded m).symbols q.guarded plain r i)
+        where
+          by : ComesFrom (variables_of_loops (new (expanded m) k c)) (expanded m).symbols (references_of q.guarded) r
+              → HasCells (run_nest (there (expanded m) k c)) (setting_at may) s r
+          by (inl j) =
+              absurd
+              (made_apart a.declarations around deeper (expanded m) x.behind (new (expanded m) k c) in_nest r.name made j)
+          by (inr h) =
+              let there_made : is_made (expanded m) h.first.name ≡ true
+              = subst (λ y. is_made (expanded m) y ≡ true) h.name made in
+              let o = element h.first h.inside there_made in
+              let stay : made_subscripts (making (expanded m) k c) h.first.subscripts ≡ h.first.subscripts
+              = ap (made_subscripts (making (expanded m) k c)) o.is
+              ∙ (subscripts_stay (variables_of_loops (new (expanded m) k c)) (expanded m).symbols o.loops ∙ sym o.is) in
+              let same : r ≡ h.first
+              = ap₂ (λ y (qs : Subscripts). record { name = y; subscripts = qs }) h.name (h.subscripts ∙ stay) in
+              subst (HasCells (run_nest (there (expanded m) k c)) (setting_at may) s) (sym same)
+              (has_cells h.first h.inside there_made)
+
+      has_names : HasGuardedNames (there (expanded m) k c) (setting_at may) s
+      has_names = record {
+        declared = names.declared;
+        made = λ r i made.
+            of_made r (subst (λ (y : runs.Guarded). In r (y.left ∷ references_read y)) (ap guarded_of q.is) i) made;
+      }
+
+  guarded_names : HaveGuardedNames (there (expanded m) k c) (setting_at may)
+  guarded_names s within guarded =
+      let q = in_both (expanded m) k c s within in
+      let at = at_place (nest_statements (there (expanded m) k c)) s (is s q) no_statement q.is in
+      has_names s q
+      (λ none. guarded (ap (λ (y : Standing). y.statement.guard) at.1
+      ∙ ap (option_map (made (making (expanded m) k c))) none))
+
+pub arranged_nest_has_guarded_names : ArrangedNestHasGuardedNames
+arranged_nest_has_guarded_names p b a around deepest deeper m vectors u x may sized =
+    by (with_moved_loops (expanded m) vectors) refl may
+  where
+    prepared : IsPrepared a.declarations around (deeper + 18) (arranged (expanded m) vectors)
+    prepared = arranged_nest_is_prepared a.declarations around deeper (expanded m) vectors x.behind
+
+    by : (o : Option Nest) → with_moved_loops (expanded m) vectors ≡ o → (h : MayRun a (unwrap_or o (expanded m)) u)
+        → HaveGuardedNames (unwrap_or o (expanded m)) (setting_at h)
+    by None e h = expanded_nest_has_guarded_names p b a around deepest deeper m u x h sized
+    by (Some k) e h =
+        let c = moved_chain (expanded m) vectors k (moved_is (expanded m) vectors k e) in
+        let same = nest_is (expanded m) k c in
+        let again : IsPrepared a.declarations around (deeper + 18) k
+        = subst (λ (o : Option Nest). IsPrepared a.declarations around (deeper + 18) (unwrap_or o (expanded m))) e prepared in
+        subst (λ (z : Nest). (i : MayRun a z u) → HaveGuardedNames z (setting_at i)) (sym same)
+        (λ i. guarded_names p b a around deepest deeper m x k c
+        (subst (IsPrepared a.declarations around (deeper + 18)) same again) u i sized) h

@@ -1,0 +1,5 @@
+use Rattle.pass_laws.proofs.PreparedNests.Normal.Prepared.{normal_nest_has_parts}
+use Rattle.pass_laws.proofs.prepared_nests.normal_nest_has_parts.Goals as goal
+
+pub returns : goal.returns
+returns c = normal_nest_has_parts

@@ -1,0 +1,5 @@
+use Rattle.pass_laws.proofs.PreparedRuns.Allocations.{arrays_are_allocated}
+use Rattle.pass_laws.proofs.prepared_runs.arrays_are_allocated.Goals as goal
+
+pub returns : goal.returns
+returns c = arrays_are_allocated

@@ -1,0 +1,333 @@
+-- The names of what passes made, and that there are declarations by which the expanded nest of one that was found is
+-- prepared: those of the program with the counters of its loops and with what passes made.
+use Rattle.std.proofs.Common.{◌≡◌, ◌⊎◌, inl, inr, refl, sym, ap, ◌∙◌, subst, ℕ, ◌≤◌, Bool, true, false, cond, codes, Contains, List, [], ◌∷◌, ◌++◌, map, length, length-append, Some, None, All, arith}
+use Rattle.std.specs.Prelude.{decimal, ◌==◌}
+use Rattle.std.specs.List.{list_all}
+use Rattle.std.specs.Option.{IsSomeAnd}
+use Rattle.std.proofs.lemmas.Fmt.{length-decimal-le}
+use Rattle.std.proofs.lemmas.List.{length-map, length-reverse}
+use Rattle.std.proofs.lemmas.List.Elements.{Contains-append_cases, Contains-append_left, Contains-append_right}
+use Rattle.std.proofs.lemmas.List.Folds.{list_all-append}
+use Rattle.components.specs.Lists.{Distinct}
+use Rattle.prepared_passes.proofs.ConvertedNests.Declaring.{AgreeOnNames, AreWith, IsMadeDeclaration, made_names as with_made_names, scalar_of, with_declarations}
+use Rattle.prepared_passes.proofs.ConvertedNests.FoundDeclared.{are_both, counter_in, counters, counts, here, number, numbered, own_are, own_source, stands, with_both}
+use Rattle.prepared_passes.proofs.ConvertedNests.MadeNames.{a_counter, agree, apart as counter_apart_mask, both_true, counter_of, counter_or_mask, goes_on, is_made, mask_below, masks_below, of_counter, small_number, stands_in_name, ten_digits}
+use Rattle.find_nests.specs.Found.{InNest, found_in}
+use Rattle.if_convert.specs.Converted.{converted_nest}
+use Rattle.if_convert.specs.Masks.{mask_name}
+use Rattle.meaning.specs.Dialect.{fortran77}
+use Rattle.meaning.specs.Profile77.{IsProgram77}
+use Rattle.meaning.specs.Profile90.{IsDeclaration, IsExtent}
+use Rattle.meaning.specs.SymbolicNames.{IsLongName}
+use Rattle.meaning.specs.Typed.{declared, dimensions}
+use Rattle.meaning_laws.proofs.arrays.Members.{each_member, in_map, of_map}
+use Rattle.meaning_laws.proofs.profiles.Lists.{all_at}
+use Rattle.meaning_laws.proofs.profiles.Names.{found}
+use Rattle.nest.specs.Bodies.{nest_loops}
+use Rattle.nest.specs.Plain.{Loop, Made, Nest}
+use Rattle.nest_order.proofs.orders.Membership.{map-In}
+use Rattle.nest_order.specs.orders.Lists.{In}
+use Rattle.normal_loops.specs.Normalised.{normalised}
+use Rattle.pass_laws.proofs.NormalFacts.Tables.{each_in}
+use Rattle.pass_laws.specs.normal_facts.Laws.{IsCounter}
+use Rattle.pass_laws.proofs.PreparedNests.Lists.{Contains-In, within_32}
+use Rattle.pass_laws.specs.prepared_nests.Made.{extent_for}
+use Rattle.pass_laws.specs.prepared_nests.Nests.{IsPrepared}
+use Rattle.symbols_anew.specs.Nests.{with_symbols_found}
+use Rattle.tree.specs.Names.{IsSourceName}
+use Rattle.tree.specs.Plain.{Declaration, Expression, Given, Program}
+use Rattle.tree.specs.declared.ops.Kind.TheVariants.{Logical}
+use Rattle.scalar_expand.specs.Expanded.{array_of, expanded, named_private}
+use Rattle.scalar_expand.specs.Privates.{array_name, made_kind, number_behind, private_scalars}
+use Rattle.scalar_expand.specs.Texts.{extent_texts}
+use Rattle.scalar_expand.specs.declared.privates.Private.{Private}
+use Rattle.scalar_expand.specs.declared.privates.RoundLoop.{RoundLoop}
+use Rattle.scalar_expand.proofs.Changes.{found as private_found}
+use Rattle.prepared_passes.specs.expansion.Found.{FoundNestHasExpandedDeclarations, FoundNestHasMadeNames, FoundNestHasNoPrivateScalars, HasExpandedDeclarations, IsArrayOfNest, IsMaskOfNest, unexpanded_depth}
+use Rattle.prepared_passes.specs.expansion.Laws.{MayBeExpanded}
+use Rattle.prepared_passes.proofs.ExpandedNests.ExtentForms.{found_extents}
+use Rattle.prepared_passes.proofs.ExpandedNests.Anew.{one_loop, prepared}
+use Rattle.prepared_passes.proofs.ExpandedNests.Found.{few_before, in_places}
+use Rattle.prepared_passes.proofs.ExpandedNests.FoundMade.{a_mask, array_named, made_no_source, may_be_expanded, rise, same_declarations, same_masks, same_number}
+use Rattle.prepared_passes.proofs.ExpandedNests.Left.{expanded_nest_has_no_private_scalars}
+use Rattle.prepared_passes.proofs.ExpandedNests.Made.{all_once}
+use Rattle.prepared_passes.proofs.ExpandedNests.MadeArrays.{IsOfPrivate, made_are, made_is, made_of}
+use Rattle.prepared_passes.proofs.ExpandedNests.Names.{Named-so, array_is, array_long, found_kind, source_is, start}
+use Rattle.prepared_passes.proofs.ExpandedNests.Round.{array_no_counter, as_many_loops, as_many_texts}
+
+-- ---- names of arrays
+
+begins_right : (n : ℕ) → n ≤ 4294967295 → list_all stands_in_name (number_behind n) ≡ true
+begins_right n h = by (n == 1)
+  where
+    by : (b : Bool) → list_all stands_in_name (cond b [] (codes "_" ++ decimal n)) ≡ true
+    by true = refl
+    by false = goes_on (codes "_") n refl (omega (arith, h))
+
+short_behind : (n : ℕ) → n ≤ 4294967295 → length (number_behind n) ≤ 11
+short_behind n h = by (n == 1)
+  where
+    by : (b : Bool) → length (cond b [] (codes "_" ++ decimal n)) ≤ 11
+    by true = omega arith
+    by false =
+        let most : n ≤ 4294967296 = omega (arith, h) in
+        let digits = length-decimal-le 10 n (omega arith) (ten_digits n most) (small_number n most) in
+        let all = length-append (codes "_") (decimal n) in
+        let one : length (codes "_") ≡ 1 = refl in
+        omega (arith, digits, all, one)
+
+array_is_name : (x : List ℕ) (n : ℕ) → IsSourceName x → list_all stands_in_name x ≡ true → n ≤ 4294967295 → IsLongName ((codes "FV_EXP_" ++ x) ++ number_behind n)
+array_is_name x n s stands h = record {
+  begins = refl;
+  goes_on =
+      list_all-append stands_in_name (codes "FV_EXP_" ++ x) (number_behind n)
+      ∙ both_true (list_all stands_in_name (codes "FV_EXP_" ++ x)) (list_all stands_in_name (number_behind n))
+      (list_all-append stands_in_name (codes "FV_EXP_") x ∙ both_true (list_all stands_in_name (codes "FV_EXP_")) (list_all stands_in_name x) refl stands) (begins_right n h);
+  within =
+      let short = s.within in
+      let last = short_behind n h in
+      let all = length-append (codes "FV_EXP_" ++ x) (number_behind n) in
+      let front = length-append (codes "FV_EXP_") x in
+      let seven : length (codes "FV_EXP_") ≡ 7 = refl in
+      omega (arith, short, last, all, front, seven);
+}
+
+-- ---- extents
+
+extent_is : (es : List Expression) → length es ≤ 7 → IsExtent (extent_for es)
+extent_is [] h = (omega arith, tt)
+extent_is (e ∷ es) h = (omega arith, omega (arith, h))
+
+extent_later : (es : List Expression) → dimensions (extent_for es) ≡ []
+extent_later [] = refl
+extent_later (e ∷ es) = refl
+
+-- ---- lists without repeats
+
+one_named : (xs : List Made) → Distinct (map (λ (a : Made). a.name) xs) → (x y : Made) → In x xs → In y xs → x.name ≡ y.name → x ≡ y
+one_named [] d x y i j e = absurd i
+one_named (z ∷ xs) d x y (inl f) (inl g) e = f ∙ sym g
+one_named (z ∷ xs) d x y (inl f) (inr j) e = absurd (each_in (λ w. ¬ (z.name ≡ w)) (map (λ (a : Made). a.name) xs) d.0 y.name (map-In (λ (a : Made). a.name) y xs j) (ap (λ (a : Made). a.name) (sym f) ∙ e))
+one_named (z ∷ xs) d x y (inr i) (inl g) e = absurd (each_in (λ w. ¬ (z.name ≡ w)) (map (λ (a : Made). a.name) xs) d.0 x.name (map-In (λ (a : Made). a.name) x xs i) (ap (λ (a : Made). a.name) (sym g) ∙ sym e))
+one_named (z ∷ xs) d x y (inr i) (inr j) e = one_named xs d.1 x y i j e
+
+abbrev as_made : Made → Declaration
+as_made x = record { name = x.name; kind = x.kind; extent = extent_for x.extents }
+
+module _ (p : Program) (n m masked k : Nest) (masks : ℕ) (is : IsProgram77 fortran77 p) (among : Contains (found_in p) (InNest n))
+    (normal : normalised n ≡ Some m) (made : converted_nest masks m ≡ Some masked) (few : masked.masks ≤ 4294967296)
+    (anew : k ≡ with_symbols_found m masked) where
+  abbrev ps : List Private
+  ps = private_scalars k
+
+  abbrev ds : List Declaration
+  ds = with_both p n m masked masks is among normal made few
+
+  abbrev outside : List (List ℕ)
+  outside = (stands p n m masked masks is among normal made few).round.variables
+
+  h : IsPrepared ds outside unexpanded_depth k
+  h = prepared p n m masked k masks is among normal made few anew
+
+  may : MayBeExpanded ds k
+  may = may_be_expanded p n m masked k masks is among normal made few anew ds (are_both p n m masked masks is among normal made few).more
+
+  -- ---- what is declared
+
+  abbrev counted : List Declaration
+  counted = counters p n m masked masks is among normal made few
+
+  abbrev arrays : List Declaration
+  arrays = map as_made (expanded k).made
+
+  abbrev new : List Declaration
+  new = counted ++ arrays
+
+  -- an array of a private scalar, or a mask that stays
+  abbrev Stays : Made → Type 0
+  Stays x = (In x k.made × (named_private ps x.name ≡ None)) ⊎ IsOfPrivate k.symbols ps x
+
+  stays : (x : Made) → In x (expanded k).made → Stays x
+  stays x i = made_is k.symbols ps (λ y q e. (private_found ps y q e).0) k.made x (subst (λ (ms : List Made). In x ms) (made_are k) i)
+
+  mask_is_made : (x : Made) → In x k.made → IsMadeDeclaration (as_made x)
+  mask_is_made x i =
+      let o = a_mask p n m masked k masks is among normal made few anew x i in
+      let up = rise p n m masked k masks is among normal made few anew in
+      let as_many = same_masks p n m masked k masks is among normal made few anew in
+      let below = o.below in
+      let d = scalar_of Logical (mask_name o.number) in
+      subst (λ (z : Made). IsMadeDeclaration (as_made z)) (sym o.is)
+      (is_made d (counter_or_mask (nest_loops m) (numbered p n m masked masks is among normal made few) masked.masks few d
+      (Contains-append_right counted (masks_below masked.masks) d (mask_below masked.masks o.number (omega (arith, up, below, as_many))))))
+
+  -- its name, where the program has the scalar
+  long_name : (q : Private) → In q ps → IsSourceName q.name → list_all stands_in_name q.name ≡ true
+  long_name q i s = by (found_kind k.declarations (made_kind k.made q.name) q.name q.kind (start ds outside unexpanded_depth k h may q i).kind)
+    where
+      by : ((d : Declaration) × (declared k.declarations q.name ≡ Some d) × (d.extent ≡ Given [])) ⊎ ((declared k.declarations q.name ≡ None) × (made_kind k.made q.name ≡ Some q.kind)) → list_all stands_in_name q.name ≡ true
+      by (inl r) =
+          let f = found p.declarations q.name r.0 (subst (λ es. declared es q.name ≡ Some r.0) (same_declarations p n m masked k masks is among normal made few anew) r.1) in
+          let d : IsDeclaration r.0 = all_at IsDeclaration p.declarations r.0 (own_are p n m masked masks is among normal made few).each f.among in
+          subst (λ x. list_all stands_in_name x ≡ true) f.name d.name.goes_on
+      by (inr r) =
+          let o = made_of k.made q.name q.kind r.1 in
+          absurd (made_no_source p n m masked k masks is among normal made few anew q.name (subst (λ x. In x (map (λ (a : Made). a.name) k.made)) o.name (map-In (λ (a : Made). a.name) o.made k.made o.inside)) s)
+
+  array_is_made : (q : Private) → In q ps → IsMadeDeclaration (as_made (array_of k.symbols q))
+  array_is_made q i = by (array_is ds outside unexpanded_depth k h may q i)
+    where
+      few_texts : length (array_of k.symbols q).extents ≤ 7
+      few_texts =
+          let most = (found_extents ds outside unexpanded_depth k h may q i).few in
+          let trips = length-map q.loops (λ (l : RoundLoop). l.trip) in
+          let many = as_many_loops ds outside unexpanded_depth k h may q i in
+          let texts = as_many_texts k.symbols [] q.extents in
+          let turned = length-reverse (extent_texts k.symbols q.extents) in
+          omega (arith, most, trips, many, texts, turned)
+
+      declaration : IsLongName q.array → ¬ IsSourceName q.array → IsMadeDeclaration (as_made (array_of k.symbols q))
+      declaration name none = record {
+        declaration = record { name = name; extent = extent_is (array_of k.symbols q).extents few_texts };
+        made = none;
+        later = extent_later (array_of k.symbols q).extents;
+      }
+
+      number_within : k.number ≤ 4294967295
+      number_within = within_32 k.number h.parts.number
+
+      by : Named-so ds outside unexpanded_depth k h may q → IsMadeDeclaration (as_made (array_of k.symbols q))
+      by (inl (s, e)) =
+          declaration (subst IsLongName (sym e) (array_is_name q.name k.number s (long_name q i s) number_within)) (λ t. array_long q.name k.number (subst IsSourceName e t))
+      by (inr (none, e)) = of (found_kind k.declarations (made_kind k.made q.name) q.name q.kind (start ds outside unexpanded_depth k h may q i).kind)
+        where
+          of : ((d : Declaration) × (declared k.declarations q.name ≡ Some d) × (d.extent ≡ Given [])) ⊎ ((declared k.declarations q.name ≡ None) × (made_kind k.made q.name ≡ Some q.kind)) → IsMadeDeclaration (as_made (array_of k.symbols q))
+          of (inl r) = let bad : true ≡ false = sym (source_is q.name (may.source q.name r.0 r.1)) ∙ none in cc
+          of (inr r) =
+              let o = made_of k.made q.name q.kind r.1 in
+              let d = mask_is_made o.made o.inside in
+              declaration (subst IsLongName (o.name ∙ sym e) d.declaration.name) (λ t. d.made (subst IsSourceName (e ∙ sym o.name) t))
+
+  pub made_is_made : (x : Made) → In x (expanded k).made → IsMadeDeclaration (as_made x)
+  made_is_made x i = by (stays x i)
+    where
+      by : Stays x → IsMadeDeclaration (as_made x)
+      by (inl r) = mask_is_made x r.0
+      by (inr r) = subst (λ (z : Made). IsMadeDeclaration (as_made z)) (sym r.2) (array_is_made r.0 r.1)
+
+  pub named_so : (x : Made) → In x (expanded k).made → IsMaskOfNest k masks x ⊎ IsArrayOfNest n x
+  named_so x i = by (stays x i)
+    where
+      a_mask_of : (y : Made) → In y k.made → x.name ≡ y.name → x.kind ≡ y.kind → IsMaskOfNest k masks x ⊎ IsArrayOfNest n x
+      a_mask_of y j name kind =
+          let o = a_mask p n m masked k masks is among normal made few anew y j in
+          let up = rise p n m masked k masks is among normal made few anew in
+          let below = o.below in
+          inl (record {
+            number = o.number;
+            from = o.from;
+            below = omega (arith, up, below);
+            name = name ∙ ap (λ (z : Made). z.name) o.is;
+            kind = kind ∙ ap (λ (z : Made). z.kind) o.is;
+          })
+
+      of_array : (q : Private) → In q ps → x ≡ array_of k.symbols q → Named-so ds outside unexpanded_depth k h may q → IsMaskOfNest k masks x ⊎ IsArrayOfNest n x
+      of_array q j e (inl (s, f)) = inr (record {
+        scalar = q.name;
+        source = s;
+        name = ap (λ (z : Made). z.name) e ∙ (array_named k q j ∙ ap (λ c. array_name c q.name) (same_number p n m masked k masks is among normal made few anew));
+      })
+      of_array q j e (inr (none, f)) = of (found_kind k.declarations (made_kind k.made q.name) q.name q.kind (start ds outside unexpanded_depth k h may q j).kind)
+        where
+          of : ((d : Declaration) × (declared k.declarations q.name ≡ Some d) × (d.extent ≡ Given [])) ⊎ ((declared k.declarations q.name ≡ None) × (made_kind k.made q.name ≡ Some q.kind)) → IsMaskOfNest k masks x ⊎ IsArrayOfNest n x
+          of (inl r) = let bad : true ≡ false = sym (source_is q.name (may.source q.name r.0 r.1)) ∙ none in cc
+          of (inr r) =
+              let o = made_of k.made q.name q.kind r.1 in
+              a_mask_of o.made o.inside (ap (λ (z : Made). z.name) e ∙ (f ∙ sym o.name)) (ap (λ (z : Made). z.kind) e ∙ sym o.kind)
+
+      by : Stays x → IsMaskOfNest k masks x ⊎ IsArrayOfNest n x
+      by (inl r) = a_mask_of x r.0 refl refl
+      by (inr r) = of_array r.0 r.1 r.2 (array_is ds outside unexpanded_depth k h may r.0 r.1)
+
+  -- ---- they are declared together
+
+  counter_is : (e : Declaration) → Contains counted e → IsMadeDeclaration e
+  counter_is e c = is_made e (a_counter (nest_loops m) (numbered p n m masked masks is among normal made few) masked.masks few e c)
+
+  each_made : (e : Declaration) → Contains new e → IsMadeDeclaration e
+  each_made e c = by (Contains-append_cases counted arrays e c)
+    where
+      by : Contains counted e ⊎ Contains arrays e → IsMadeDeclaration e
+      by (inl i) = counter_is e i
+      by (inr i) = let o = of_map as_made (expanded k).made e i in subst IsMadeDeclaration o.2 (made_is_made o.0 (Contains-In o.0 (expanded k).made o.1))
+
+  -- what is made counts no loop
+  counts_none : (d : Declaration) (x : Made) → Contains counted d → In x (expanded k).made → ¬ (d.name ≡ x.name)
+  counts_none d x c i e = by (stays x i)
+    where
+      by : Stays x → ⊥
+      by (inl r) =
+          let o = of_counter (nest_loops m) (numbered p n m masked masks is among normal made few) d c in
+          let one = a_mask p n m masked k masks is among normal made few anew x r.0 in
+          counter_apart_mask o.numbered.number one.number (o.numbered.is ∙ (e ∙ ap (λ (z : Made). z.name) one.is))
+      by (inr r) =
+          let o = of_counter (nest_loops m) (numbered p n m masked masks is among normal made few) d c in
+          array_no_counter ds outside unexpanded_depth k h may r.0 r.1 o.numbered.number (sym (ap (λ (z : Made). z.name) r.2) ∙ (sym e ∙ sym o.numbered.is))
+
+  pub once : Distinct (map (λ (a : Made). a.name) (expanded k).made)
+  once = subst (λ (ms : List Made). Distinct (map (λ (a : Made). a.name) ms)) (sym (made_are k)) (all_once ds outside unexpanded_depth k h may)
+
+  alone : AgreeOnNames new new
+  alone d e c i same = by (Contains-append_cases counted arrays d c) (Contains-append_cases counted arrays e i)
+    where
+      by : Contains counted d ⊎ Contains arrays d → Contains counted e ⊎ Contains arrays e → d ≡ e
+      by (inl f) (inl g) =
+          agree d e (a_counter (nest_loops m) (numbered p n m masked masks is among normal made few) masked.masks few d f)
+          (a_counter (nest_loops m) (numbered p n m masked masks is among normal made few) masked.masks few e g) same
+      by (inl f) (inr g) =
+          let o = of_map as_made (expanded k).made e g in
+          absurd (counts_none d o.0 f (Contains-In o.0 (expanded k).made o.1) (same ∙ sym (ap (λ (z : Declaration). z.name) o.2)))
+      by (inr f) (inl g) =
+          let o = of_map as_made (expanded k).made d f in
+          absurd (counts_none e o.0 g (Contains-In o.0 (expanded k).made o.1) (sym same ∙ sym (ap (λ (z : Declaration). z.name) o.2)))
+      by (inr f) (inr g) =
+          let a = of_map as_made (expanded k).made d f in
+          let b = of_map as_made (expanded k).made e g in
+          let name : a.0.name ≡ b.0.name = ap (λ (z : Declaration). z.name) a.2 ∙ (same ∙ sym (ap (λ (z : Declaration). z.name) b.2)) in
+          sym a.2 ∙ (ap as_made (one_named (expanded k).made once a.0 b.0 (Contains-In a.0 (expanded k).made a.1) (Contains-In b.0 (expanded k).made b.1) name) ∙ b.2)
+
+  abbrev all : List Declaration
+  all = with_declarations p.declarations new
+
+  are_all : AreWith p.declarations new all
+  are_all =
+      with_made_names p.declarations new (own_are p n m masked masks is among normal made few) (each_member IsMadeDeclaration new each_made) alone
+      (λ d e c i same. (each_made e i).made (subst IsSourceName same (own_source p n m masked masks is among normal made few d c)))
+
+  -- ---- the expanded nest
+
+  counted_so : All (λ (l : Loop). IsSomeAnd (declared all l.variable) IsCounter) (nest_loops m)
+  counted_so =
+      each_member (λ (l : Loop). IsSomeAnd (declared all l.variable) IsCounter) (nest_loops m)
+      (λ l c. counts p n m masked masks is among normal made few all l (are_all.declared (counter_of l) (Contains-append_left counted arrays (counter_of l) (counter_in p n m masked masks is among normal made few l c))))
+
+  has : HasExpandedDeclarations k
+  has =
+      let s = stands p n m masked masks is among normal made few in
+      let f = in_places p (record p { declarations = all }) n m masked k masks is among normal made few anew are_all.more counted_so
+      (λ x c. are_all.declared (as_made x) (Contains-append_right counted arrays (as_made x) (in_map as_made (expanded k).made x c))) s.round (here p n m masked masks is among normal made few) (number p n m masked masks is among normal made few) s.named s.is in
+      record { declarations = all; around = s.round.variables; are = are_all.more.are; prepared = f.places.behind }
+
+pub found_nest_has_expanded_declarations : FoundNestHasExpandedDeclarations
+found_nest_has_expanded_declarations p n m masked k masks is among normal made anew few =
+    has p n m masked k masks is among normal made (few_before m masked k anew few) anew
+
+pub found_nest_has_made_names : FoundNestHasMadeNames
+found_nest_has_made_names p n m masked k masks is among normal made anew few x c =
+    named_so p n m masked k masks is among normal made (few_before m masked k anew few) anew x (Contains-In x (expanded k).made c)
+
+pub found_nest_has_no_private_scalars : FoundNestHasNoPrivateScalars
+found_nest_has_no_private_scalars p n m masked k masks is among normal made anew few =
+    let least = few_before m masked k anew few in
+    let o = one_loop p n m masked k masks is among normal made least anew in
+    expanded_nest_has_no_private_scalars (ds p n m masked k masks is among normal made least anew) (outside p n m masked k masks is among normal made least anew) unexpanded_depth k o.loop o.body (h p n m masked k masks is among normal made least anew) o.is_loop (may p n m masked k masks is among normal made least anew)

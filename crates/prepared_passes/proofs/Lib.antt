@@ -1,0 +1,4 @@
+pub mod ConvertedNests
+pub mod SymbolsAnew
+pub mod ExpandedNests
+pub mod ArrangedNests

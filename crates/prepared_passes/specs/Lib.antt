@@ -1,0 +1,4 @@
+pub mod conversion
+pub mod symbols
+pub mod expansion
+pub mod arrangement

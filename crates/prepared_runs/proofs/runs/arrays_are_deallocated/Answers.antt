@@ -1,5 +1,0 @@
-use Rattle.prepared_runs.proofs.Allocations.{arrays_are_deallocated}
-use Rattle.prepared_runs.proofs.runs.arrays_are_deallocated.Goals as goal
-
-pub returns : goal.returns
-returns c = arrays_are_deallocated

@@ -1,0 +1,28 @@
+//! A law is a function without a body: its contract is what holds.
+ghost use Rattle.rename_laws.specs.Laws.{NamesAreFresh, RenamedMayStandFor, RenamedNestGoesOnAsNest};
+ghost use Rattle.rename_laws.specs.Laws.{RenamedNestIsPrepared, RenamedNestKeepsRest};
+
+/// By declarations without the names that are to be made, these stand nowhere in a prepared nest.
+pub fn names_are_fresh()
+    ensures { NamesAreFresh }
+{}
+
+/// The renamed nest is prepared by the same declarations.
+pub fn renamed_nest_is_prepared()
+    ensures { RenamedNestIsPrepared }
+{}
+
+/// It goes on as the nest does, but for the names that were made.
+pub fn renamed_nest_goes_on_as_nest()
+    ensures { RenamedNestGoesOnAsNest }
+{}
+
+/// So it may stand for the nest.
+pub fn renamed_may_stand_for()
+    ensures { RenamedMayStandFor }
+{}
+
+/// It is the nest but for its statements and the names that were made.
+pub fn renamed_nest_keeps_rest()
+    ensures { RenamedNestKeepsRest }
+{}
