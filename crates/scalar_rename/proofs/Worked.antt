@@ -54,34 +54,34 @@ nest number ds as' body = record {
   copies = 0;
 }
 
-T1 : List ℕ
-T1 = range_name 1 (codes "T") 1
+first_range : List ℕ
+first_range = range_name 1 (codes "T") 1
 
 -- T = A(I), B(I) = T where a mask is true T = 3, T = T + C(I), C(I) = T: what is guarded stays in its range, the right
 -- side of the assignment that begins the last range has the name of the one before, and the last range is T itself
 two-ranges : renamed (nest 1 (array (codes "A") ∷ array (codes "B") ∷ array (codes "C") ∷ declared (codes "T") Integer ∷ []) (made (codes "FV_MASK_1") Logical ∷ [])
     (Turns (loop 1 (codes "FV_LOOP_1")) (part (always (whole (codes "T")) (item (codes "A"))) (part (under (name (codes "FV_MASK_1")) (whole (codes "T")) (Number (pos 3)))
     (part (always (place (codes "B")) (name (codes "T"))) (part (always (whole (codes "T")) (Binary Add (name (codes "T")) (item (codes "C")))) (part (always (place (codes "C")) (name (codes "T"))) no_parts)))))))
-    ≡ nest 1 (array (codes "A") ∷ array (codes "B") ∷ array (codes "C") ∷ declared (codes "T") Integer ∷ []) (made (codes "FV_MASK_1") Logical ∷ made T1 Integer ∷ [])
-    (Turns (loop 1 (codes "FV_LOOP_1")) (part (always (whole T1) (item (codes "A"))) (part (under (name (codes "FV_MASK_1")) (whole T1) (Number (pos 3)))
-    (part (always (place (codes "B")) (name T1)) (part (always (whole (codes "T")) (Binary Add (name T1) (item (codes "C")))) (part (always (place (codes "C")) (name (codes "T"))) no_parts))))))
-unfolding renamed name item place whole always under loop declared array made nest T1
+    ≡ nest 1 (array (codes "A") ∷ array (codes "B") ∷ array (codes "C") ∷ declared (codes "T") Integer ∷ []) (made (codes "FV_MASK_1") Logical ∷ made first_range Integer ∷ [])
+    (Turns (loop 1 (codes "FV_LOOP_1")) (part (always (whole first_range) (item (codes "A"))) (part (under (name (codes "FV_MASK_1")) (whole first_range) (Number (pos 3)))
+    (part (always (place (codes "B")) (name first_range)) (part (always (whole (codes "T")) (Binary Add (name first_range) (item (codes "C")))) (part (always (place (codes "C")) (name (codes "T"))) no_parts))))))
+unfolding renamed name item place whole always under loop declared array made nest first_range
 two-ranges = refl
 
-L1 : List ℕ
-L1 = range_name 2 (codes "L") 1
+first_logical_range : List ℕ
+first_logical_range = range_name 2 (codes "L") 1
 
-L2 : List ℕ
-L2 = range_name 2 (codes "L") 2
+second_logical_range : List ℕ
+second_logical_range = range_name 2 (codes "L") 2
 
 -- L = M, L = .NOT. L, a loop without L, L = L, in a loop of the second nest of a program
 three-ranges : renamed (nest 2 (declared (codes "L") Logical ∷ declared (codes "M") Logical ∷ []) []
     (Turns (loop 2 (codes "FV_LOOP_2")) (part (Turns (loop 3 (codes "FV_LOOP_3")) (part (always (whole (codes "L")) (name (codes "M"))) (part (always (whole (codes "L")) (Unary Not (name (codes "L"))))
     (part (Turns (loop 4 (codes "FV_LOOP_4")) (part (always (whole (codes "M")) (name (codes "M"))) no_parts)) (part (always (whole (codes "L")) (name (codes "L"))) no_parts))))) no_parts)))
-    ≡ nest 2 (declared (codes "L") Logical ∷ declared (codes "M") Logical ∷ []) (made L1 Logical ∷ made L2 Logical ∷ [])
-    (Turns (loop 2 (codes "FV_LOOP_2")) (part (Turns (loop 3 (codes "FV_LOOP_3")) (part (always (whole L1) (name (codes "M"))) (part (always (whole L2) (Unary Not (name L1)))
-    (part (Turns (loop 4 (codes "FV_LOOP_4")) (part (always (whole (codes "M")) (name (codes "M"))) no_parts)) (part (always (whole (codes "L")) (name L2)) no_parts))))) no_parts))
-unfolding renamed name item place whole always under loop declared array made nest L1 L2
+    ≡ nest 2 (declared (codes "L") Logical ∷ declared (codes "M") Logical ∷ []) (made first_logical_range Logical ∷ made second_logical_range Logical ∷ [])
+    (Turns (loop 2 (codes "FV_LOOP_2")) (part (Turns (loop 3 (codes "FV_LOOP_3")) (part (always (whole first_logical_range) (name (codes "M"))) (part (always (whole second_logical_range) (Unary Not (name first_logical_range)))
+    (part (Turns (loop 4 (codes "FV_LOOP_4")) (part (always (whole (codes "M")) (name (codes "M"))) no_parts)) (part (always (whole (codes "L")) (name second_logical_range)) no_parts))))) no_parts))
+unfolding renamed name item place whole always under loop declared array made nest first_logical_range second_logical_range
 three-ranges = refl
 
 -- where the first statement with T reads it, or gives it a value under a guard, nothing is renamed
