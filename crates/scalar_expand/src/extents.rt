@@ -321,11 +321,7 @@ fn are_counted(trips: &[Trip]) -> bool
 /// The extents of an array over loops with these trips, from the outside in; `count` is how many symbols there are.
 /// None where one by its size isn't within the limits of linear forms, or the array would have too many elements.
 #[tactic(auto, unfolding(crate::specs::Extents::extents_of))]
-pub(crate) fn extents_of(
-    alloc: Global,
-    count: u16,
-    trips: &[Trip],
-) -> Result<Option<Seq<Trip>>, Memory>
+pub fn extents_of(alloc: Global, count: u16, trips: &[Trip]) -> Result<Option<Seq<Trip>>, Memory>
     ensures { IfOk result (λ all. all ≡ extents_of count trips.now) }
 {
     if !are_counted(trips) || !are_sizes_within(alloc, count, Seq::new(alloc), trips)? {

@@ -30,8 +30,10 @@ mod texts;
 mod values_behind;
 
 pub use elements::Expansion;
+pub use extents::extents_of;
 pub use laws::{
     expanded_loop_goes_on, expanded_nest_goes_on, extents_cover, last_values_go_on, trips_end,
 };
 pub use nests::expand;
 pub use privates::{Private, RoundLoop, private_scalars};
+pub use texts::extent_texts;

@@ -225,11 +225,7 @@ fn texts_with(
 }
 
 /// The texts of extents of loops, from the outside in.
-pub(crate) fn extent_texts(
-    alloc: Global,
-    symbols: &[Name],
-    extents: &[Trip],
-) -> Result<Seq<Expr>, Memory>
+pub fn extent_texts(alloc: Global, symbols: &[Name], extents: &[Trip]) -> Result<Seq<Expr>, Memory>
     ensures { IfOk result (λ all. map expression_of all ≡ extent_texts symbols.now extents.now) }
 {
     texts_with(alloc, symbols, Seq::new(alloc), extents)
