@@ -1,6 +1,8 @@
 pub mod Arranging
 pub mod FewOfEach
 pub mod Expanding
+pub mod Naming
+pub mod Inductions
 pub mod Entries
 pub mod Plain
 pub mod Sources

@@ -1,5 +1,6 @@
 pub mod Causes
 pub mod Counted
+pub mod Inductions
 pub mod Laws
 pub mod Listed
 pub mod Listing

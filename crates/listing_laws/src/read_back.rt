@@ -6,16 +6,17 @@
 //! nests, loops, statements, edges with their levels, words and pairs, drops, holds, cycles and kept loops, just as
 //! they are in the graphs, holds and cycles that the listing is made of. So where the listings of two sources have the
 //! same lines, they have the same entries (`same_lines_list_the_same`). In the nests that are listed no private scalar
-//! is left but where its element is copied to it (`listing_of_source_is_expanded`), and each loop of what is emitted
-//! for them has its causes among the edges, holds and cycles (`listing_of_source_is_caused`). The numbers of statements
-//! and references are counted where a nest is listed, so a listing shows them whole.
+//! is left but where its element is copied to it (`listing_of_source_is_expanded`), no induction is written
+//! (`listing_of_source_is_substituted`), and each loop of what is emitted for them has its causes among the edges,
+//! holds and cycles (`listing_of_source_is_caused`). The numbers of statements and references are counted where a nest
+//! is listed, so a listing shows them whole.
 //!
 //! **The dependence tests** are crates of their own, which `graph` calls. A *pair* is a pair of iterations within the
 //! bounds, related as the directions say, at which both subscripts are equal for some values of the symbols.
 ghost use Rattle.listing_laws.specs.read_back.Laws.{ProgramListingIsRead, SameLinesListTheSame};
 ghost use Rattle.listing_laws.specs.read_back.Laws.{SourceListingIsRead, SourceListingTextIsRead};
 ghost use Rattle.listing_laws.specs.read_back.Laws.{SourceListingIsCaused, SourceListingIsExpanded};
-ghost use Rattle.listing_laws.specs.read_back.Laws.{SourceListingTextLists};
+ghost use Rattle.listing_laws.specs.read_back.Laws.{SourceListingIsSubstituted, SourceListingTextLists};
 
 /// From the lines of a program's listing all its entries are read: its nests with their loops, statements, dependences
 /// and holds, and its kept loops.
@@ -41,6 +42,11 @@ pub fn listing_text_of_source_lists()
 /// In the statements that are listed of a nest no private scalar is left.
 pub fn listing_of_source_is_expanded()
     ensures { SourceListingIsExpanded }
+{}
+
+/// In the statements that are listed of a nest no induction is written.
+pub fn listing_of_source_is_substituted()
+    ensures { SourceListingIsSubstituted }
 {}
 
 /// Each loop in which statements of a nest stand that is listed has its causes in what is listed.

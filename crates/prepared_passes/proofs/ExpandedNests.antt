@@ -3,6 +3,8 @@ pub mod Trips
 pub mod Names
 pub mod Expandable
 pub mod Tells
+pub mod TripsKept
+pub mod Written
 pub mod After
 pub mod Kept
 pub mod Sizes
@@ -19,7 +21,11 @@ pub mod Variables
 pub mod Rounds
 pub mod Guarded
 pub mod Unassigned
+pub mod LastGiven
+pub mod LastTexts
 pub mod FreeBehind
+pub mod Uses
+pub mod ApartBehind
 pub mod Elements
 pub mod Settled
 pub mod ElementKinds
@@ -40,7 +46,12 @@ pub mod Allowed
 pub mod Left
 pub mod Scalars
 pub mod Anew
+pub mod Sameness
+pub mod RangeNames
+pub mod Renaming
 pub mod FoundMade
+pub mod Unexpanded
 pub mod Found
 pub mod FoundExpanded
+pub mod Unwritten
 pub mod ArrayNames

@@ -1,4 +1,6 @@
 pub mod ConvertedNests
 pub mod SymbolsAnew
+pub mod SubstitutedNests
+pub mod RenamedNests
 pub mod ExpandedNests
 pub mod ArrangedNests

@@ -1,4 +1,6 @@
 pub mod conversion
 pub mod symbols
+pub mod substitution
+pub mod renaming
 pub mod expansion
 pub mod arrangement

@@ -8,4 +8,5 @@ pub mod Prepared
 pub mod Allowed
 pub mod Before
 pub mod Left
+pub mod Unexpanded
 pub mod Found

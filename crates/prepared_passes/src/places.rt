@@ -2,8 +2,8 @@
 //! what holds.
 ghost use Rattle.prepared_passes.specs.expansion.Found.{ArrayNamesAreApart, FoundNestHasExpandedDeclarations};
 ghost use Rattle.prepared_passes.specs.expansion.Found.{FoundNestHasMadeNames, FoundNestHasNoPrivateScalars};
-ghost use Rattle.prepared_passes.specs.expansion.Found.{FoundNestIsExpandedInPlaces};
-ghost use Rattle.prepared_passes.specs.expansion.FreeBehind.{FoundNestIsFreeBehind, FoundNestWithSymbolsIsFreeBehind};
+ghost use Rattle.prepared_passes.specs.expansion.Found.{FoundNestIsExpandedInPlaces, RangeNamesAreApart};
+ghost use Rattle.prepared_passes.specs.expansion.FreeBehind.{FoundNestIsFreeBehind};
 ghost use Rattle.prepared_passes.specs.expansion.Places.{ExpandedNestHasGuardedNames, ExpandedNestIsBegunBefore};
 
 /// From each moment at which an expanded nest may be run there is one before expansion, from which the nest's run is
@@ -48,7 +48,7 @@ pub fn array_names_are_apart()
     ensures { ArrayNamesAreApart }
 {}
 
-/// So it is where the symbols of that nest were found anew.
-pub fn found_nest_with_symbols_is_free_behind()
-    ensures { FoundNestWithSymbolsIsFreeBehind }
+/// No two nests of a program have ranges of one name.
+pub fn range_names_are_apart()
+    ensures { RangeNamesAreApart }
 {}

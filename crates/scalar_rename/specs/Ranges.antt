@@ -1,6 +1,6 @@
 -- Ranges of a scalar's values: each unguarded assignment begins one (Allen and Kennedy, "Optimizing Compilers for
 -- Modern Architectures", section 5.4, scalar renaming).
-use Rattle.std.specs.Prelude.{Option, Some, None, ℕ, ◌+◌, nat_le, ◌==◌, Bool, true, false, ◌&&◌, ◌||◌}
+use Rattle.std.specs.Prelude.{◌≡◌, Option, Some, None, ℕ, ◌+◌, nat_le, ◌==◌, Bool, true, false, ◌&&◌, ◌||◌}
 use Rattle.std.specs.Prelude.{if◌then◌else◌, List, [], ◌∷◌, ◌++◌, slice_get, codes, decimal}
 use Rattle.std.specs.List.{list_all}
 use Rattle.std.specs.Str.{bytes_eq}
@@ -73,6 +73,15 @@ webs_among n ss (d ∷ ds) = web_if_renamed n ss d.name (kind_if_scalar d) ++ we
 -- the declared scalars that are renamed, in the order of the declarations, which stand in byte order
 abbrev pub webs_of : Nest → List Web
 webs_of m = webs_among m.number (nest_statements m) m.declarations
+
+-- ---- short names
+
+-- numbers of ranges that have a name of their own have five digits then, and names at most 31 bytes
+abbrev pub most_ranges : ℕ
+most_ranges = 100000
+
+abbrev pub HaveFewRanges : Nest → Type 0
+HaveFewRanges m = list_all (λ (w : Web). nat_le w.ranges most_ranges) (webs_of m) ≡ true
 
 -- ---- names by places
 

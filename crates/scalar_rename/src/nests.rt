@@ -1,6 +1,8 @@
 //! Nests whose scalars are renamed.
-ghost use Rattle.std.specs.Prelude.{◌≡◌, ◌+◌, ◌<◌, ◌^◌, ◌++◌, IfOk, OnOk, map};
+ghost use Rattle.std.specs.List.{list_all};
+ghost use Rattle.std.specs.Prelude.{◌≡◌, ◌+◌, ◌<◌, ◌^◌, ◌++◌, IfOk, OnOk, map, nat_le};
 ghost use Rattle.nest.specs.View.{made_of, nest_of};
+ghost use Rattle.scalar_rename.specs.Ranges.{HaveFewRanges, most_ranges};
 ghost use Rattle.scalar_rename.specs.Renamed.{each_renamed, made_from, made_of_web, made_of_webs, renamed};
 ghost use Rattle.scalar_rename.specs.Renamed.{with_names};
 ghost use Rattle.statement_passes.specs.MadeNames.{with_made};
@@ -89,13 +91,26 @@ fn with_names(alloc: Global, nest: Box<Nest>, webs: Seq<Web>) -> Result<Box<Nest
     with_some(alloc, &nest, webs)
 }
 
+const MOST_RANGES: usize = 100_000;
+
+// Whether the numbers of all ranges that have names of their own have at most five digits.
+fn have_few_ranges(webs: &[Web]) -> bool
+    ensures { result ≡ list_all (λ web. nat_le web.ranges most_ranges) webs.now }
+{
+    webs.iter().all(|web| web.ranges <= MOST_RANGES)
+}
+
 /// The nest in which each range of a renamed scalar's values has a name of its own: a scalar of the program that stands
 /// in one loop's own body alone, where the first statement with it assigns it without reading it, and with further
 /// unguarded assignments. The nest itself where there is none.
 #[tactic(auto, unfolding(crate::specs::Renamed::renamed))]
 pub fn rename(alloc: Global, nest: Box<Nest>) -> Result<Box<Nest>, Memory>
-    ensures { IfOk result (λ new. nest_of new.value ≡ renamed (nest_of nest.value)) }
+    ensures renamed { IfOk result (λ new. nest_of new.value ≡ renamed (nest_of nest.value)) }
+    ensures few { IfOk result (λ new. HaveFewRanges (nest_of nest.value)) }
 {
     let webs = webs_of(alloc, &nest)?;
+    if !have_few_ranges(webs.as_slice()) {
+        return Err(Memory);
+    }
     with_names(alloc, nest, webs)
 }

@@ -1,5 +1,5 @@
 -- What is written for a deck that is read: a translation of it, or a listing.
-use Rattle.std.proofs.Common.{◌≡◌, Bool, true, false, List, [], ◌++◌, ℕ, refl, ap, sym, ◌∙◌, subst, arith}
+use Rattle.std.proofs.Common.{◌≡◌, Bool, true, false, List, [], ◌++◌, map, ℕ, refl, ap, sym, ◌∙◌, subst, arith}
 use Rattle.std.specs.Prelude.{None, filter, flat_map}
 use Rattle.std.specs.Str.Lines.{lines}
 use Rattle.std.specs.List.{AllByRecursion}
@@ -20,6 +20,7 @@ use Rattle.tool.proofs.Renumbered.{same_but_lines}
 use Rattle.f90_laws.specs.printed.ReadBack.{block_without_numbers}
 use Rattle.f90_laws.proofs.printed.PrintedLinesText.{lines_again}
 use Rattle.tool.proofs.Accepted.{accepted}
+use Rattle.tool.proofs.Alone.{one_array}
 use Rattle.tool.proofs.MarksRead.{same_marks}
 use Rattle.tool.proofs.NoteLines.{listed_are_notes}
 use Rattle.tool.proofs.SourceLines.{printed_lines_are_lines, program_lines_are_source}
@@ -34,8 +35,10 @@ use Rattle.translation.specs.Translated.{IsVectorised}
 use Rattle.find_nests.specs.Found.{found_in}
 use Rattle.listing_laws.proofs.notes.Listed.{listing_lines_are_notes}
 use Rattle.listing_laws.proofs.read_back.SourceListings.{source_listing_is_caused, source_listing_is_expanded, source_listing_is_read}
-use Rattle.listing_laws.proofs.read_back.SourceListings.{source_listing_text_lists}
+use Rattle.listing_laws.proofs.read_back.SourceListings.{source_listing_is_substituted, source_listing_text_lists}
 use Rattle.listing_laws.specs.reader.Lists.{Lists}
+use Rattle.listing_laws.specs.told_nests.Nests.{by_entries, nests_of}
+use Rattle.listing_laws.proofs.told_nests.Nests.{lines_tell_nests, nests_are_told}
 use Rattle.translation.proofs.NestBlocks.Blocks.{answers_are_blocks}
 use Rattle.translation.proofs.NestBlocks.Listed.{answers_are_listed}
 use Rattle.listing.specs.programs.Listing.{IsListing, IsListingText, ListedNest, listed_nests}
@@ -46,6 +49,7 @@ use Rattle.tool.specs.Listings.{IsListedBeside, IsListingOf, is_listed, listed_l
 use Rattle.tool.specs.Marked.{IsMarked, IsMarkedBy}
 use Rattle.tool.specs.Printed.{IsPrinted}
 use Rattle.tool.specs.Translates.{IsAccepted, Translates}
+use Rattle.tool.specs.Vectorises.{Vectorises, VectorisesDeck}
 
 -- a program keeps the meaning of another one where it is read with other line numbers, too
 relined_keeps : (p q r : Program) (input : List ℕ) → SameButLines q r → KeepsMeaning p q input → KeepsMeaning p r input
@@ -78,6 +82,7 @@ pub record Holds (deck text : List ℕ) : Type 0 where
   pub listed : IsListedBeside deck text
   pub marked : IsMarked deck text
   pub printed : IsPrinted deck text
+  pub vectorised : VectorisesDeck deck text
 
 module _ (deck text : List ℕ) (p : Program) (h : IsReadAs Vectorise deck p)
     (written : IsTranslationText p (has_data data_line77 deck) (input_of data_line77 deck) text) where
@@ -137,6 +142,7 @@ module _ (deck text : List ℕ) (p : Program) (h : IsReadAs Vectorise deck p)
           listing = listing.0;
           read = source_listing_is_read (source_of data_line77 deck) p notes h.reads.source listing.0;
           private_names = source_listing_is_expanded (source_of data_line77 deck) p notes h.reads.source listing.0;
+          inductions = source_listing_is_substituted (source_of data_line77 deck) p notes h.reads.source listing.0;
           causes = source_listing_is_caused (source_of data_line77 deck) p notes h.reads.source listing.0;
         },
         listing.1,
@@ -151,6 +157,34 @@ module _ (deck text : List ℕ) (p : Program) (h : IsReadAs Vectorise deck p)
         (translation_is_marked p q v.answers.answers v.blocks v.made source v.answers.are v.answers.placed v.placed);
   }
 
+  abbrev lists : Lists p (listed_lines text)
+  lists = listed_nests_are.0
+
+  keeps : (given : List ℕ) → KeepsMeaning p read.program given
+  keeps given = relined_keeps p q read.program given (same_but_lines q read.program read.same) (good.keeps given)
+
+  -- by the entries of the notes
+  marks_by_entries : IsMarkedBy p (map by_entries (nests_of p (listed_lines text) lists)) read.program
+  marks_by_entries =
+      subst (λ (ts : List ListedNest). IsMarkedBy p ts read.program)
+      (sym (nests_are_told p (listed_lines text) lists.listing ∙ listed_nests_are.1)) marks
+
+  vectorised : Vectorises p text
+  vectorised =
+      let tells = lines_tell_nests p (listed_lines text) lists in
+      record {
+        translation = read.program;
+        accepted = is_accepted;
+        keeps = keeps;
+        lists = lists;
+        tells = tells;
+        alone = one_array p read.program (listed_lines text) lists tells marks_by_entries;
+        marked = marks_by_entries;
+      }
+
+  same_input : input_of data_line90 text ≡ input_of data_line77 deck
+  same_input = ap (input_of data_line90) written.printed ∙ input_behind (program_lines q notes) plain there input (no_input data_line77 deck)
+
   pub holds : Holds deck text
   holds = record {
     translates = record {
@@ -158,19 +192,20 @@ module _ (deck text : List ℕ) (p : Program) (h : IsReadAs Vectorise deck p)
       read = h;
       translation = read.program;
       accepted = is_accepted;
-      keeps = λ given. relined_keeps p q read.program given (same_but_lines q read.program read.same) (good.keeps given);
-      input = ap (input_of data_line90) written.printed ∙ input_behind (program_lines q notes) plain there input (no_input data_line77 deck);
+      keeps = keeps;
+      input = same_input;
     };
-    listed = record { program = p; read = h; lists = listed_nests_are.0 };
+    listed = record { program = p; read = h; lists = lists };
     marked = record {
       program = p;
       read = h;
-      lists = listed_nests_are.0;
+      lists = lists;
       translation = read.program;
       accepted = is_accepted;
       marked = subst (λ (ts : List ListedNest). IsMarkedBy p ts read.program) (sym listed_nests_are.1) marks;
     };
     printed = record { program = p; read = h; text_is = written };
+    vectorised = record { program = p; read = h; is = vectorised; input = same_input };
   }
 
 -- ---- a text that is written for a listing
@@ -178,4 +213,4 @@ module _ (deck text : List ℕ) (p : Program) (h : IsReadAs Vectorise deck p)
 pub listing_holds : (deck text : List ℕ) (p : Program) → IsReadAs Graph deck p → IsListingText p text → IsListingOf deck text
 listing_holds deck text p h listing =
     let w = source_listing_text_lists (source_of data_line77 deck) p text h.reads.source listing in
-    record { program = p; read = h; lists = w.0; ended = w.1 }
+    record { program = p; read = h; lists = w.0; tells = lines_tell_nests p (lines text) w.0; ended = w.1 }

@@ -1,4 +1,5 @@
 pub mod Accepted
+pub mod Alone
 pub mod Headline
 pub mod Limits
 pub mod MadeDecks

@@ -38,7 +38,7 @@ use Rattle.tool.proofs.Limits.{exceeded}
 pub is_translated : (deck text : List ℕ) → IsTranslationOf deck text → IsTranslated deck text
 is_translated deck text h =
     let all : Holds deck text = holds deck text h.program h.read h.written in
-    (all.translates, all.listed, all.marked, all.printed)
+    (all.translates, all.listed, all.marked, all.printed, all.vectorised)
 
 -- its array run ends without fault where the deck's run does
 pub translation_runs_well : (deck text : List ℕ) (q : Program) → IsTranslated deck text → Conforms90 (source_of data_line90 text) q → RunsWell deck → EndsWell (run_in text q)

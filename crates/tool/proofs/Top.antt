@@ -27,6 +27,7 @@ use Rattle.tool.specs.Listings.{IsListedBeside, IsListingOf}
 use Rattle.tool.specs.Marked.{IsMarked}
 use Rattle.tool.specs.Printed.{IsPrinted}
 use Rattle.tool.specs.Translates.{Translates}
+use Rattle.tool.specs.Vectorises.{VectorisesDeck}
 use Rattle.generator.specs.Decks.{deck_of}
 use Rattle.tool.specs.Making.{Summarises}
 use Rattle.tool.specs.Running.{IsRun, GivesRun, GivesFaultedRun, GivesRunPart, GivesAtMostPart, IsExceeded, options_in, dialect_of, input_for, run_of}
@@ -171,10 +172,11 @@ translation : (P : List ℕ → List ℕ → Type 0) → ((deck text : List ℕ)
 translation P f before now deck g = (g.text, f deck g.text (written deck g.text g.program g.read g.has_text), g.given)
 
 abbrev AllHold : List ℕ → List ℕ → Type 0
-AllHold deck text = Translates deck text × IsListedBeside deck text × IsMarked deck text × IsPrinted deck text
+AllHold deck text =
+    Translates deck text × IsListedBeside deck text × IsMarked deck text × IsPrinted deck text × VectorisesDeck deck text
 
 all_hold : (deck text : List ℕ) → Holds deck text → AllHold deck text
-all_hold deck text h = (h.translates, h.listed, h.marked, h.printed)
+all_hold deck text h = (h.translates, h.listed, h.marked, h.printed, h.vectorised)
 
 translation_part : (before now : Option (List ℕ)) (deck : List ℕ) → GivesFront Vectorise before now deck → GivesPartWhere before now (AllHold deck)
 translation_part before now deck g = (g.text, all_hold deck g.text (written deck g.text g.program g.read g.has_text), g.given)
@@ -218,6 +220,9 @@ run_part_given (Run90 options) run before now deck g = record {
 given_done : (P : List ℕ → List ℕ → Type 0) → ((deck text : List ℕ) → Holds deck text → P deck text) → (c : Call) (o : Outcome) (s : ℕ) → s ≡ status_of o → Ends Vectorise c o → s ≡ 0
     → IfSome c.left_before (λ deck. GivesWhere c.taken_before c.taken_now (P deck))
 given_done P f c o s e h q = map_some c.left_before (translation P f c.taken_before c.taken_now) (at_outcome Vectorise c o Done (tells.is_done o s e q) h).1
+
+pub vectorised : (c : Call) (o : Outcome) (s : ℕ) → s ≡ status_of o → Ends Vectorise c o → s ≡ 0 → IfSome c.left_before (λ deck. GivesWhere c.taken_before c.taken_now (VectorisesDeck deck))
+vectorised c o s e h q = given_done VectorisesDeck (λ deck text all. all.vectorised) c o s e h q
 
 pub translated : (c : Call) (o : Outcome) (s : ℕ) → s ≡ status_of o → Ends Vectorise c o → s ≡ 0 → IfSome c.left_before (λ deck. GivesWhere c.taken_before c.taken_now (Translates deck))
 translated c o s e h q = given_done Translates (λ deck text all. all.translates) c o s e h q

@@ -13,6 +13,7 @@ pub mod Running
 pub mod Translates
 pub mod Translation
 pub mod Unread
+pub mod Vectorises
 pub mod Works
 pub mod commands
 pub mod report

@@ -6,16 +6,18 @@ use Rattle.tree.specs.Plain.{Program}
 use Rattle.meaning.specs.Deck.{source_of, data_line90}
 use Rattle.f90_grammar.specs.PrintedText.{with_line_feed}
 use Rattle.listing_laws.specs.reader.Lists.{Lists}
+use Rattle.listing_laws.specs.told_nests.Nests.{Tells}
 use Rattle.tool.specs.declared.commands.commands.Command.TheVariants.{Graph, Vectorise}
 use Rattle.tool.specs.Decks.{IsReadAs}
 
 -- ---- what `graph` writes
 
--- The deck is read as a program which the lines of the text list. A line feed ends each
+-- The deck is read as a program which the lines of the text list, and whose nests they tell. A line feed ends each
 pub record IsListingOf (deck text : List ℕ) : Type 0 where
   pub program : Program
   pub read : IsReadAs Graph deck program
   pub lists : Lists program (lines text)
+  pub tells : Tells program (lines text) lists
   pub ended : text ≡ flat_map with_line_feed (lines text)
 
 -- ---- what `vectorise` writes beside the translation

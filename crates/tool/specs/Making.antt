@@ -21,10 +21,13 @@ use Rattle.tool.specs.Listings.{IsListedBeside}
 use Rattle.tool.specs.Marked.{IsMarked}
 use Rattle.tool.specs.Printed.{IsPrinted}
 use Rattle.tool.specs.Translates.{Translates}
+use Rattle.tool.specs.Vectorises.{VectorisesDeck}
 
 -- all that `vectorise` promises of the text that it gives for the deck
 abbrev pub IsTranslated : List ℕ → List ℕ → Type 0
-IsTranslated deck text = Translates deck text × IsListedBeside deck text × IsMarked deck text × IsPrinted deck text
+IsTranslated deck text =
+    Translates deck text × IsListedBeside deck text × IsMarked deck text × IsPrinted deck text
+    × VectorisesDeck deck text
 
 -- ---- summaries
 

@@ -55,13 +55,14 @@ ghost use Rattle.tool.specs.Endings.{Ends, Ended, IsReadOrPassed, IsRefusedAfter
 ghost use Rattle.tool.specs.Endings.{writes_early, gives_all};
 ghost use Rattle.tool.specs.Given.{GivesWhere, GivesPartWhere};
 ghost use Rattle.tool.specs.Listings.{IsListedBeside, IsListingOf};
-ghost use Rattle.tool.specs.Making.{IsSummary, IsSummaryTo, IsFaultedSummary, GivesAtMostSummary};
+ghost use Rattle.tool.specs.Making.{IsTranslated, IsSummary, IsSummaryTo, IsFaultedSummary, GivesAtMostSummary};
 ghost use Rattle.tool.specs.Making.{RunsWell, RunsIntoFault};
 ghost use Rattle.tool.specs.Marked.{IsMarked};
 ghost use Rattle.tool.specs.Printed.{IsPrinted};
 ghost use Rattle.tool.specs.Running.{IsRun, GivesRun, GivesFaultedRun, GivesRunPart, GivesAtMostPart};
 ghost use Rattle.tool.specs.Running.{IsExceeded, run_of, text_of_run};
 ghost use Rattle.tool.specs.Translates.{Translates};
+ghost use Rattle.tool.specs.Vectorises.{VectorisesDeck};
 ghost use Rattle.tool.specs.Works.{Works};
 
 pub mod commands;
@@ -225,9 +226,12 @@ pub fn run_tool<S: Source, K: Sink, E: Sink>(
     ensures no_read_fault { result ≢ 5 → S.faults deck.new ≡ S.faults deck.old }
     ensures no_write_fault { result ≢ 6 → K.faults out.new ≡ K.faults out.old }
 
-    // `vectorise` gives one text at 0, and a front of one at 6. It is a translation of the deck (`translated`); those
-    // of its lines that are notes list the deck's program (`listed_beside`); the statements of the nests that they list
-    // with a graph are marked as that has them (`marked`); and it is laid out as a translation is printed (`printed`).
+    // `vectorise` gives one text at 0, and a front of one at 6. It is all that a translation of the deck's program has
+    // to be (`vectorised`). So it is a translation of the deck (`translated`); those of its lines that are notes list
+    // the deck's program (`listed_beside`); the statements of the nests that they list with a graph are marked as that
+    // has them (`marked`). And it is laid out as a translation is printed (`printed`).
+    ensures vectorised { Asks words.now.items Vectorise → result ≡ 0
+        → IfTold (S.left deck.old) (λ bytes. GivesWhere (K.taken out.old) (K.taken out.new) (VectorisesDeck bytes)) }
     ensures translated { Asks words.now.items Vectorise → result ≡ 0
         → IfTold (S.left deck.old) (λ bytes. GivesWhere (K.taken out.old) (K.taken out.new) (Translates bytes)) }
     ensures listed_beside { Asks words.now.items Vectorise → result ≡ 0
@@ -238,7 +242,7 @@ pub fn run_tool<S: Source, K: Sink, E: Sink>(
         → IfTold (S.left deck.old) (λ bytes. GivesWhere (K.taken out.old) (K.taken out.new) (IsPrinted bytes)) }
     ensures part { Asks words.now.items Vectorise → result ≡ 6
         → IfTold (S.left deck.old) (λ bytes. GivesPartWhere (K.taken out.old) (K.taken out.new)
-        (λ text. Translates bytes text × IsListedBeside bytes text × IsMarked bytes text × IsPrinted bytes text)) }
+        (IsTranslated bytes)) }
 
     // `graph` gives a listing of the deck's program at 0, and a front of one at 6.
     ensures listed { Asks words.now.items Graph → result ≡ 0

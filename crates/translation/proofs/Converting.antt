@@ -6,14 +6,17 @@ use Rattle.prepared_passes.proofs.ExpandedNests.Anew.{rest_anew}
 use Rattle.if_convert.specs.Converted.{converted_loop, converted_nest}
 use Rattle.if_convert.specs.Masks.{masks_from}
 use Rattle.if_convert.specs.Points.{entered}
+use Rattle.inductions.specs.Nests.{inductions_substituted}
 use Rattle.interchange.specs.Arranged.{arranged, vectors_of}
 use Rattle.listing.proofs.programs.Arranging.{arranged_rest}
+use Rattle.listing.proofs.programs.Naming.{named_from}
 use Rattle.listing.specs.programs.Passed.{IsPassedAs}
 use Rattle.nest.specs.Allocations.{block_then}
 use Rattle.nest.specs.Plain.{Choice, Jump, Label, Nest, Part, Run, Turns}
 use Rattle.nest_rewrite.specs.Assembled.{with_parts}
 use Rattle.scalar_expand.specs.Expanded.{expanded, last_values, with_arrays}
 use Rattle.scalar_expand.specs.Laws.{own_of}
+use Rattle.scalar_rename.specs.Renamed.{renamed}
 use Rattle.symbols_anew.specs.Nests.{with_symbols_found}
 use Rattle.subscripts.specs.declared.affine.Dirs.{Dirs}
 use Rattle.tree.specs.Plain.{block}
@@ -112,14 +115,19 @@ last_from n m vectors e =
 
 -- ---- what passes make
 
-pub passed_from : (masks : ℕ) (n m : Nest) (passed : IsPassedAs masks n m) → IsLastFrom passed.anew m
-passed_from masks n m passed = last_from passed.anew m (vectors_of passed.graph.edges) passed.is_arranged
+pub passed_from : (masks : ℕ) (n m : Nest) (passed : IsPassedAs masks n m) → IsLastFrom passed.named m
+passed_from masks n m passed = last_from passed.named m (vectors_of passed.graph.edges) passed.is_arranged
+
+-- symbols, inductions and ranges of scalars leave the masks as they are
+pub same_masks : (masks : ℕ) (n m : Nest) (passed : IsPassedAs masks n m) → passed.named.masks ≡ passed.converted.masks
+same_masks masks n m passed =
+    (named_from passed.anew passed.substituted passed.named passed.is_substituted passed.is_named).masks
+    ∙ (anew_from passed.normal passed.converted passed.anew passed.is_anew).masks
 
 -- with the masks of a nest there are no fewer than before
 pub passed_rises : (masks : ℕ) (n m : Nest) → IsPassedAs masks n m → masks ≤ m.masks
 passed_rises masks n m passed =
-    let anew = anew_from passed.normal passed.converted passed.anew passed.is_anew in
-    subst (λ (k : ℕ). masks ≤ k) (sym ((passed_from masks n m passed).masks ∙ anew.masks))
+    subst (λ (k : ℕ). masks ≤ k) (sym ((passed_from masks n m passed).masks ∙ same_masks masks n m passed))
     (masks_rise masks passed.normal passed.converted passed.is_converted)
 
 -- What is made for it is known by the nest and the masks before it: by whatever graphs loops move, both nests have it
@@ -132,8 +140,11 @@ passed_once masks n m k h g =
     let anew : h.anew ≡ g.anew
     = h.is_anew ∙ ap (λ (z : Nest). with_symbols_found z h.converted) normal
     ∙ ap (with_symbols_found g.normal) converted ∙ sym g.is_anew in
+    let named : h.named ≡ g.named
+    = h.is_named ∙ ap renamed (h.is_substituted ∙ ap inductions_substituted anew ∙ sym g.is_substituted)
+    ∙ sym g.is_named in
     let first = passed_from masks n m h in
     let second = passed_from masks n k g in (
-      first.made ∙ ap (λ (z : Nest). (expanded z).made) anew ∙ sym second.made,
-      first.masks ∙ ap (λ (z : Nest). z.masks) anew ∙ sym second.masks,
+      first.made ∙ ap (λ (z : Nest). (expanded z).made) named ∙ sym second.made,
+      first.masks ∙ ap (λ (z : Nest). z.masks) named ∙ sym second.masks,
     )

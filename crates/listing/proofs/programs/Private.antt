@@ -1,10 +1,11 @@
 -- In the nests of a listing no private scalar is left.
-use Rattle.std.proofs.Common.{ℕ, ◌<◌, ◌≤◌, List, [], ◌∷◌, Contains, sym, ◌∙◌, subst, arith}
+use Rattle.std.proofs.Common.{ℕ, ◌<◌, ◌≤◌, List, [], ◌∷◌, Contains, sym, subst, arith}
 use Rattle.listing.proofs.arrays.Left.{arranged_nest_has_no_private_scalars}
-use Rattle.prepared_passes.proofs.ExpandedNests.Anew.{prepared}
-use Rattle.prepared_passes.proofs.ExpandedNests.Found.{few_before}
+use Rattle.prepared_passes.proofs.ExpandedNests.FoundMade.{prepared}
+use Rattle.prepared_passes.proofs.ExpandedNests.Sameness.{few_before}
 use Rattle.prepared_passes.proofs.ExpandedNests.FoundExpanded.{found_nest_has_no_private_scalars}
-use Rattle.prepared_passes.specs.expansion.Found.{expanded_depth, unexpanded_depth}
+use Rattle.prepared_passes.specs.expansion.Found.{expanded_depth}
+use Rattle.prepared_passes.specs.expansion.Unexpanded.{unexpanded_depth}
 use Rattle.prepared_passes.specs.expansion.Left.{NoPrivateScalarIsLeft}
 use Rattle.find_nests.specs.Found.{Found, InNest, Kept, found_in}
 use Rattle.interchange.specs.Arranged.{arranged}
@@ -16,7 +17,7 @@ use Rattle.scalar_expand.specs.Expanded.{expanded}
 use Rattle.tree.specs.Plain.{Program}
 use Rattle.listing.proofs.programs.Expanding.{left_beside, masks_kept}
 use Rattle.listing.proofs.programs.Sources.{declared_for, few_made}
-use Rattle.listing.proofs.programs.Stages.{stages_beside}
+use Rattle.listing.proofs.programs.Stages.{few_so, named_so, stages_beside}
 use Rattle.listing.specs.graphs.Lines.{Entry}
 use Rattle.listing.specs.programs.Laws.{ListedNestsAreExpanded}
 use Rattle.listing.specs.programs.Listing.{HaveEntries}
@@ -25,24 +26,26 @@ use Rattle.listing.specs.programs.Stages.{IsListedFrom}
 
 module _ (p : Program) (is : IsProgram77 fortran77 p) where
   none_left : (masks : ℕ) (n m : Nest) → Contains (found_in p) (InNest n) → (h : IsListedFrom masks n m)
-      → NoPrivateScalarIsLeft h.stages.anew m
+      → NoPrivateScalarIsLeft h.stages.named m
   none_left masks n m c h =
       let b = stages_beside masks n h.stages h.are in
       let made = b.made in
-      let few : (expanded made.anew).masks < 4294967296 = few_made p masks n b.last is c made in
-      let same = masks_kept made.anew in
-      let most : made.anew.masks ≤ 4294967296 = omega (arith, few, same) in
-      let least = few_before made.normal made.converted made.anew made.is_anew most in
+      let few : (expanded made.named).masks < 4294967296 = few_made p masks n b.last is c made in
+      let same = masks_kept made.named in
+      let most : made.named.masks ≤ 4294967296 = omega (arith, few, same) in
+      let so = named_so masks n b.last made in
+      let least = few_before made.normal made.converted made.named so most in
+      let ranges = few_so masks n b.last made in
       let d = declared_for p masks n b.last is c made in
-      let left = found_nest_has_no_private_scalars p n made.normal made.converted made.anew masks is c made.made
-      made.is_converted made.is_anew most in
-      let moved : NoPrivateScalarIsLeft made.anew (arranged (expanded made.anew) made.vectors)
-      = arranged_nest_has_no_private_scalars _ d.declarations _ d.around unexpanded_depth expanded_depth made.anew
-      made.vectors (prepared p n made.normal made.converted made.anew masks is c made.made made.is_converted least made.is_anew)
+      let left = found_nest_has_no_private_scalars p n made.normal made.converted made.named masks is c made.made
+      made.is_converted so ranges most in
+      let moved : NoPrivateScalarIsLeft made.named (arranged (expanded made.named) made.vectors)
+      = arranged_nest_has_no_private_scalars _ d.declarations _ d.around unexpanded_depth expanded_depth made.named
+      made.vectors (prepared p n made.normal made.converted made.named masks is c made.made made.is_converted least so ranges)
       d.prepared left in
-      subst (NoPrivateScalarIsLeft h.stages.anew) (sym h.last)
-      (left_beside h.stages.anew h.stages.arranged made.anew b.last b.given b.behind
-      (subst (NoPrivateScalarIsLeft made.anew) (sym made.is_arranged) moved))
+      subst (NoPrivateScalarIsLeft h.stages.named) (sym h.last)
+      (left_beside h.stages.named h.stages.arranged made.named b.last b.named b.behind
+      (subst (NoPrivateScalarIsLeft made.named) (sym made.is_arranged) moved))
 
   all_expanded : (masks : ℕ) (fs : List Found) (es : List Entry) → ((f : Found) → Contains fs f → Contains (found_in p) f)
       → (h : HaveEntries masks fs es) → AreExpanded masks fs es h

@@ -6,10 +6,13 @@ use Rattle.std.proofs.lemmas.List.{get_or-map, length-map}
 use Rattle.tree.specs.Plain.{Block, Program, Reference}
 use Rattle.tree.specs.View.{declaration_of}
 use Rattle.tree.specs.declared.programs.Decl.{Decl}
-use Rattle.prepared_passes.proofs.ExpandedNests.Anew.{prepared}
-use Rattle.prepared_passes.proofs.ExpandedNests.Found.{few_before}
+use Rattle.prepared_passes.proofs.ConvertedNests.FoundDeclared.{are_both, prepared, stands, with_both}
+use Rattle.prepared_passes.proofs.ExpandedNests.Anew.{masks_anew}
 use Rattle.prepared_passes.proofs.ExpandedNests.FoundExpanded.{found_nest_has_expanded_declarations}
+use Rattle.prepared_passes.proofs.ExpandedNests.MadeArrays.{symbols_are}
+use Rattle.prepared_passes.proofs.ExpandedNests.Renaming.{anew_prepared}
 use Rattle.prepared_passes.specs.expansion.Found.{HasExpandedDeclarations, expanded_depth}
+use Rattle.prepared_passes.specs.expansion.Unexpanded.{substituted, unexpanded}
 use Rattle.f90_print.specs.Notes.{text_of}
 use Rattle.meaning.specs.Dialect.{fortran77}
 use Rattle.meaning.specs.Profile77.{IsProgram77}
@@ -21,12 +24,15 @@ use Rattle.dependence_graph.specs.nest_graph.Tested.{IsReference}
 use Rattle.prepared_passes.proofs.ArrangedNests.Again.{arranged_nest_is_prepared}
 use Rattle.if_convert.proofs.BodyLaws.{turns-converted}
 use Rattle.if_convert.specs.Converted.{converted_nest}
+use Rattle.inductions.specs.Nests.{inductions_substituted}
 use Rattle.interchange.specs.Arranged.{arranged, vectors_of, with_moved_loops}
 use Rattle.nest.specs.Bodies.{Standing}
 use Rattle.nest.specs.Plain.{Nest}
 use Rattle.nest.specs.View.{nest_of}
 use Rattle.nest.specs.declared.nests.Nest.{Nest as Nest'}
 use Rattle.scalar_expand.specs.Expanded.{expanded}
+use Rattle.scalar_rename.specs.Ranges.{HaveFewRanges}
+use Rattle.scalar_rename.specs.Renamed.{renamed}
 use Rattle.subscripts.specs.declared.affine.Dirs.{Dirs}
 use Rattle.symbols_anew.specs.Nests.{with_symbols_found}
 use Rattle.nest_reasons.specs.Symbols.{symbols_of}
@@ -43,11 +49,11 @@ use Rattle.pass_laws.proofs.PreparedNests.Ready.{prepared_nest_is_ready}
 use Rattle.pass_laws.specs.prepared_nests.Nests.{IsPrepared}
 use Rattle.listing.proofs.programs.Arranging.{arranged_rest, arranged_some, last_depth}
 use Rattle.listing.proofs.programs.Expanding.{masks_kept}
-use Rattle.listing.proofs.programs.Stages.{IsMadeBy, listed_is_made}
+use Rattle.listing.proofs.programs.Stages.{IsMadeBy, few_of, listed_is_made, named_of}
 use Rattle.listing.specs.programs.Counted.{AreCounted}
 use Rattle.listing.specs.programs.Laws.{ListedNestIsTestable}
 use Rattle.listing.specs.declared.programs.nests.Passed.{Passed}
-use Rattle.listing.specs.programs.Passed.{IsArrangedAs, IsExpandedOf, IsPassed, IsUnexpanded}
+use Rattle.listing.specs.programs.Passed.{IsAnewOf, IsArrangedAs, IsExpandedOf, IsPassed, IsSubstitutedOf, IsUnexpanded}
 use Rattle.listing.specs.programs.Sources.{IsFoundInSource, IsNestOfSource, IsNormalOfSource}
 use Rattle.listing.specs.programs.Stages.{IsLastGraph}
 use Rattle.listing.specs.programs.Testable.{AreTestsOf, MayBeListed}
@@ -111,18 +117,59 @@ masks_there m masks h none =
 -- whose symbols are found anew
 pub symbols_found : {A E : Type 0} (masks : ℕ) (m k : Nest) (r : Result A E) (nest : A → Nest)
     → converted_nest masks m ≡ Some k → IfOk r (λ a. nest a ≡ with_symbols_found m k)
-    → IfOk r (λ a. IsUnexpanded masks m (nest a))
+    → IfOk r (λ a. IsAnewOf masks m (nest a))
 symbols_found masks m k (Err e) nest made h = tt
 symbols_found masks m k (Ok a) nest made h = (k, made, h)
 
 -- they are no more than a program has names
+pub few_anew : (masks : ℕ) (m k : Nest) → IsNormalOfSource m → IsAnewOf masks m k → k.masks < 2 ^ 32
+    → length k.symbols ≤ 1000
+few_anew masks m k h u few =
+    let less : k.masks < 4294967296 = few in
+    let same : k.masks ≡ u.0.masks = masks_anew m u.0 k u.2 in
+    let most : u.0.masks ≤ 4294967296 = omega (arith, less, same) in
+    let p = h.source.program in
+    let is = h.source.profile in
+    let c = h.source.among in
+    let both = with_both p h.nest m u.0 masks is c h.made u.1 most in
+    let add = (are_both p h.nest m u.0 masks is c h.made u.1 most).more in
+    let around = (stands p h.nest m u.0 masks is c h.made u.1 most).round.variables in
+    let before = prepared p h.nest m u.0 masks is c h.made u.1 most in
+    subst (λ (j : Nest). length j.symbols ≤ 1000) (sym u.2)
+    (anew_prepared p h.nest m u.0 masks is c h.made u.1 most both add around before).parts.few
+
+-- and its inductions may be substituted
+pub substituted_of : {E : Type 0} (masks : ℕ) (m k : Nest) (r : Result Nest' E) → IsAnewOf masks m k
+    → IfOk r (λ made. nest_of made ≡ inductions_substituted k) → IfOk r (λ made. IsSubstitutedOf masks m (nest_of made))
+substituted_of masks m k (Err e) made h = tt
+substituted_of masks m k (Ok new) made h = (k, made, h)
+
+-- and ranges be renamed
+pub renamed_of : {A E : Type 0} (masks : ℕ) (m k : Nest) (r : Result A E) (nest : A → Nest) → IsSubstitutedOf masks m k
+    → IfOk r (λ a. nest a ≡ renamed k) → IfOk r (λ a. HaveFewRanges k) → IfOk r (λ a. IsUnexpanded masks m (nest a))
+renamed_of masks m k (Err e) nest made h few = tt
+renamed_of masks m k (Ok a) nest made h few = (k, made, h, few)
+
+-- what it is made of
+abbrev with_masks : (masks : ℕ) (m k : Nest) → IsUnexpanded masks m k → Nest
+with_masks masks m k u = u.1.1.0
+
+named_is : (masks : ℕ) (m k : Nest) (u : IsUnexpanded masks m k) → k ≡ unexpanded m (with_masks masks m k u)
+named_is masks m k u = named_of m u.1.1.0 u.1.0 u.0 k u.1.1.2 u.1.2 u.2
+
+few_ranges : (masks : ℕ) (m k : Nest) (u : IsUnexpanded masks m k) → HaveFewRanges (substituted m (with_masks masks m k u))
+few_ranges masks m k u = few_of m u.1.1.0 u.1.0 u.0 u.1.1.2 u.1.2 u.3
+
+-- there are no more symbols still
 pub few_unexpanded : (masks : ℕ) (m k : Nest) → IsNormalOfSource m → IsUnexpanded masks m k → k.masks < 2 ^ 32
     → length k.symbols ≤ 1000
 few_unexpanded masks m k h u few =
     let less : k.masks < 4294967296 = few in
     let most : k.masks ≤ 4294967296 = omega (arith, less) in
     let s = h.source in
-    (prepared s.program h.nest m u.0 k masks s.profile s.among h.made u.1 (few_before m u.0 k u.2 most) u.2).parts.few
+    let d = found_nest_has_expanded_declarations s.program h.nest m (with_masks masks m k u) k masks s.profile s.among h.made
+    u.1.1.1 (named_is masks m k u) (few_ranges masks m k u) most in
+    subst (λ (xs : List (List ℕ)). length xs ≤ 1000) (symbols_are k) d.prepared.parts.few
 
 -- and its private scalars may become arrays
 pub expanded_of : {E : Type 0} (masks : ℕ) (m k : Nest) (r : Result Nest' E) → IsUnexpanded masks m k
@@ -141,7 +188,8 @@ module _ (p : Program) (masks : ℕ) (n normal k : Nest) (profile : IsProgram77 
       let less : k.masks < 4294967296 = few in
       let same : k.masks ≡ e.0.masks = ap (λ (j : Nest). j.masks) e.2 ∙ masks_kept e.0 in
       let most : e.0.masks ≤ 4294967296 = omega (arith, less, same) in
-      found_nest_has_expanded_declarations p n normal e.1.0 e.0 masks profile among normal_is e.1.1 e.1.2 most
+      found_nest_has_expanded_declarations p n normal (with_masks masks normal e.0 e.1) e.0 masks profile among normal_is
+      e.1.1.1.1 (named_is masks normal e.0 e.1) (few_ranges masks normal e.0 e.1) most
 
   pub prepared_before : IsPrepared declared_before.declarations declared_before.around expanded_depth k
   prepared_before =
@@ -191,25 +239,26 @@ may_be_listed_moved masks m k h e few =
 -- the last one
 module _ (p : Program) (masks : ℕ) (n m : Nest) (profile : IsProgram77 fortran77 p)
     (among : Contains (found_in p) (InNest n)) (made : IsMadeBy masks n m) where
-  pub few_made : (expanded made.anew).masks < 2 ^ 32
+  pub few_made : (expanded made.named).masks < 2 ^ 32
   few_made =
       let less : m.masks < 4294967296 = made.counted in
-      let same : m.masks ≡ (expanded made.anew).masks
-      = ap (λ (j : Nest). j.masks) (made.is_arranged ∙ arranged_rest (expanded made.anew) made.vectors) in
-      let few : (expanded made.anew).masks < 4294967296 = omega (arith, less, same) in
+      let same : m.masks ≡ (expanded made.named).masks
+      = ap (λ (j : Nest). j.masks) (made.is_arranged ∙ arranged_rest (expanded made.named) made.vectors) in
+      let few : (expanded made.named).masks < 4294967296 = omega (arith, less, same) in
       few
 
-  abbrev before : IsExpandedOf masks made.normal (expanded made.anew)
-  before = (made.anew, (made.converted, made.is_converted, made.is_anew), refl)
+  abbrev before : IsExpandedOf masks made.normal (expanded made.named)
+  before =
+      (made.named, (made.substituted, (made.anew, (made.converted, made.is_converted, made.is_anew), made.is_substituted), made.is_named, made.few), refl)
 
-  pub declared_for : HasExpandedDeclarations made.anew
-  declared_for = declared_before p masks n made.normal (expanded made.anew) profile among made.made before few_made
+  pub declared_for : HasExpandedDeclarations made.named
+  declared_for = declared_before p masks n made.normal (expanded made.named) profile among made.made before few_made
 
   pub prepared_for : IsPrepared declared_for.declarations declared_for.around last_depth m
   unfolding declared_for
   prepared_for =
       subst (IsPrepared declared_for.declarations declared_for.around last_depth) (sym made.is_arranged)
-      (moved_nest_is_prepared p masks n made.normal (expanded made.anew) profile among made.made before few_made made.vectors)
+      (moved_nest_is_prepared p masks n made.normal (expanded made.named) profile among made.made before few_made made.vectors)
 
   made_nest_is_ready : IsReady m
   made_nest_is_ready =
@@ -274,10 +323,15 @@ passed_as masks n m k r made e few h counted = record {
   passed = record {
     normal = m;
     made = made;
-    converted = e.1.0;
-    is_converted = e.1.1;
-    anew = e.0;
-    is_anew = e.1.2;
+    converted = e.1.1.1.0;
+    is_converted = e.1.1.1.1;
+    anew = e.1.1.0;
+    is_anew = e.1.1.1.2;
+    substituted = e.1.0;
+    is_substituted = e.1.1.2;
+    named = e.0;
+    is_named = e.1.2;
+    few = e.1.3;
     graph = h.graph;
     is_graph = subst (λ (j : Nest). IsGraphOf j h.graph) e.2 h.is_graph;
     is_arranged = h.is_arranged ∙ ap (λ (j : Nest). arranged j (vectors_of h.graph.edges)) e.2;

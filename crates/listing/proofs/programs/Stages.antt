@@ -2,6 +2,7 @@
 -- listed.
 use Rattle.std.proofs.Common.{◌≡◌, ℕ, ◌<◌, ◌^◌, List, Option, Some, None, ap, is_some, sym, true≢false, ◌∙◌, subst, refl}
 use Rattle.if_convert.specs.Converted.{converted_loop, converted_nest}
+use Rattle.inductions.specs.Nests.{inductions_substituted}
 use Rattle.interchange.specs.Arranged.{arranged, vectors_of}
 use Rattle.nest.specs.Plain.{Choice, Jump, Label, Nest, Part, Run, Turns}
 use Rattle.normal_loops.specs.Listed.{IsListedFrom as HasNormalLoops}
@@ -13,12 +14,16 @@ use Rattle.listing.specs.programs.Laws.{LoopsAreListed}
 use Rattle.listing.specs.programs.Passed.{IsPassedAs}
 use Rattle.listing.specs.programs.Stages.{AreStagesOf, IsListedFrom, Stages}
 use Rattle.scalar_expand.specs.Expanded.{expanded}
+use Rattle.scalar_rename.specs.Ranges.{HaveFewRanges}
+use Rattle.scalar_rename.specs.Renamed.{renamed}
 use Rattle.subscripts.specs.declared.affine.Dirs.{Dirs}
 use Rattle.symbols_anew.specs.Nests.{with_symbols_found}
 use Rattle.prepared_passes.proofs.SymbolsAnew.Same.{symbols_are_found_with_anything_behind}
 use Rattle.prepared_passes.proofs.ExpandedNests.Anew.{masks_anew}
+use Rattle.prepared_passes.specs.expansion.Unexpanded.{unexpanded}
 use Rattle.listing.proofs.programs.Arranging.{arranged_beside, arranged_rest}
 use Rattle.listing.proofs.programs.Expanding.{expanded_beside, masks_kept}
+use Rattle.listing.proofs.programs.Naming.{named_from, renamed_beside, substituted_beside}
 
 -- ---- loops from 1 by 1
 
@@ -105,8 +110,13 @@ pub record IsMadeBy (masks : ℕ) (n m : Nest) : Type 0 where
   pub is_converted : converted_nest masks normal ≡ Some converted
   pub anew : Nest
   pub is_anew : anew ≡ with_symbols_found normal converted
+  pub substituted : Nest
+  pub is_substituted : substituted ≡ inductions_substituted anew
+  pub named : Nest
+  pub is_named : named ≡ renamed substituted
+  pub few : HaveFewRanges substituted
   pub vectors : List Dirs
-  pub is_arranged : m ≡ arranged (expanded anew) vectors
+  pub is_arranged : m ≡ arranged (expanded named) vectors
   pub counted : m.masks < 2 ^ 32
   pub numbered : AreCounted m
 
@@ -118,11 +128,35 @@ made_by masks n m h = record {
   is_converted = h.is_converted;
   anew = h.anew;
   is_anew = h.is_anew;
+  substituted = h.substituted;
+  is_substituted = h.is_substituted;
+  named = h.named;
+  is_named = h.is_named;
+  few = h.few;
   vectors = vectors_of h.graph.edges;
   is_arranged = h.is_arranged;
   counted = h.counted;
   numbered = h.numbered;
 }
+
+-- the nest before expansion, by the one with masks
+pub named_of : (normal converted anew substituted named : Nest) → anew ≡ with_symbols_found normal converted
+    → substituted ≡ inductions_substituted anew → named ≡ renamed substituted → named ≡ unexpanded normal converted
+named_of normal converted anew substituted named a i r = r ∙ ap renamed (i ∙ ap inductions_substituted a)
+
+-- whose ranges are few
+pub few_of : (normal converted anew substituted : Nest) → anew ≡ with_symbols_found normal converted
+    → substituted ≡ inductions_substituted anew → HaveFewRanges substituted
+    → HaveFewRanges (inductions_substituted (with_symbols_found normal converted))
+few_of normal converted anew substituted a i h = subst HaveFewRanges (i ∙ ap inductions_substituted a) h
+
+pub few_so : (masks : ℕ) (n m : Nest) (h : IsMadeBy masks n m)
+    → HaveFewRanges (inductions_substituted (with_symbols_found h.normal h.converted))
+few_so masks n m h = few_of h.normal h.converted h.anew h.substituted h.is_anew h.is_substituted h.few
+
+pub named_so : (masks : ℕ) (n m : Nest) (h : IsMadeBy masks n m) → h.named ≡ unexpanded h.normal h.converted
+named_so masks n m h =
+    named_of h.normal h.converted h.anew h.substituted h.named h.is_anew h.is_substituted h.is_named
 
 -- passes make a nest of n, and m is it, whatever stands behind m
 pub record IsMadeBut (masks : ℕ) (n m : Nest) : Type 0 where
@@ -136,7 +170,9 @@ passed_is_listed masks n m h = record {
     normal = h.normal;
     converted = h.converted;
     anew = h.anew;
-    expanded = expanded h.anew;
+    substituted = h.substituted;
+    named = h.named;
+    expanded = expanded h.named;
     graph = h.graph;
     arranged = m;
   };
@@ -144,6 +180,9 @@ passed_is_listed masks n m h = record {
     normal = normal_nest_is_listed n h.normal h.made;
     converted = h.is_converted;
     is_anew = h.is_anew;
+    is_substituted = h.is_substituted;
+    is_named = h.is_named;
+    few = h.few;
     is_expanded = refl;
     is_graph = h.is_graph;
     is_arranged = h.is_arranged;
@@ -158,11 +197,15 @@ counted_beside : (m k : Nest) → m ≡ record k { after = m.after } → AreCoun
 counted_beside m k e h =
     let c = subst AreCounted e h in record { statements = c.statements; references = c.references }
 
+few_beside : (m k : Nest) → m ≡ record k { after = m.after } → HaveFewRanges m → HaveFewRanges k
+few_beside m k e h = subst HaveFewRanges e h
+
 -- the nests that passes make of n, and those that k are, whatever stands behind these
 pub record AreBeside (masks : ℕ) (n : Nest) (k : Stages) : Type 0 where
   pub last : Nest
   pub made : IsMadeBy masks n last
   pub given : k.anew ≡ record made.anew { after = k.anew.after }
+  pub named : k.named ≡ record made.named { after = k.named.after }
   pub behind : k.arranged ≡ record last { after = k.arranged.after }
 
 pub stages_beside : (masks : ℕ) (n : Nest) (k : Stages) → AreStagesOf masks n k → AreBeside masks n k
@@ -174,10 +217,14 @@ stages_beside masks n k h =
     let u = anew_beside w.nest v.nest k.anew k.normal.after k.converted.after
     (subst (λ (i : Nest). k.anew ≡ with_symbols_found i (record v.nest { after = k.converted.after })) w.same
     (subst (λ (i : Nest). k.anew ≡ with_symbols_found k.normal i) v.same h.is_anew)) in
-    let x = expanded_beside k.anew a k.expanded u h.is_expanded in
-    let y = arranged_beside k.expanded (expanded a) k.arranged (vectors_of k.graph.edges) x h.is_arranged in
+    let i = inductions_substituted a in
+    let q = substituted_beside k.anew a k.substituted u h.is_substituted in
+    let r = renamed_beside k.substituted i k.named q h.is_named in
+    let e = expanded (renamed i) in
+    let x = expanded_beside k.named (renamed i) k.expanded r h.is_expanded in
+    let y = arranged_beside k.expanded e k.arranged (vectors_of k.graph.edges) x h.is_arranged in
     record {
-      last = arranged (expanded a) (vectors_of k.graph.edges);
+      last = arranged e (vectors_of k.graph.edges);
       made = record {
         normal = w.nest;
         made = w.made;
@@ -185,12 +232,18 @@ stages_beside masks n k h =
         is_converted = v.made;
         anew = a;
         is_anew = refl;
+        substituted = i;
+        is_substituted = refl;
+        named = renamed i;
+        is_named = refl;
+        few = few_beside k.substituted i q h.few;
         vectors = vectors_of k.graph.edges;
         is_arranged = refl;
         counted = subst (λ (j : Nest). j.masks < 2 ^ 32) y h.counted;
-        numbered = counted_beside k.arranged (arranged (expanded a) (vectors_of k.graph.edges)) y h.numbered;
+        numbered = counted_beside k.arranged (arranged e (vectors_of k.graph.edges)) y h.numbered;
       };
       given = u;
+      named = r;
       behind = y;
     }
 
@@ -200,13 +253,17 @@ listed_is_made masks n m h =
     subst (IsMadeBut masks n) (sym h.last) (record { nest = b.last; made = b.made; same = b.behind })
 
 pub loops_are_listed : LoopsAreListed
-loops_are_listed masks n m k g h made few graph counted =
-    let e = expanded (with_symbols_found m k) in
+loops_are_listed masks n m k g h made few ranges graph counted =
+    let a = with_symbols_found m k in
+    let i = inductions_substituted a in
+    let e = expanded (renamed i) in
     record {
       stages = record {
         normal = m;
         converted = k;
-        anew = with_symbols_found m k;
+        anew = a;
+        substituted = i;
+        named = renamed i;
         expanded = e;
         graph = g;
         arranged = arranged e (vectors_of g.edges);
@@ -215,12 +272,15 @@ loops_are_listed masks n m k g h made few graph counted =
         normal = h;
         converted = made;
         is_anew = refl;
+        is_substituted = refl;
+        is_named = refl;
+        few = ranges;
         is_expanded = refl;
         is_graph = graph;
         is_arranged = refl;
         counted = subst (λ (j : ℕ). j < 2 ^ 32)
-            (sym (ap (λ (j : Nest). j.masks) (arranged_rest e (vectors_of g.edges))
-            ∙ (masks_kept (with_symbols_found m k) ∙ masks_anew m k (with_symbols_found m k) refl))) few;
+            (sym (ap (λ (j : Nest). j.masks) (arranged_rest e (vectors_of g.edges)) ∙ masks_kept (renamed i)
+            ∙ (named_from a i (renamed i) refl refl).masks ∙ masks_anew m k a refl)) few;
         numbered = counted;
       };
       last = refl;

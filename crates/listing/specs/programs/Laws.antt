@@ -1,4 +1,4 @@
--- A nest that is listed with a graph can be tested, and has no private scalars.
+-- A nest that is listed with a graph can be tested, and has neither private scalars nor inductions.
 use Rattle.std.specs.Prelude.{◌≡◌, ◌<◌, ◌^◌, ℕ, Some, Contains, List}
 use Rattle.tree.specs.Plain.{Program}
 use Rattle.meaning.specs.Dialect.{fortran77}
@@ -12,9 +12,11 @@ use Rattle.interchange.specs.Arranged.{arranged, vectors_of}
 use Rattle.nest.specs.Plain.{Nest}
 use Rattle.normal_loops.specs.Listed.{IsListedFrom as HasNormalLoops}
 use Rattle.scalar_expand.specs.Expanded.{expanded}
-use Rattle.symbols_anew.specs.Nests.{with_symbols_found}
+use Rattle.scalar_rename.specs.Ranges.{HaveFewRanges}
+use Rattle.prepared_passes.specs.expansion.Unexpanded.{substituted, unexpanded}
 use Rattle.listing.specs.programs.Causes.{AreCaused}
 use Rattle.listing.specs.programs.Counted.{AreCounted}
+use Rattle.listing.specs.programs.Inductions.{AreSubstituted}
 use Rattle.listing.specs.programs.Listing.{IsListing}
 use Rattle.listing.specs.programs.Private.{AreExpanded}
 use Rattle.listing.specs.programs.Stages.{IsListedFrom}
@@ -25,17 +27,22 @@ ListedNestIsTestable = (p : Program) (masks : ℕ) (n m : Nest) → IsProgram77 
     → Contains (found_in p) (InNest n) → IsListedFrom masks n m → IsReady m
 
 -- a nest whose loops can be listed, and for which masks can be made, is listed with these loops and statements, whose
--- loops are moved by any graph of it
+-- loops are moved by any graph of it, where no scalar has too many ranges
 abbrev pub LoopsAreListed : Type 0
 LoopsAreListed = (masks : ℕ) (n m k : Nest) (g : Graph) → HasNormalLoops n m → converted_nest masks m ≡ Some k
-    → k.masks < 2 ^ 32 → IsGraphOf (expanded (with_symbols_found m k)) g
-    → AreCounted (arranged (expanded (with_symbols_found m k)) (vectors_of g.edges))
-    → IsListedFrom masks n (arranged (expanded (with_symbols_found m k)) (vectors_of g.edges))
+    → k.masks < 2 ^ 32 → HaveFewRanges (substituted m k) → IsGraphOf (expanded (unexpanded m k)) g
+    → AreCounted (arranged (expanded (unexpanded m k)) (vectors_of g.edges))
+    → IsListedFrom masks n (arranged (expanded (unexpanded m k)) (vectors_of g.edges))
 
 -- its private scalars are arrays, in each listing of a program of FORTRAN 77
 abbrev pub ListedNestsAreExpanded : Type 0
 ListedNestsAreExpanded = (p : Program) (lines : List (List ℕ)) → IsProgram77 fortran77 p → (l : IsListing p lines)
     → AreExpanded 0 (found_in p) l.entries l.are
+
+-- its inductions aren't written, in each listing of a program of FORTRAN 77
+abbrev pub ListedNestsAreSubstituted : Type 0
+ListedNestsAreSubstituted = (p : Program) (lines : List (List ℕ)) → IsProgram77 fortran77 p → (l : IsListing p lines)
+    → AreSubstituted 0 (found_in p) l.entries l.are
 
 -- its loops have causes, in each listing of a program of FORTRAN 77
 abbrev pub ListedNestsHaveCauses : Type 0

@@ -10,5 +10,5 @@ use Rattle.listing.specs.programs.Listing.{HaveEntries}
 abbrev pub AreExpanded : (masks : ℕ) (fs : List Found) (entries : List Entry) → HaveEntries masks fs entries → Type 0
 AreExpanded masks [] entries h = ⊤
 AreExpanded masks (InNest n ∷ fs) entries h =
-    NoPrivateScalarIsLeft h.3.1.stages.anew h.3.0 × AreExpanded h.3.0.masks fs h.1 h.4
+    NoPrivateScalarIsLeft h.3.1.stages.named h.3.0 × AreExpanded h.3.0.masks fs h.1 h.4
 AreExpanded masks (Kept line r ∷ fs) entries h = AreExpanded masks fs h.1 h.4

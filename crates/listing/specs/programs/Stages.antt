@@ -4,11 +4,14 @@ use Rattle.std.specs.Prelude.{◌≡◌, ◌<◌, ◌^◌, ℕ, None, Some}
 use Rattle.dependence_graph.specs.declared.graphs.Graph.{Graph}
 use Rattle.dependence_graph.specs.nest_graph.Graph.{IsGraphOf}
 use Rattle.if_convert.specs.Converted.{converted_nest}
+use Rattle.inductions.specs.Nests.{inductions_substituted}
 use Rattle.interchange.specs.Arranged.{arranged, vectors_of, with_moved_loops}
 use Rattle.nest.specs.Plain.{Nest}
 use Rattle.listing.specs.programs.Counted.{AreCounted}
 use Rattle.normal_loops.specs.Listed.{IsListedFrom as HasNormalLoops}
 use Rattle.scalar_expand.specs.Expanded.{expanded}
+use Rattle.scalar_rename.specs.Ranges.{HaveFewRanges}
+use Rattle.scalar_rename.specs.Renamed.{renamed}
 use Rattle.symbols_anew.specs.Nests.{with_symbols_found}
 
 -- what each pass makes
@@ -19,6 +22,10 @@ pub record Stages : Type 0 where
   pub converted : Nest
   -- INTEGER scalars that get no value since then are symbols
   pub anew : Nest
+  -- forms of the counter stand for inductions, scalars that grow by a constant in each turn of the outermost loop
+  pub substituted : Nest
+  -- each range of a scalar's values has a name of its own
+  pub named : Nest
   -- arrays stand for private scalars
   pub expanded : Nest
   -- a graph of this one, by which its loops are moved
@@ -26,12 +33,16 @@ pub record Stages : Type 0 where
   pub arranged : Nest
 
 -- Each link: what a pass makes comes from what the passes before it made, and the first one from n. So many masks were
--- made before in the program; with those of n there are at most 2^32-1, and so many statements and references
+-- made before in the program; with those of n there are at most 2^32-1, and so many statements and references. A scalar
+-- has at most 100,000 ranges, so that their names are short enough
 pub record AreStagesOf (masks : ℕ) (n : Nest) (k : Stages) : Type 0 where
   pub normal : HasNormalLoops n k.normal
   pub converted : converted_nest masks k.normal ≡ Some k.converted
   pub is_anew : k.anew ≡ with_symbols_found k.normal k.converted
-  pub is_expanded : k.expanded ≡ expanded k.anew
+  pub is_substituted : k.substituted ≡ inductions_substituted k.anew
+  pub is_named : k.named ≡ renamed k.substituted
+  pub few : HaveFewRanges k.substituted
+  pub is_expanded : k.expanded ≡ expanded k.named
   pub is_graph : IsGraphOf k.expanded k.graph
   pub is_arranged : k.arranged ≡ arranged k.expanded (vectors_of k.graph.edges)
   pub counted : k.arranged.masks < 2 ^ 32

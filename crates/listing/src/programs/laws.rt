@@ -1,6 +1,6 @@
 //! A law is a function without a body: its contract is what holds.
 ghost use Rattle.listing.specs.programs.Laws.{ListedNestIsTestable, ListedNestsAreExpanded, ListedNestsHaveCauses};
-ghost use Rattle.listing.specs.programs.Laws.{LoopsAreListed};
+ghost use Rattle.listing.specs.programs.Laws.{ListedNestsAreSubstituted, LoopsAreListed};
 
 /// A nest that is listed with a graph, of one of a program of FORTRAN 77, can be tested.
 pub fn listed_nests_are_testable()
@@ -15,6 +15,11 @@ pub fn loops_are_listed()
 /// In no nest of a listing a scalar is left that was private before expansion, but where its element is copied to it.
 pub fn listed_nests_are_expanded()
     ensures { ListedNestsAreExpanded }
+{}
+
+/// In no nest of a listing an induction of the nest before substitution is written.
+pub fn listed_nests_are_substituted()
+    ensures { ListedNestsAreSubstituted }
 {}
 
 /// Each statement that stands in a loop of what is emitted for a nest of a listing has a cycle there, or is by itself

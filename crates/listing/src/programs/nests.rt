@@ -12,7 +12,8 @@ ghost use Rattle.normal_loops.specs.Normalised.{normalised};
 ghost use Rattle.nest.specs.View.{nest_of};
 ghost use Rattle.subscripts.specs.declared.affine.Dirs.{Dirs};
 ghost use Rattle.listing.specs.programs.Listed.{IsListedAs};
-ghost use Rattle.listing.specs.programs.Passed.{IsArrangedAs, IsExpandedOf, IsPassed, IsUnexpanded};
+ghost use Rattle.listing.specs.programs.Passed.{IsAnewOf, IsArrangedAs, IsExpandedOf, IsPassed, IsSubstitutedOf};
+ghost use Rattle.listing.specs.programs.Passed.{IsUnexpanded};
 ghost use Rattle.listing.specs.programs.Sources.{IsNestOfSource, IsNormalOfSource};
 ghost use Rattle.listing.specs.programs.Testable.{AreTestsOf, MayBeListed};
 
@@ -23,10 +24,12 @@ use dependence_graph::dep_graph::graph;
 use dependence_graph::graphs::{Graph, Hold};
 use emission::nest_emission::cycles;
 use if_convert::convert;
+use inductions::substitute_inductions;
 use interchange::{arrange, vectors_of};
 use nest::Nest;
 use normal_loops::normalise;
 use scalar_expand::expand;
+use scalar_rename::rename;
 use std::alloc::Global;
 use symbols_anew::find_symbols;
 use tree::{Line, Memory, Seq};
@@ -85,14 +88,35 @@ fn converted(alloc: Global, normal: &Nest, masks: u32) -> Result<Box<Nest>, Memo
     }
 }
 
-// What passes make before private scalars become arrays. Conversion leaves statements out, so symbols are found anew
-// behind it.
+// Conversion leaves statements out, so symbols are found anew behind it.
+fn anew(alloc: Global, normal: &Nest, masks: u32) -> Result<Box<Nest>, Memory>
+    requires { IsNormalOfSource (nest_of normal.now) }
+    ensures { IfOk result (λ new. IsAnewOf masks (nest_of normal.now) (nest_of new.value)) }
+{
+    let converted = converted(alloc, normal, masks)?;
+    find_symbols(alloc, normal, converted)
+}
+
+// With forms of the counter in place of inductions. The nest before is dropped here.
+fn substituted(alloc: Global, normal: &Nest, masks: u32) -> Result<Nest, Memory>
+    requires { IsNormalOfSource (nest_of normal.now) }
+    ensures { IfOk result (λ made. IsSubstitutedOf masks (nest_of normal.now) (nest_of made)) }
+{
+    let before = anew(alloc, normal, masks)?;
+    let nest: &Nest = &before;
+    // read so that its size is known
+    let _masks = nest.masks;
+    substitute_inductions(alloc, nest)
+}
+
+// What passes make before private scalars become arrays: each range of a scalar's values has a name of its own.
 fn unexpanded(alloc: Global, normal: &Nest, masks: u32) -> Result<Box<Nest>, Memory>
     requires { IsNormalOfSource (nest_of normal.now) }
     ensures { IfOk result (λ new. IsUnexpanded masks (nest_of normal.now) (nest_of new.value)) }
 {
-    let converted = converted(alloc, normal, masks)?;
-    find_symbols(alloc, normal, converted)
+    let made = substituted(alloc, normal, masks)?;
+    let nest = Box::new(alloc, made)?;
+    rename(alloc, nest)
 }
 
 // The nest that passes make of one whose loops go from 1 by 1, up to arrays for its private scalars. Those between are

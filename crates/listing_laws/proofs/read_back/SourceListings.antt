@@ -14,6 +14,7 @@ use Rattle.tree.specs.Plain.{Program}
 use Rattle.listing.specs.graphs.Lines.{Entry}
 use Rattle.listing.specs.programs.Listing.{IsListingText}
 use Rattle.listing.proofs.programs.Causes.{listed_nests_have_causes}
+use Rattle.listing.proofs.programs.Inductions.{listed_nests_are_substituted}
 use Rattle.listing.proofs.programs.Private.{listed_nests_are_expanded}
 use Rattle.f90_grammar.specs.PrintedText.{IsNote, with_line_feed}
 use Rattle.f90_laws.proofs.printed.PrintedLinesText.{IsLine, lines_again}
@@ -23,6 +24,7 @@ use Rattle.listing_laws.specs.reader.Reader.{read_listing}
 use Rattle.listing_laws.proofs.read_back.Listed.{program_listing_is_read}
 use Rattle.listing_laws.specs.read_back.Laws.{SourceListingIsRead, SourceListingTextIsRead, SourceListingTextLists}
 use Rattle.listing_laws.specs.read_back.Laws.{SameLinesListTheSame, SourceListingIsCaused, SourceListingIsExpanded}
+use Rattle.listing_laws.specs.read_back.Laws.{SourceListingIsSubstituted}
 
 is_program : (source : List ℕ) (p : Program) → Reads77 fortran77 source p → IsProgram77 fortran77 p
 is_program source p h =
@@ -37,6 +39,10 @@ source_listing_is_read source p lines h listing =
 pub source_listing_is_expanded : SourceListingIsExpanded
 source_listing_is_expanded source p lines h listing =
     listed_nests_are_expanded p lines (is_program source p h) listing
+
+pub source_listing_is_substituted : SourceListingIsSubstituted
+source_listing_is_substituted source p lines h listing =
+    listed_nests_are_substituted p lines (is_program source p h) listing
 
 pub source_listing_is_caused : SourceListingIsCaused
 source_listing_is_caused source p lines h listing =
@@ -74,6 +80,7 @@ module _ (source : List ℕ) (p : Program) (text : List ℕ) (h : Reads77 fortra
       };
       read = read_from_text;
       private_names = source_listing_is_expanded source p listed.lines h listed.listing;
+      inductions = source_listing_is_substituted source p listed.lines h listed.listing;
       causes = source_listing_is_caused source p listed.lines h listed.listing;
     },
     listed.text_is ∙ ap (flat_map with_line_feed) (sym same_lines),

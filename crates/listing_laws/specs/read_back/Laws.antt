@@ -11,6 +11,7 @@ use Rattle.listing_laws.specs.reader.Reader.{read_listing}
 use Rattle.find_nests.specs.Found.{found_in}
 use Rattle.listing.specs.programs.Listing.{IsListing, IsListingText}
 use Rattle.listing.specs.programs.Causes.{AreCaused}
+use Rattle.listing.specs.programs.Inductions.{AreSubstituted}
 use Rattle.listing.specs.programs.Private.{AreExpanded}
 
 -- from the lines of a program's listing its entries are read, in their order
@@ -37,6 +38,11 @@ SourceListingTextLists = (source : List ℕ) (p : Program) (text : List ℕ) →
 abbrev pub SourceListingIsExpanded : Type 0
 SourceListingIsExpanded = (source : List ℕ) (p : Program) (all : List (List ℕ)) → Reads77 fortran77 source p
     → (l : IsListing p all) → AreExpanded 0 (found_in p) l.entries l.are
+
+-- and no induction is written
+abbrev pub SourceListingIsSubstituted : Type 0
+SourceListingIsSubstituted = (source : List ℕ) (p : Program) (all : List (List ℕ)) → Reads77 fortran77 source p
+    → (l : IsListing p all) → AreSubstituted 0 (found_in p) l.entries l.are
 
 -- and each loop in which statements of them stand has its causes
 abbrev pub SourceListingIsCaused : Type 0

@@ -1,28 +1,23 @@
--- A nest that was found, with loops from 1 by 1 and with masks, whose symbols were found anew: what it has of the nest
--- before, and that it is prepared and may be expanded in its places.
-use Rattle.std.proofs.Common.{◌≡◌, refl, sym, ap, subst, ℕ, ◌≤◌, Contains, List, [], ◌∷◌, Some}
-use Rattle.prepared_passes.proofs.ConvertedNests.FoundDeclared.{are_both, prepared as prepared_before, stands, with_both}
-use Rattle.find_nests.specs.Found.{InNest, found_in}
-use Rattle.if_convert.specs.Converted.{converted_nest}
-use Rattle.meaning.specs.Dialect.{fortran77}
-use Rattle.meaning.specs.Profile77.{IsProgram77}
-use Rattle.meaning_laws.specs.profiles.Profiles.{AddMadeNames}
-use Rattle.nest.specs.Plain.{Choice, Guarded, Jump, Label, Loop, Nest, Part, Parts, Run, Turns}
-use Rattle.normal_loops.specs.Normalised.{normalised}
-use Rattle.pass_laws.specs.prepared_nests.Laws.{normal_depth}
-use Rattle.pass_laws.specs.prepared_nests.Nests.{IsPrepared}
-use Rattle.statement_passes.specs.Passes.{mapped_body}
+-- What a nest whose symbols were found anew has of the nest before.
+use Rattle.std.proofs.Common.{◌≡◌, ◌⊎◌, inl, inr, refl, sym, ap, ◌∙◌, subst, ℕ, ◌≤◌, Contains, List, [], ◌∷◌, map, length}
+use Rattle.std.specs.List.{AllByRecursion}
+use Rattle.meaning.specs.Names.{IsInByteOrder}
+use Rattle.meaning.specs.Typed.{declared}
+use Rattle.nest.specs.Plain.{Choice, Jump, Label, Loop, Nest, Part, Parts, Run, Turns}
+use Rattle.nest_order.proofs.orders.Membership.{map-In}
+use Rattle.nest_order.specs.orders.Lists.{In}
+use Rattle.pass_laws.proofs.NormalFacts.FoundSymbols.{chosen}
+use Rattle.pass_laws.proofs.PreparedNests.Lists.{Contains-In, In-Contains}
 use Rattle.statement_passes.specs.Shifted.{with_symbol, with_symbols}
 use Rattle.statement_passes.specs.Standings.{IsLoop}
 use Rattle.statement_passes.specs.Symbols.{place_of}
-use Rattle.symbols_anew.specs.Found.{new_symbols}
+use Rattle.symbols_anew.specs.Found.{is_new, known_names, names_assigned, new_symbols}
 use Rattle.symbols_anew.specs.Nests.{each_canonised, with_new, with_symbols_found, with_texts}
-use Rattle.prepared_passes.proofs.SymbolsAnew.Comes.{loop_stays}
-use Rattle.prepared_passes.proofs.SymbolsAnew.Prepared.{prepared_nest_is_prepared_anew}
-use Rattle.prepared_passes.proofs.SymbolsAnew.Sources.{found_nest_is_of_source}
-use Rattle.prepared_passes.specs.symbols.Sources.{IsOfSource}
-use Rattle.tree.specs.Plain.{Declaration, Program}
-use Rattle.prepared_passes.specs.expansion.Found.{unexpanded_depth}
+use Rattle.prepared_passes.proofs.SymbolsAnew.Comes.{loop_stays, symbols_are}
+use Rattle.prepared_passes.proofs.SymbolsAnew.Same.{mapped_loop}
+use Rattle.prepared_passes.specs.symbols.Sources.{IsOfSource, names_declared}
+use Rattle.tree.specs.Names.{IsSourceName}
+use Rattle.tree.specs.Plain.{Declaration}
 
 -- ---- what stays, whatever nest it was made of
 
@@ -51,63 +46,70 @@ symbols_loop : (n : Nest) (xs : List (List ℕ)) → IsLoop n.body → IsLoop (w
 symbols_loop n [] h = h
 symbols_loop n (x ∷ xs) h = symbols_loop (with_symbol n x) xs (loop_stays (place_of n.symbols x) n.body h)
 
-mapped_loop : (each : List Loop → ℕ → Guarded → List Guarded) (p : Part) → IsLoop p → IsLoop (mapped_body each p)
-mapped_loop each (Turns l ps) h = tt
-mapped_loop each (Run g) h = absurd h
-mapped_loop each (Choice bs ps) h = absurd h
-mapped_loop each (Label i) h = absurd h
-mapped_loop each (Jump i) h = absurd h
-
 new_loop : (n : Nest) (xs : List (List ℕ)) → IsLoop n.body → IsLoop (with_new n xs).body
 new_loop n [] h = h
 new_loop n (x ∷ xs) h =
     let m = with_symbols n (x ∷ xs) in mapped_loop (each_canonised m.symbols) m.body (symbols_loop n (x ∷ xs) h)
 
-loop_anew : (m j k : Nest) → k ≡ with_symbols_found m j → IsLoop j.body → IsLoop k.body
+pub loop_anew : (m j k : Nest) → k ≡ with_symbols_found m j → IsLoop j.body → IsLoop k.body
 unfolding with_symbols_found
 loop_anew m j k anew h = subst (λ (z : Nest). IsLoop z.body) (sym anew) (new_loop j (new_symbols m j) h)
+
+-- ---- it is of the source
+
+symbols_new : (n : Nest) (xs : List (List ℕ)) (y : List ℕ) → In y (with_new n xs).symbols → In y n.symbols ⊎ In y xs
+symbols_new n [] y i = inl i
+symbols_new n (x ∷ xs) y i = symbols_are n (x ∷ xs) y i
+
+symbols_anew : (m j k : Nest) → k ≡ with_symbols_found m j → (y : List ℕ) → In y k.symbols → In y j.symbols ⊎ In y (new_symbols m j)
+unfolding with_symbols_found
+symbols_anew m j k anew y i = symbols_new j (new_symbols m j) y (subst (λ (z : Nest). In y z.symbols) anew i)
+
+every_name : (P : List ℕ → Type 0) (xs : List (List ℕ)) → AllByRecursion P xs → (x : List ℕ) → In x xs → P x
+every_name P [] h x i = absurd i
+every_name P (y ∷ xs) h x (inl e) = subst P (sym e) h.0
+every_name P (y ∷ xs) h x (inr i) = every_name P xs h.1 x i
+
+names_each : (P : List ℕ → Type 0) (xs : List (List ℕ)) → ((x : List ℕ) → In x xs → P x) → AllByRecursion P xs
+names_each P [] f = tt
+names_each P (x ∷ xs) f = (f x (inl refl), names_each P xs (λ y i. f y (inr i)))
+
+pub source_anew : (es : List Declaration) (m j k : Nest) → k ≡ with_symbols_found m j → IsOfSource es j → IsOfSource es k
+source_anew es m j k anew source = record {
+  loop = loop_anew m j k anew source.loop;
+  names = subst (λ (xs : List (List ℕ)). AllByRecursion IsSourceName xs) (sym names_same) source.names;
+  ordered = subst (λ (xs : List (List ℕ)). IsInByteOrder xs) (sym names_same) source.ordered;
+  few = (let few = source.few in subst (λ (ds : List Declaration). length ds ≤ 1000) (sym same) few);
+  symbols = names_each (Contains (names_declared k)) k.symbols (λ y i. subst (λ (xs : List (List ℕ)). Contains xs y) (sym names_same) (by y (symbols_anew m j k anew y i)));
+  among = λ x d e. source.among x d (ap (λ (ds : List Declaration). declared ds x) (sym same) ∙ e);
+}
+  where
+    same : k.declarations ≡ j.declarations
+    same = ap (λ (z : Nest). z.declarations) (rest_anew m j k anew)
+
+    names_same : names_declared k ≡ names_declared j
+    names_same = ap (λ (ds : List Declaration). map (λ (d : Declaration). d.name) ds) same
+
+    by : (y : List ℕ) → In y j.symbols ⊎ In y (new_symbols m j) → Contains (names_declared j) y
+    by y (inl i) = every_name (Contains (names_declared j)) j.symbols source.symbols y i
+    by y (inr i) =
+        let c = chosen (is_new (names_assigned m) (known_names j)) j.declarations y i in
+        subst (λ x. Contains (names_declared j) x) (sym c.name)
+        (In-Contains c.declaration.name (names_declared j) (map-In (λ (d : Declaration). d.name) c.declaration j.declarations (Contains-In c.declaration j.declarations c.among)))
+
+-- ---- one loop
 
 pub record IsOneLoop (k : Nest) : Type 0 where
   pub loop : Loop
   pub body : Parts
   pub is_loop : k.body ≡ Turns loop body
 
-abbrev TurnsIn : Part → Type 0
+abbrev pub TurnsIn : Part → Type 0
 TurnsIn q = (l : Loop) × (ps : Parts) × (q ≡ Turns l ps)
 
-turns_in : (q : Part) → IsLoop q → TurnsIn q
+pub turns_in : (q : Part) → IsLoop q → TurnsIn q
 turns_in (Turns l ps) h = (l, ps, refl)
 turns_in (Run g) h = absurd h
 turns_in (Choice bs ps) h = absurd h
 turns_in (Label i) h = absurd h
 turns_in (Jump i) h = absurd h
-
--- ---- the nest
-
-module _ (p : Program) (n m masked k : Nest) (masks : ℕ) (is : IsProgram77 fortran77 p) (among : Contains (found_in p) (InNest n))
-    (normal : normalised n ≡ Some m) (made : converted_nest masks m ≡ Some masked) (few : masked.masks ≤ 4294967296)
-    (anew : k ≡ with_symbols_found m masked) where
-  -- by declarations of the names of p and of further made names
-  module _ (es : List Declaration) (add : AddMadeNames p.declarations es) where
-    pub of_source : IsOfSource es masked
-    of_source = found_nest_is_of_source p n m masked es masks is among normal made add
-
-    pub prepared_anew : (around : List (List ℕ)) → IsPrepared es around normal_depth masked → IsPrepared es around unexpanded_depth k
-    prepared_anew around h =
-        subst (IsPrepared es around unexpanded_depth) (sym anew)
-        (prepared_nest_is_prepared_anew es around normal_depth m masked h of_source)
-
-  -- with the counters of its loops, and with the masks
-  pub prepared : IsPrepared (with_both p n m masked masks is among normal made few)
-      (stands p n m masked masks is among normal made few).round.variables unexpanded_depth k
-  prepared =
-      let both = are_both p n m masked masks is among normal made few in
-      prepared_anew (with_both p n m masked masks is among normal made few) both.more
-      (stands p n m masked masks is among normal made few).round.variables (prepared_before p n m masked masks is among normal made few)
-
-  pub one_loop : IsOneLoop k
-  one_loop =
-      let both = are_both p n m masked masks is among normal made few in
-      let source = of_source (with_both p n m masked masks is among normal made few) both.more in
-      let t = turns_in k.body (loop_anew m masked k anew source.loop) in
-      record { loop = t.0; body = t.1; is_loop = t.2 }

@@ -11,7 +11,7 @@ use Rattle.prepared_passes.specs.expansion.Found.{ArrayNamesAreApart}
 use Rattle.prepared_passes.proofs.ExpandedNests.Names.{front_cancelled, source_is}
 
 -- nothing, or what begins with an underscore
-abbrev IsTail : List ℕ → Type 0
+abbrev pub IsTail : List ℕ → Type 0
 IsTail s = (s ≡ []) ⊎ ((r : List ℕ) × (s ≡ 95 ∷ r))
 
 joined : (s : List ℕ) → IsTail s → (c : ℕ) (y : List ℕ) → ¬ In 95 (c ∷ y) → (t : List ℕ) → ¬ (s ≡ c ∷ (y ++ t))
@@ -21,7 +21,7 @@ joined s (inr (r, f)) c y other t e =
     let first : 95 ≡ c = cc in
     other (inl first)
 
-split : (x y s t : List ℕ) → ¬ In 95 x → ¬ In 95 y → IsTail s → IsTail t → x ++ s ≡ y ++ t → (x ≡ y) × (s ≡ t)
+pub split : (x y s t : List ℕ) → ¬ In 95 x → ¬ In 95 y → IsTail s → IsTail t → x ++ s ≡ y ++ t → (x ≡ y) × (s ≡ t)
 split [] [] s t a b f g e = (refl, e)
 split [] (c ∷ y) s t a b f g e = absurd (joined s f c y b t e)
 split (c ∷ x) [] s t a b f g e = absurd (joined t g c x a s (sym e))
@@ -31,14 +31,14 @@ split (c ∷ x) (d ∷ y) s t a b f g e =
     let r = split x y s t (λ i. a (inr i)) (λ i. b (inr i)) f g rest in
     (ap₂ (λ (z : ℕ) (zs : List ℕ). z ∷ zs) head r.0, r.1)
 
-number_tail : (n : ℕ) → IsTail (number_behind n)
+pub number_tail : (n : ℕ) → IsTail (number_behind n)
 number_tail n = by (n == 1)
   where
     by : (b : Bool) → IsTail (cond b [] (codes "_" ++ decimal n))
     by true = inl refl
     by false = inr (decimal n, refl)
 
-one_number : (i j : ℕ) → i ≤ 4294967295 → j ≤ 4294967295 → number_behind i ≡ number_behind j → i ≡ j
+pub one_number : (i j : ℕ) → i ≤ 4294967295 → j ≤ 4294967295 → number_behind i ≡ number_behind j → i ≡ j
 one_number i j low high e = by (i == 1) (j == 1) refl refl e
   where
     by : (b c : Bool) → (i == 1) ≡ b → (j == 1) ≡ c → cond b [] (codes "_" ++ decimal i) ≡ cond c [] (codes "_" ++ decimal j) → i ≡ j

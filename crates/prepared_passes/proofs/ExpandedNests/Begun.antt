@@ -1,5 +1,5 @@
 -- From the moment before expansion the nest's run is followed by that of the expanded nest.
-use Rattle.std.proofs.Common.{◌≡◌, inl, inr, refl, sym, ap, ◌∙◌, subst, ℕ, ◌+◌, ℤ, pos, Bool, true, false, cond, List, [], ◌∷◌, ◌++◌, length, Result, Ok, Err, Option, Some, None, IfSome, Contains, arith}
+use Rattle.std.proofs.Common.{◌≡◌, inl, inr, refl, sym, ap, ◌∙◌, subst, ℕ, ℤ, pos, Bool, true, false, cond, List, [], ◌∷◌, ◌++◌, length, Result, Ok, Err, Option, Some, None, IfSome, Contains, arith}
 use Rattle.std.specs.Option.{IsSomeAnd}
 use Rattle.std.specs.Str.{bytes_eq}
 use Rattle.std.proofs.lemmas.Slice.Eq.{bytes_eq-Decides}
@@ -36,7 +36,8 @@ use Rattle.scalar_expand.specs.Numbers.{ends_of, limits_of}
 use Rattle.scalar_expand.specs.Privates.{or_none, private_scalars}
 use Rattle.scalar_expand.specs.Stores.{arrays}
 use Rattle.scalar_expand.specs.declared.privates.Private.{Private}
-use Rattle.prepared_passes.specs.expansion.Laws.{counters_of, value_among}
+use Rattle.prepared_passes.specs.expansion.Laws.{counters_of}
+use Rattle.prepared_passes.specs.expansion.Runs.{IsSettled}
 use Rattle.prepared_passes.specs.expansion.Places.{ExpandedNestIsBegunBefore, IsExpandedInPlaces}
 use Rattle.prepared_passes.proofs.ExpandedNests.After.{prepared_nest_runs_expanded}
 use Rattle.prepared_passes.proofs.ExpandedNests.Before.{agrees_before, earlier, holds_before, made_private, not_made, others_before, sized_before}
@@ -84,9 +85,6 @@ module _ (p b a : Program) (around : List (List ℕ)) (deepest deeper : ℕ) (m 
 
   abbrev lasts : Private → List ℕ
   lasts = ends_of (length m.symbols) (values p b a around deepest deeper m x u may sized)
-
-  abbrev value : List ℕ → ℤ
-  value = value_among m.symbols 0 (values p b a around deepest deeper m x u may sized)
 
   -- ---- the nest may be run there
 
@@ -142,12 +140,16 @@ module _ (p b a : Program) (around : List (List ℕ)) (deepest deeper : ℕ) (m 
   -- ---- the end
 
   module _ (sound : IsSound (does_all fortran77 None (loops_then_after m) v).way) where
-    led : Led (AreSettled 31 m limits lasts (counters_of m) value) (does_all fortran77 None (loops_then_after m) v)
+    settled : IsSettled 31 m (values p b a around deepest deeper m x u may sized) (does_all fortran77 None (loops_then_after m) v)
         (does_all fortran77 None (loops_then_after (expanded m)) u)
-    led =
+    settled =
         prepared_nest_runs_expanded 31 b.declarations around deepest m x.loop x.body (values p b a around deepest deeper m x u may sized) v u.store u.steps
         (omega arith) x.before x.turns x.may x.free (wide p b a around deepest deeper m x u may sized) may.going
         (alike p b a around deepest deeper m x u may sized) sound
+
+    led : Led (AreSettled 31 m limits lasts (counters_of m) settled.value) (does_all fortran77 None (loops_then_after m) v)
+        (does_all fortran77 None (loops_then_after (expanded m)) u)
+    led = settled.led
 
     abbrev s : State
     s = does_all fortran77 None (loops_then_after m) v

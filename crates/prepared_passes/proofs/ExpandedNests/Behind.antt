@@ -5,7 +5,6 @@ use Rattle.std.specs.Option.{IsSomeAnd}
 use Rattle.std.proofs.lemmas.List.{length-map}
 use Rattle.components.specs.Lists as lists
 use Rattle.last_values.specs.Endings.{all_hold, where_all_hold}
-use Rattle.last_values.specs.Scalars.{scalar}
 use Rattle.last_values.specs.normal_forms.NormalLoops.{is_positive}
 use Rattle.last_values.specs.normal_forms.Texts.{at_least_one, trip_text}
 use Rattle.meaning.specs.Blocks.{Surroundings, before_labels, labels_of}
@@ -49,9 +48,9 @@ use Rattle.scalar_expand.specs.declared.privates.Private.{Private}
 use Rattle.scalar_expand.specs.declared.privates.RoundLoop.{RoundLoop}
 use Rattle.scalar_expand.proofs.Covers.{extents_found}
 use Rattle.scalar_expand.proofs.Theorems.{in_declared}
-use Rattle.prepared_passes.specs.expansion.Laws.{MayBeExpanded, counters_of}
+use Rattle.prepared_passes.specs.expansion.Laws.{MayBeExpanded}
 use Rattle.prepared_passes.specs.expansion.Prepared.{AreDeclaredFor}
-use Rattle.prepared_passes.specs.expansion.Runs.{AreFree, IsFree, IsFreeBehind, IsOther}
+use Rattle.prepared_passes.specs.expansion.Runs.{AreFree, IsFree, IsFreeBehind, IsOther, MayGet}
 use Rattle.prepared_passes.proofs.ExpandedNests.Declared.{kept, scalar_kept, there}
 use Rattle.prepared_passes.proofs.ExpandedNests.Elements.{either_in, element_deep, element_names, element_scalar}
 use Rattle.prepared_passes.proofs.ExpandedNests.Names.{not_counter, own_apart, start, symbol_apart, symbol_no_counter}
@@ -137,8 +136,8 @@ module _ (es fs : List Declaration) (around : List (List ℕ)) (deepest : ℕ) (
   abbrev Other : List ℕ → Type 0
   Other z = IsOther m z
 
-  abbrev Target : List ℕ → Type 0
-  Target z = IsOther m z × (¬ In z m.symbols) × (¬ In z (counters_of m))
+  abbrev Target : List ℕ → Expression → Type 0
+  Target z e = MayGet m z e
 
   same : (x : List ℕ) (c : Declaration) → IsOther m x → declared es x ≡ Some c → declared fs x ≡ Some c
   same x c o e = d.kept x c o.1 e

@@ -20,7 +20,7 @@ use Rattle.tree.specs.Plain.{no_expressions, no_subscripts, subscript}
 use Rattle.tree.specs.declared.functions.Fun.{Fun}
 use Rattle.tree.specs.declared.ops.Kind.{Kind}
 use Rattle.tree.specs.declared.ops.Kind.TheVariants.{Integer}
-use Rattle.scalar_expand.specs.Expanded.{as_expression, element, element_or, expanding, named_private, variable}
+use Rattle.scalar_expand.specs.Expanded.{as_expression, element, element_or, expanding, named_private}
 use Rattle.scalar_expand.specs.declared.privates.Private.{Private}
 use Rattle.scalar_expand.specs.declared.privates.RoundLoop.{RoundLoop}
 use Rattle.prepared_passes.proofs.ExpandedNests.Elements.{counter_scalar, element_deep, element_names, element_scalar}

@@ -1,5 +1,5 @@
 -- The extents of a prepared nest's arrays are within the limits of linear forms.
-use Rattle.std.proofs.Common.{◌≡◌, refl, sym, ap, ◌∙◌, subst, inl, inr, ℕ, ◌+◌, pos, Bool, true, false, cond, List, [], ◌∷◌, ◌++◌, length, Option, Some, None, arith}
+use Rattle.std.proofs.Common.{◌≡◌, refl, sym, ap, ◌∙◌, subst, inl, inr, ℕ, pos, Bool, true, false, cond, List, [], ◌∷◌, ◌++◌, length, Option, Some, None, arith}
 use Rattle.std.specs.Prelude.{int_div}
 use Rattle.components.proofs.ListLaws.{Each-append}
 use Rattle.last_values.specs.declared.normal_forms.combinations.Multiple.{Multiple}

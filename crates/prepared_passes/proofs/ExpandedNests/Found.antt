@@ -1,10 +1,9 @@
--- A nest that was found, with loops from 1 by 1, with masks and with its symbols found anew, has a place before
--- expansion.
+-- A nest that was found, with loops from 1 by 1, with masks, with its symbols found anew, its inductions substituted and
+-- its scalars renamed, has a place before expansion.
 use Rattle.std.proofs.Common.{◌≡◌, ◌⊎◌, inl, inr, refl, sym, ap, ◌∙◌, subst, ℕ, ◌≤◌, ◌<◌, ◌^◌, Bool, true, false, Contains, List, [], map, Option, Some, None, All, arith}
 use Rattle.std.specs.Option.{IsSomeAnd, option_map}
 use Rattle.std.proofs.lemmas.List.Elements.{All-weaker}
-use Rattle.prepared_passes.proofs.ConvertedNests.FoundConverted.{found_nest_is_converted}
-use Rattle.prepared_passes.proofs.ConvertedNests.FoundDeclared.{are_both, are_counters, counted_first, no_mask, own_source, stands, with_both, with_counters}
+use Rattle.prepared_passes.proofs.ConvertedNests.FoundDeclared.{are_counters, counted_first, no_mask, own_source, stands, with_counters}
 use Rattle.prepared_passes.specs.conversion.Places.{IsMask}
 use Rattle.find_nests.specs.Found.{InNest, found_in}
 use Rattle.find_nests.specs.Laws.{IsFoundNest}
@@ -30,9 +29,9 @@ use Rattle.pass_laws.proofs.PreparedNests.Lists.{In-Contains}
 use Rattle.pass_laws.specs.prepared_nests.Made.{extent_for}
 use Rattle.pass_laws.specs.prepared_nests.Nests.{IsPrepared}
 use Rattle.pass_laws.specs.prepared_nests.Statements.{made_names}
-use Rattle.symbols_anew.specs.Nests.{with_symbols_found}
+use Rattle.scalar_rename.specs.Ranges.{HaveFewRanges}
 use Rattle.tree.specs.Names.{IsSourceName}
-use Rattle.tree.specs.Plain.{Declaration, Given, Program}
+use Rattle.tree.specs.Plain.{Declaration, Extent, Given, Program}
 use Rattle.tree.specs.declared.ops.Kind.TheVariants.{Logical}
 use Rattle.scalar_expand.specs.Expanded.{array_of, expanded, is_mask, made_before, made_now, named_private}
 use Rattle.scalar_expand.specs.Privates.{is_source, made_kind, private_scalars}
@@ -40,18 +39,20 @@ use Rattle.scalar_expand.specs.Stores.{arrays}
 use Rattle.scalar_expand.specs.declared.privates.Private.{Private}
 use Rattle.scalar_expand.proofs.Changes.{array_in, found as private_found}
 use Rattle.prepared_passes.specs.expansion.Before.{before_expansion}
-use Rattle.prepared_passes.specs.expansion.Found.{AreDeclaredAsMade, FoundNestIsExpandedInPlaces, IsFoundInPlaces, unexpanded_depth}
+use Rattle.prepared_passes.specs.expansion.Found.{AreDeclaredAsMade, FoundNestIsExpandedInPlaces, IsFoundInPlaces}
 use Rattle.prepared_passes.specs.expansion.Laws.{MayBeExpanded}
 use Rattle.prepared_passes.specs.expansion.Places.{ArePlacesOf}
 use Rattle.prepared_passes.specs.expansion.Prepared.{AreDeclaredFor}
-use Rattle.prepared_passes.specs.expansion.Runs.{IsFreeBehind}
-use Rattle.prepared_passes.proofs.ExpandedNests.Anew.{masks_anew, one_loop, prepared, prepared_anew}
-use Rattle.prepared_passes.proofs.ExpandedNests.FoundMade.{a_mask, are_scalars, made_no_source, mask_made, may_be_expanded, same_masks}
-use Rattle.prepared_passes.proofs.ExpandedNests.FreeBehind.{found_nest_with_symbols_is_free_behind}
+use Rattle.prepared_passes.specs.expansion.Unexpanded.{IsUnexpandedIn, substituted, unexpanded, unexpanded_depth}
+use Rattle.prepared_passes.specs.renaming.Renamed.{AreNamesDeclared}
+use Rattle.prepared_passes.proofs.ExpandedNests.FoundMade.{are_scalars, made_no_source, mask_made, may_be_expanded, no_extents, one_loop, prepared, range_made, same_masks}
 use Rattle.prepared_passes.proofs.ExpandedNests.MadeArrays.{made_are, made_of, made_or_not, mask_made as private_mask, mask_no_source, now_made, stays_made}
 use Rattle.prepared_passes.proofs.ExpandedNests.Names.{Named-so, array_is, found_kind, is_source_name, named_is, source_is, start}
 use Rattle.prepared_passes.proofs.ExpandedNests.Prepared.{expanded_nest_is_prepared}
+use Rattle.prepared_passes.proofs.ExpandedNests.Renaming.{are_three, one_named, with_three}
 use Rattle.prepared_passes.proofs.ExpandedNests.Scalars.{add_made_names, as_scalar, changed, counter_then, declared_then, is_named, is_other}
+use Rattle.prepared_passes.proofs.ExpandedNests.Sameness.{few_before}
+use Rattle.prepared_passes.proofs.ExpandedNests.Unexpanded.{is_unexpanded}
 
 some_same : (d e : Declaration) → Some d ≡ Some e → d ≡ e
 some_same d e f = cc
@@ -73,23 +74,23 @@ no_change xs (Some d) e = cc
 
 module _ (p a : Program) (n m masked k : Nest) (masks : ℕ) (is : IsProgram77 fortran77 p) (among : Contains (found_in p) (InNest n))
     (normal : normalised n ≡ Some m) (made : converted_nest masks m ≡ Some masked) (few : masked.masks ≤ 4294967296)
-    (anew : k ≡ with_symbols_found m masked) (add : AddMadeNames p.declarations a.declarations)
+    (anew : k ≡ unexpanded m masked) (ranges_few : HaveFewRanges (substituted m masked)) (add : AddMadeNames p.declarations a.declarations)
     (counters : All (λ (l : Loop). IsSomeAnd (declared a.declarations l.variable) IsCounter) (nest_loops m)) (made_so : AreDeclaredAsMade a (expanded k)) where
   abbrev ps : List Private
   ps = private_scalars k
 
   -- declarations by which it is prepared
   abbrev ds : List Declaration
-  ds = with_both p n m masked masks is among normal made few
+  ds = with_three p n m masked masks is among normal made few ranges_few
 
   abbrev outside : List (List ℕ)
   outside = (stands p n m masked masks is among normal made few).round.variables
 
   h : IsPrepared ds outside unexpanded_depth k
-  h = prepared p n m masked k masks is among normal made few anew
+  h = prepared p n m masked k masks is among normal made few anew ranges_few
 
   may : MayBeExpanded ds k
-  may = may_be_expanded p n m masked k masks is among normal made few anew ds (are_both p n m masked masks is among normal made few).more
+  may = may_be_expanded p n m masked k masks is among normal made few anew ranges_few ds (are_three p n m masked masks is among normal made few ranges_few).more
 
   -- those before expansion
   abbrev before : List Declaration
@@ -97,16 +98,13 @@ module _ (p a : Program) (n m masked k : Nest) (masks : ℕ) (is : IsProgram77 f
 
   add_before : AddMadeNames p.declarations before
   add_before =
-      add_made_names (made_names k) p.declarations a.declarations (made_no_source p n m masked k masks is among normal made few anew)
+      add_made_names (made_names k) p.declarations a.declarations (made_no_source p n m masked k masks is among normal made few anew ranges_few)
       (own_source p n m masked masks is among normal made few) add
 
   counters_before : All (λ (l : Loop). IsSomeAnd (declared before l.variable) IsCounter) (nest_loops m)
   counters_before =
       All-weaker (λ (l : Loop). IsSomeAnd (declared a.declarations l.variable) IsCounter) (λ (l : Loop). IsSomeAnd (declared before l.variable) IsCounter)
       (λ l c. counter_then (made_names k) a.declarations l.variable c) (nest_loops m) counters
-
-  may_before : MayBeExpanded before k
-  may_before = may_be_expanded p n m masked k masks is among normal made few anew before add_before
 
   -- ---- what is made for the expanded nest is declared
 
@@ -122,7 +120,7 @@ module _ (p a : Program) (n m masked k : Nest) (masks : ℕ) (is : IsProgram77 f
   among_now : (x : Made) → In x (made_now k.symbols ps) → In x (expanded k).made
   among_now x i = subst (λ (ms : List Made). In x ms) (sym (made_are k)) (In-right x (made_before k.symbols ps k.made) (made_now k.symbols ps) i)
 
-  -- what is private and a mask was made
+  -- what is private and no scalar of the source was made
   record IsMaskOf (q : Private) : Type 0 where
     mask : Made
     inside : In mask k.made
@@ -152,32 +150,32 @@ module _ (p a : Program) (n m masked k : Nest) (masks : ℕ) (is : IsProgram77 f
           (private_mask k.symbols ps k.made o.mask q o.inside (ap is_mask o.name ∙ e) (ap (named_private ps) o.name ∙ named_is ds outside unexpanded_depth k h may q i))
       by false e = among_now (array_of k.symbols q) (now_made k.symbols ps ps q i e)
 
-  -- a private mask's array has its name and its kind
-  array_of_mask : (x : Made) → In x k.made → (q : Private) → named_private ps x.name ≡ Some q → (q.array ≡ x.name) × (q.kind ≡ Logical)
-  array_of_mask x i q e =
+  -- its array has its name and its kind
+  array_of_made : (x : Made) → In x k.made → (q : Private) → named_private ps x.name ≡ Some q → (q.array ≡ x.name) × (q.kind ≡ x.kind)
+  array_of_made x i q e =
       let f = private_found ps x.name q e in
       by f.1 (array_is ds outside unexpanded_depth k h may q f.0) (mask_of q f.0)
     where
-      logical : (y : Made) → In y k.made → y.kind ≡ Logical
-      logical y j = ap (λ (z : Made). z.kind) (a_mask p n m masked k masks is among normal made few anew y j).is
+      by : q.name ≡ x.name → Named-so ds outside unexpanded_depth k h may q → (is_source q.name ≡ false → IsMaskOf q) → (q.array ≡ x.name) × (q.kind ≡ x.kind)
+      by f (inl (s, g)) r = absurd (made_no_source p n m masked k masks is among normal made few anew ranges_few x.name (map-In (λ (y : Made). y.name) x k.made i) (subst IsSourceName f s))
+      by f (inr (s, g)) r =
+          let o = r s in
+          let same : o.mask ≡ x = one_named k.made h.parts.made_once o.mask x o.inside i (o.name ∙ f) in
+          (g ∙ f, sym o.kind ∙ ap (λ (y : Made). y.kind) same)
 
-      by : q.name ≡ x.name → Named-so ds outside unexpanded_depth k h may q → (is_source q.name ≡ false → IsMaskOf q) → (q.array ≡ x.name) × (q.kind ≡ Logical)
-      by f (inl (s, g)) r = absurd (made_no_source p n m masked k masks is among normal made few anew x.name (map-In (λ (y : Made). y.name) x k.made i) (subst IsSourceName f s))
-      by f (inr (s, g)) r = let o = r s in (g ∙ f, sym o.kind ∙ logical o.mask o.inside)
+  -- ---- before expansion they are scalars
 
-  -- ---- before expansion the masks are LOGICAL scalars
+  abbrev IsThere : Made → Type 0
+  IsThere x = (d : Declaration) × (declared a.declarations x.name ≡ Some d) × (d.name ≡ x.name) × (d.kind ≡ x.kind)
 
-  abbrev IsLogical : Made → Type 0
-  IsLogical x = (d : Declaration) × (declared a.declarations x.name ≡ Some d) × (d.name ≡ x.name) × (d.kind ≡ Logical)
-
-  mask_declared : (x : Made) → In x k.made → IsLogical x
-  mask_declared x i = by (named_private ps x.name) refl
+  made_declared : (x : Made) → In x k.made → IsThere x
+  made_declared x i = by (named_private ps x.name) refl
     where
-      by : (o : Option Private) → named_private ps x.name ≡ o → IsLogical x
-      by None e = (as_made x, declared_so x (among_before x (stays_made k.symbols ps k.made x i e)), refl, ap (λ (z : Made). z.kind) (a_mask p n m masked k masks is among normal made few anew x i).is)
+      by : (o : Option Private) → named_private ps x.name ≡ o → IsThere x
+      by None e = (as_made x, declared_so x (among_before x (stays_made k.symbols ps k.made x i e)), refl, refl)
       by (Some q) e =
           let f = private_found ps x.name q e in
-          let r = array_of_mask x i q e in
+          let r = array_of_made x i q e in
           (as_made (array_of k.symbols q), ap (declared a.declarations) (sym r.0) ∙ declared_so (array_of k.symbols q) (array_there q f.0), r.0, r.1)
 
   scalar_before : (x : List ℕ) (d : Declaration) → In x (made_names k) → declared a.declarations x ≡ Some d → d.name ≡ x → declared before x ≡ Some (as_scalar d)
@@ -185,17 +183,26 @@ module _ (p a : Program) (n m masked k : Nest) (masks : ℕ) (is : IsProgram77 f
       declared_then (made_names k) a.declarations x
       ∙ (ap (option_map (changed (made_names k))) e ∙ ap Some (is_named (made_names k) d (subst (λ y. In y (made_names k)) (sym name) i)))
 
-  masks_before : (j : ℕ) → masks ≤ j → j < k.masks → IsSomeAnd (declared before (mask_name j)) IsMask
-  masks_before j low high =
-      let i = mask_made p n m masked k masks is among normal made few anew j low high in
-      let r = mask_declared (made_mask j) i in
-      let name = map-In (λ (y : Made). y.name) (made_mask j) k.made i in
-      subst (λ (o : Option Declaration). IsSomeAnd o IsMask) (sym (scalar_before (mask_name j) r.0 name r.1 r.2)) (record { kind = r.3; extent = refl })
+  scalar_there : (x : Made) → In x k.made → IsSomeAnd (declared before x.name) (λ (d : Declaration). (d.kind ≡ x.kind) × (d.extent ≡ Given []))
+  scalar_there x i =
+      let r = made_declared x i in
+      subst (λ (o : Option Declaration). IsSomeAnd o (λ (d : Declaration). (d.kind ≡ x.kind) × (d.extent ≡ Given [])))
+      (sym (scalar_before x.name r.0 (map-In (λ (y : Made). y.name) x k.made i) r.1 r.2)) (r.3, refl)
 
-  -- as they are of the nest whose symbols weren't found anew
+  masks_before : (j : ℕ) → masks ≤ j → j < k.masks → IsSomeAnd (declared before (mask_name j)) IsMask
+  masks_before j low high = by (declared before (mask_name j)) (scalar_there (made_mask j) (mask_made p n m masked k masks is among normal made few anew ranges_few j low high))
+    where
+      by : (o : Option Declaration) → IsSomeAnd o (λ (d : Declaration). (d.kind ≡ Logical) × (d.extent ≡ Given [])) → IsSomeAnd o IsMask
+      by None g = absurd g
+      by (Some d) g = record { kind = g.0; extent = g.1 }
+
+  -- as they are of the nest with masks
   masks_first : (j : ℕ) → masks ≤ j → j < masked.masks → IsSomeAnd (declared before (mask_name j)) IsMask
   masks_first j low high =
-      masks_before j low (subst (λ (i : ℕ). j < i) (sym (same_masks p n m masked k masks is among normal made few anew)) high)
+      masks_before j low (subst (λ (i : ℕ). j < i) (sym (same_masks p n m masked k masks is among normal made few anew ranges_few)) high)
+
+  names_before : AreNamesDeclared before (substituted m masked)
+  names_before x i = scalar_there x (range_made p n m masked k masks is among normal made few anew ranges_few x i)
 
   -- ---- both have the same names but for these
 
@@ -207,12 +214,13 @@ module _ (p a : Program) (n m masked k : Nest) (masks : ℕ) (is : IsProgram77 f
     where
       there : (y : Made) → In y k.made → y.name ≡ x → (o : Option Private) → named_private ps y.name ≡ o → declared a.declarations x ≡ Some d
       there y i f (Some q) g =
-          let r = array_of_mask y i q g in
+          let r = array_of_made y i q g in
           absurd (none (subst (λ z. In z (arrays ps)) (r.0 ∙ f) (array_in ps q (private_found ps y.name q g).0)))
       there y i f None g =
-          let one = a_mask p n m masked k masks is among normal made few anew y i in
           let is_so : declared a.declarations y.name ≡ Some (as_made y) = declared_so y (among_before y (stays_made k.symbols ps k.made y i g)) in
-          let scalar : as_scalar (as_made y) ≡ as_made y = ap (λ (z : Made). as_scalar (as_made z)) one.is ∙ sym (ap as_made one.is) in
+          let scalar : as_scalar (as_made y) ≡ as_made y
+          = ap (λ (e : Extent). let d : Declaration = record { name = y.name; kind = y.kind; extent = e } in d)
+          (sym (ap extent_for (no_extents p n m masked k masks is among normal made few anew ranges_few y i))) in
           let then = scalar_before y.name (as_made y) (map-In (λ (z : Made). z.name) y k.made i) is_so refl in
           let same : d ≡ as_made y = some_same d (as_made y) (sym e ∙ (ap (declared before) (sym f) ∙ (then ∙ ap Some scalar))) in
           ap (declared a.declarations) (sym f) ∙ (is_so ∙ ap Some (sym same))
@@ -244,41 +252,31 @@ module _ (p a : Program) (n m masked k : Nest) (masks : ℕ) (is : IsProgram77 f
   -- ---- in its places
 
   module _ (w : Surroundings) (found_nest : IsFoundNest p n) (number : n.number < 2 ^ 32) (round : All IsSourceName w.variables) (stated : IsStatement p.declarations (as_statement found_nest.loop.loop.loop) w) where
-    was_prepared : IsPrepared before w.variables unexpanded_depth k
-    was_prepared =
-        prepared_anew p n m masked k masks is among normal made few anew before add_before w.variables
-        (found_nest_is_converted p n m masked (with_counters p n m masked masks is among normal made few) before masks w found_nest is among normal made few (are_counters p n m masked masks is among normal made few).more
-        (no_mask p n m masked masks is among normal made few) (counted_first p n m masked masks is among normal made few) add_before masks_first counters_before number round stated).1
+    there : IsUnexpandedIn p (before_expansion a k) m masked k w.variables
+    there =
+        is_unexpanded p (before_expansion a k) n m masked k (with_counters p n m masked masks is among normal made few) masks w found_nest is among normal made anew ranges_few few
+        (are_counters p n m masked masks is among normal made few).more (no_mask p n m masked masks is among normal made few)
+        (counted_first p n m masked masks is among normal made few) add_before masks_first counters_before names_before number round stated
 
-    free : IsFreeBehind k
-    free =
-        subst (λ (z : Nest). MayBeExpanded before z → IsFreeBehind z) (sym anew)
-        (found_nest_with_symbols_is_free_behind p n m masked (with_counters p n m masked masks is among normal made few) before masks w found_nest is among normal made few (are_counters p n m masked masks is among normal made few).more
-        (no_mask p n m masked masks is among normal made few) (counted_first p n m masked masks is among normal made few) add_before masks_first counters_before number round stated) may_before
-
-    pub in_places : IsFoundInPlaces p a m k masks w.variables
+    pub in_places : IsFoundInPlaces p a m masked k masks w.variables
     in_places = record {
       counters = counters_before;
       masks = masks_before;
+      names = names_before;
+      goes_on = there.goes_on;
       places = record {
         places = places;
-        loop = (one_loop p n m masked k masks is among normal made few anew).loop;
-        body = (one_loop p n m masked k masks is among normal made few anew).body;
-        turns = (one_loop p n m masked k masks is among normal made few anew).is_loop;
-        before = was_prepared;
-        behind = expanded_nest_is_prepared before a.declarations w.variables unexpanded_depth k (one_loop p n m masked k masks is among normal made few anew).loop (one_loop p n m masked k masks is among normal made few anew).body was_prepared (one_loop p n m masked k masks is among normal made few anew).is_loop may_before free declared_for (omega arith);
-        may = may_before;
-        free = free;
-        scalars = are_scalars p n m masked k masks is among normal made few anew;
+        loop = (one_loop p n m masked k masks is among normal made few anew ranges_few).loop;
+        body = (one_loop p n m masked k masks is among normal made few anew ranges_few).body;
+        turns = (one_loop p n m masked k masks is among normal made few anew ranges_few).is_loop;
+        before = there.prepared;
+        behind = expanded_nest_is_prepared before a.declarations w.variables unexpanded_depth k (one_loop p n m masked k masks is among normal made few anew ranges_few).loop (one_loop p n m masked k masks is among normal made few anew ranges_few).body there.prepared (one_loop p n m masked k masks is among normal made few anew ranges_few).is_loop there.may there.free declared_for (omega arith);
+        may = there.may;
+        free = there.free;
+        scalars = are_scalars p n m masked k masks is among normal made few anew ranges_few;
       };
     }
 
--- the nest whose symbols weren't found anew has as few masks
-pub few_before : (m masked k : Nest) → k ≡ with_symbols_found m masked → k.masks ≤ 2 ^ 32 → masked.masks ≤ 4294967296
-few_before m masked k anew few =
-    let most : k.masks ≤ 4294967296 = few in
-    subst (λ (i : ℕ). i ≤ 4294967296) (masks_anew m masked k anew) most
-
 pub found_nest_is_expanded_in_places : FoundNestIsExpandedInPlaces
-found_nest_is_expanded_in_places p a n m masked k masks w found_nest is among normal made anew few add counters made_so number round stated =
-    in_places p a n m masked k masks is among normal made (few_before m masked k anew few) anew add counters made_so w found_nest number round stated
+found_nest_is_expanded_in_places p a n m masked k masks w found_nest is among normal made anew ranges_few few add counters made_so number round stated =
+    in_places p a n m masked k masks is among normal made (few_before m masked k anew few) anew ranges_few add counters made_so w found_nest number round stated

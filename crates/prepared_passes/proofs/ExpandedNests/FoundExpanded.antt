@@ -1,17 +1,15 @@
 -- The names of what passes made, and that there are declarations by which the expanded nest of one that was found is
 -- prepared: those of the program with the counters of its loops and with what passes made.
-use Rattle.std.proofs.Common.{◌≡◌, ◌⊎◌, inl, inr, refl, sym, ap, ◌∙◌, subst, ℕ, ◌≤◌, Bool, true, false, cond, codes, Contains, List, [], ◌∷◌, ◌++◌, map, length, length-append, Some, None, All, arith}
-use Rattle.std.specs.Prelude.{decimal, ◌==◌}
+use Rattle.std.proofs.Common.{◌≡◌, ◌⊎◌, inl, inr, refl, sym, ap, ◌∙◌, subst, ℕ, ◌-◌, ◌≤◌, true, false, codes, Contains, List, [], ◌∷◌, ◌++◌, map, length, length-append, Some, None, All, arith}
 use Rattle.std.specs.List.{list_all}
 use Rattle.std.specs.Option.{IsSomeAnd}
-use Rattle.std.proofs.lemmas.Fmt.{length-decimal-le}
 use Rattle.std.proofs.lemmas.List.{length-map, length-reverse}
 use Rattle.std.proofs.lemmas.List.Elements.{Contains-append_cases, Contains-append_left, Contains-append_right}
 use Rattle.std.proofs.lemmas.List.Folds.{list_all-append}
 use Rattle.components.specs.Lists.{Distinct}
 use Rattle.prepared_passes.proofs.ConvertedNests.Declaring.{AgreeOnNames, AreWith, IsMadeDeclaration, made_names as with_made_names, scalar_of, with_declarations}
-use Rattle.prepared_passes.proofs.ConvertedNests.FoundDeclared.{are_both, counter_in, counters, counts, here, number, numbered, own_are, own_source, stands, with_both}
-use Rattle.prepared_passes.proofs.ConvertedNests.MadeNames.{a_counter, agree, apart as counter_apart_mask, both_true, counter_of, counter_or_mask, goes_on, is_made, mask_below, masks_below, of_counter, small_number, stands_in_name, ten_digits}
+use Rattle.prepared_passes.proofs.ConvertedNests.FoundDeclared.{counter_in, counters, counts, here, number, numbered, own_are, own_source, stands}
+use Rattle.prepared_passes.proofs.ConvertedNests.MadeNames.{a_counter, agree, apart as counter_apart_mask, both_true, counter_of, counter_or_mask, is_made, mask_below, masks_below, of_counter, stands_in_name}
 use Rattle.find_nests.specs.Found.{InNest, found_in}
 use Rattle.if_convert.specs.Converted.{converted_nest}
 use Rattle.if_convert.specs.Masks.{mask_name}
@@ -28,14 +26,13 @@ use Rattle.nest.specs.Plain.{Loop, Made, Nest}
 use Rattle.nest_order.proofs.orders.Membership.{map-In}
 use Rattle.nest_order.specs.orders.Lists.{In}
 use Rattle.normal_loops.specs.Normalised.{normalised}
-use Rattle.pass_laws.proofs.NormalFacts.Tables.{each_in}
 use Rattle.pass_laws.specs.normal_facts.Laws.{IsCounter}
 use Rattle.pass_laws.proofs.PreparedNests.Lists.{Contains-In, within_32}
 use Rattle.pass_laws.specs.prepared_nests.Made.{extent_for}
 use Rattle.pass_laws.specs.prepared_nests.Nests.{IsPrepared}
-use Rattle.symbols_anew.specs.Nests.{with_symbols_found}
+use Rattle.scalar_rename.specs.Ranges.{HaveFewRanges, range_name}
 use Rattle.tree.specs.Names.{IsSourceName}
-use Rattle.tree.specs.Plain.{Declaration, Expression, Given, Program}
+use Rattle.tree.specs.Plain.{Declaration, Expression, Extent, Given, Program}
 use Rattle.tree.specs.declared.ops.Kind.TheVariants.{Logical}
 use Rattle.scalar_expand.specs.Expanded.{array_of, expanded, named_private}
 use Rattle.scalar_expand.specs.Privates.{array_name, made_kind, number_behind, private_scalars}
@@ -43,38 +40,23 @@ use Rattle.scalar_expand.specs.Texts.{extent_texts}
 use Rattle.scalar_expand.specs.declared.privates.Private.{Private}
 use Rattle.scalar_expand.specs.declared.privates.RoundLoop.{RoundLoop}
 use Rattle.scalar_expand.proofs.Changes.{found as private_found}
-use Rattle.prepared_passes.specs.expansion.Found.{FoundNestHasExpandedDeclarations, FoundNestHasMadeNames, FoundNestHasNoPrivateScalars, HasExpandedDeclarations, IsArrayOfNest, IsMaskOfNest, unexpanded_depth}
+use Rattle.prepared_passes.specs.expansion.Found.{FoundNestHasExpandedDeclarations, FoundNestHasMadeNames, FoundNestHasNoPrivateScalars, HasExpandedDeclarations, IsArrayOfNest, IsMaskOfNest, IsRangeOfNest}
+use Rattle.prepared_passes.specs.expansion.Unexpanded.{substituted, unexpanded, unexpanded_depth}
+use Rattle.prepared_passes.specs.renaming.Renamed.{names_made}
 use Rattle.prepared_passes.specs.expansion.Laws.{MayBeExpanded}
 use Rattle.prepared_passes.proofs.ExpandedNests.ExtentForms.{found_extents}
-use Rattle.prepared_passes.proofs.ExpandedNests.Anew.{one_loop, prepared}
-use Rattle.prepared_passes.proofs.ExpandedNests.Found.{few_before, in_places}
-use Rattle.prepared_passes.proofs.ExpandedNests.FoundMade.{a_mask, array_named, made_no_source, may_be_expanded, rise, same_declarations, same_masks, same_number}
+use Rattle.prepared_passes.proofs.ExpandedNests.Found.{in_places}
+use Rattle.prepared_passes.proofs.ExpandedNests.FoundMade.{IsOneOf, array_named, made_is_one, made_no_source, may_be_expanded, no_extents, one_loop, prepared, rise, same_declarations, same_masks, same_number}
 use Rattle.prepared_passes.proofs.ExpandedNests.Left.{expanded_nest_has_no_private_scalars}
 use Rattle.prepared_passes.proofs.ExpandedNests.Made.{all_once}
 use Rattle.prepared_passes.proofs.ExpandedNests.MadeArrays.{IsOfPrivate, made_are, made_is, made_of}
-use Rattle.prepared_passes.proofs.ExpandedNests.Names.{Named-so, array_is, array_long, found_kind, source_is, start}
+use Rattle.prepared_passes.proofs.ExpandedNests.Names.{Named-so, array_is, array_long, found_kind, fourth, fourth_loop, source_is, start}
+use Rattle.prepared_passes.proofs.ExpandedNests.RangeNames.{begins_right, short_behind}
+use Rattle.prepared_passes.proofs.ExpandedNests.Renaming.{are_three, as_scalar_made, few_ranges, fourth_letter, name_is, one_named, range_is_made, range_of, scalar_is, sub_number, with_three}
+use Rattle.prepared_passes.proofs.ExpandedNests.Sameness.{few_before}
 use Rattle.prepared_passes.proofs.ExpandedNests.Round.{array_no_counter, as_many_loops, as_many_texts}
 
 -- ---- names of arrays
-
-begins_right : (n : ℕ) → n ≤ 4294967295 → list_all stands_in_name (number_behind n) ≡ true
-begins_right n h = by (n == 1)
-  where
-    by : (b : Bool) → list_all stands_in_name (cond b [] (codes "_" ++ decimal n)) ≡ true
-    by true = refl
-    by false = goes_on (codes "_") n refl (omega (arith, h))
-
-short_behind : (n : ℕ) → n ≤ 4294967295 → length (number_behind n) ≤ 11
-short_behind n h = by (n == 1)
-  where
-    by : (b : Bool) → length (cond b [] (codes "_" ++ decimal n)) ≤ 11
-    by true = omega arith
-    by false =
-        let most : n ≤ 4294967296 = omega (arith, h) in
-        let digits = length-decimal-le 10 n (omega arith) (ten_digits n most) (small_number n most) in
-        let all = length-append (codes "_") (decimal n) in
-        let one : length (codes "_") ≡ 1 = refl in
-        omega (arith, digits, all, one)
 
 array_is_name : (x : List ℕ) (n : ℕ) → IsSourceName x → list_all stands_in_name x ≡ true → n ≤ 4294967295 → IsLongName ((codes "FV_EXP_" ++ x) ++ number_behind n)
 array_is_name x n s stands h = record {
@@ -102,35 +84,28 @@ extent_later : (es : List Expression) → dimensions (extent_for es) ≡ []
 extent_later [] = refl
 extent_later (e ∷ es) = refl
 
--- ---- lists without repeats
-
-one_named : (xs : List Made) → Distinct (map (λ (a : Made). a.name) xs) → (x y : Made) → In x xs → In y xs → x.name ≡ y.name → x ≡ y
-one_named [] d x y i j e = absurd i
-one_named (z ∷ xs) d x y (inl f) (inl g) e = f ∙ sym g
-one_named (z ∷ xs) d x y (inl f) (inr j) e = absurd (each_in (λ w. ¬ (z.name ≡ w)) (map (λ (a : Made). a.name) xs) d.0 y.name (map-In (λ (a : Made). a.name) y xs j) (ap (λ (a : Made). a.name) (sym f) ∙ e))
-one_named (z ∷ xs) d x y (inr i) (inl g) e = absurd (each_in (λ w. ¬ (z.name ≡ w)) (map (λ (a : Made). a.name) xs) d.0 x.name (map-In (λ (a : Made). a.name) x xs i) (ap (λ (a : Made). a.name) (sym g) ∙ sym e))
-one_named (z ∷ xs) d x y (inr i) (inr j) e = one_named xs d.1 x y i j e
+-- ---- the nest
 
 abbrev as_made : Made → Declaration
 as_made x = record { name = x.name; kind = x.kind; extent = extent_for x.extents }
 
 module _ (p : Program) (n m masked k : Nest) (masks : ℕ) (is : IsProgram77 fortran77 p) (among : Contains (found_in p) (InNest n))
     (normal : normalised n ≡ Some m) (made : converted_nest masks m ≡ Some masked) (few : masked.masks ≤ 4294967296)
-    (anew : k ≡ with_symbols_found m masked) where
+    (anew : k ≡ unexpanded m masked) (ranges_few : HaveFewRanges (substituted m masked)) where
   abbrev ps : List Private
   ps = private_scalars k
 
   abbrev ds : List Declaration
-  ds = with_both p n m masked masks is among normal made few
+  ds = with_three p n m masked masks is among normal made few ranges_few
 
   abbrev outside : List (List ℕ)
   outside = (stands p n m masked masks is among normal made few).round.variables
 
   h : IsPrepared ds outside unexpanded_depth k
-  h = prepared p n m masked k masks is among normal made few anew
+  h = prepared p n m masked k masks is among normal made few anew ranges_few
 
   may : MayBeExpanded ds k
-  may = may_be_expanded p n m masked k masks is among normal made few anew ds (are_both p n m masked masks is among normal made few).more
+  may = may_be_expanded p n m masked k masks is among normal made few anew ranges_few ds (are_three p n m masked masks is among normal made few ranges_few).more
 
   -- ---- what is declared
 
@@ -150,16 +125,24 @@ module _ (p : Program) (n m masked k : Nest) (masks : ℕ) (is : IsProgram77 for
   stays : (x : Made) → In x (expanded k).made → Stays x
   stays x i = made_is k.symbols ps (λ y q e. (private_found ps y q e).0) k.made x (subst (λ (ms : List Made). In x ms) (made_are k) i)
 
-  mask_is_made : (x : Made) → In x k.made → IsMadeDeclaration (as_made x)
-  mask_is_made x i =
-      let o = a_mask p n m masked k masks is among normal made few anew x i in
-      let up = rise p n m masked k masks is among normal made few anew in
-      let as_many = same_masks p n m masked k masks is among normal made few anew in
-      let below = o.below in
-      let d = scalar_of Logical (mask_name o.number) in
-      subst (λ (z : Made). IsMadeDeclaration (as_made z)) (sym o.is)
-      (is_made d (counter_or_mask (nest_loops m) (numbered p n m masked masks is among normal made few) masked.masks few d
-      (Contains-append_right counted (masks_below masked.masks) d (mask_below masked.masks o.number (omega (arith, up, below, as_many))))))
+  as_scalar_is : (x : Made) → x.extents ≡ [] → as_scalar_made x ≡ as_made x
+  as_scalar_is x e = ap (λ (y : Extent). let d : Declaration = record { name = x.name; kind = x.kind; extent = y } in d) (sym (ap extent_for e))
+
+  scalar_is_made : (x : Made) → In x k.made → IsMadeDeclaration (as_made x)
+  scalar_is_made x i = by (made_is_one p n m masked k masks is among normal made few anew ranges_few x i)
+    where
+      by : IsOneOf masks (k.masks - masks) x ⊎ In x (names_made (substituted m masked)) → IsMadeDeclaration (as_made x)
+      by (inl o) =
+          let up = rise p n m masked k masks is among normal made few anew ranges_few in
+          let as_many = same_masks p n m masked k masks is among normal made few anew ranges_few in
+          let below = o.below in
+          let d = scalar_of Logical (mask_name o.number) in
+          subst (λ (z : Made). IsMadeDeclaration (as_made z)) (sym o.is)
+          (is_made d (counter_or_mask (nest_loops m) (numbered p n m masked masks is among normal made few) masked.masks few d
+          (Contains-append_right counted (masks_below masked.masks) d (mask_below masked.masks o.number (omega (arith, up, below, as_many))))))
+      by (inr r) =
+          subst IsMadeDeclaration (as_scalar_is x (no_extents p n m masked k masks is among normal made few anew ranges_few x i))
+          (range_is_made p n m masked masks is among normal made few ranges_few x r)
 
   -- its name, where the program has the scalar
   long_name : (q : Private) → In q ps → IsSourceName q.name → list_all stands_in_name q.name ≡ true
@@ -167,12 +150,12 @@ module _ (p : Program) (n m masked k : Nest) (masks : ℕ) (is : IsProgram77 for
     where
       by : ((d : Declaration) × (declared k.declarations q.name ≡ Some d) × (d.extent ≡ Given [])) ⊎ ((declared k.declarations q.name ≡ None) × (made_kind k.made q.name ≡ Some q.kind)) → list_all stands_in_name q.name ≡ true
       by (inl r) =
-          let f = found p.declarations q.name r.0 (subst (λ es. declared es q.name ≡ Some r.0) (same_declarations p n m masked k masks is among normal made few anew) r.1) in
+          let f = found p.declarations q.name r.0 (subst (λ es. declared es q.name ≡ Some r.0) (same_declarations p n m masked k masks is among normal made few anew ranges_few) r.1) in
           let d : IsDeclaration r.0 = all_at IsDeclaration p.declarations r.0 (own_are p n m masked masks is among normal made few).each f.among in
           subst (λ x. list_all stands_in_name x ≡ true) f.name d.name.goes_on
       by (inr r) =
           let o = made_of k.made q.name q.kind r.1 in
-          absurd (made_no_source p n m masked k masks is among normal made few anew q.name (subst (λ x. In x (map (λ (a : Made). a.name) k.made)) o.name (map-In (λ (a : Made). a.name) o.made k.made o.inside)) s)
+          absurd (made_no_source p n m masked k masks is among normal made few anew ranges_few q.name (subst (λ x. In x (map (λ (a : Made). a.name) k.made)) o.name (map-In (λ (a : Made). a.name) o.made k.made o.inside)) s)
 
   array_is_made : (q : Private) → In q ps → IsMadeDeclaration (as_made (array_of k.symbols q))
   array_is_made q i = by (array_is ds outside unexpanded_depth k h may q i)
@@ -205,48 +188,64 @@ module _ (p : Program) (n m masked k : Nest) (masks : ℕ) (is : IsProgram77 for
           of (inl r) = let bad : true ≡ false = sym (source_is q.name (may.source q.name r.0 r.1)) ∙ none in cc
           of (inr r) =
               let o = made_of k.made q.name q.kind r.1 in
-              let d = mask_is_made o.made o.inside in
+              let d = scalar_is_made o.made o.inside in
               declaration (subst IsLongName (o.name ∙ sym e) d.declaration.name) (λ t. d.made (subst IsSourceName (e ∙ sym o.name) t))
 
   pub made_is_made : (x : Made) → In x (expanded k).made → IsMadeDeclaration (as_made x)
   made_is_made x i = by (stays x i)
     where
       by : Stays x → IsMadeDeclaration (as_made x)
-      by (inl r) = mask_is_made x r.0
+      by (inl r) = scalar_is_made x r.0
       by (inr r) = subst (λ (z : Made). IsMadeDeclaration (as_made z)) (sym r.2) (array_is_made r.0 r.1)
 
-  pub named_so : (x : Made) → In x (expanded k).made → IsMaskOfNest k masks x ⊎ IsArrayOfNest n x
+  abbrev IsNamedOfNest : Made → Type 0
+  IsNamedOfNest x = IsMaskOfNest k masks x ⊎ (IsArrayOfNest n x ⊎ IsRangeOfNest n x)
+
+  pub named_so : (x : Made) → In x (expanded k).made → IsMaskOfNest k masks x ⊎ (IsArrayOfNest n x ⊎ IsRangeOfNest n x)
   named_so x i = by (stays x i)
     where
-      a_mask_of : (y : Made) → In y k.made → x.name ≡ y.name → x.kind ≡ y.kind → IsMaskOfNest k masks x ⊎ IsArrayOfNest n x
-      a_mask_of y j name kind =
-          let o = a_mask p n m masked k masks is among normal made few anew y j in
-          let up = rise p n m masked k masks is among normal made few anew in
-          let below = o.below in
-          inl (record {
-            number = o.number;
-            from = o.from;
-            below = omega (arith, up, below);
-            name = name ∙ ap (λ (z : Made). z.name) o.is;
-            kind = kind ∙ ap (λ (z : Made). z.kind) o.is;
-          })
+      of_scalar : (y : Made) → In y k.made → x.name ≡ y.name → x.kind ≡ y.kind → IsNamedOfNest x
+      of_scalar y j name kind = of (made_is_one p n m masked k masks is among normal made few anew ranges_few y j)
+        where
+          of : IsOneOf masks (k.masks - masks) y ⊎ In y (names_made (substituted m masked)) → IsNamedOfNest x
+          of (inl o) =
+              let up = rise p n m masked k masks is among normal made few anew ranges_few in
+              let below = o.below in
+              inl (record {
+                number = o.number;
+                from = o.from;
+                below = omega (arith, up, below);
+                name = name ∙ ap (λ (z : Made). z.name) o.is;
+                kind = kind ∙ ap (λ (z : Made). z.kind) o.is;
+              })
+          of (inr r) =
+              let q = range_of p n m masked masks is among normal made few y r in
+              let below = q.below in
+              let most = few_ranges p n m masked masks is among normal made few ranges_few q.web q.inside in
+              inr (inr (record {
+                scalar = q.web.name;
+                source = scalar_is p n m masked masks is among normal made few q.web q.inside;
+                range = q.range;
+                few = omega (arith, below, most);
+                name = name ∙ (name_is p n m masked masks is among normal made few y r ∙ ap (λ c. range_name c q.web.name q.range) (sub_number p n m masked masks is among normal made few));
+              }))
 
-      of_array : (q : Private) → In q ps → x ≡ array_of k.symbols q → Named-so ds outside unexpanded_depth k h may q → IsMaskOfNest k masks x ⊎ IsArrayOfNest n x
-      of_array q j e (inl (s, f)) = inr (record {
+      of_array : (q : Private) → In q ps → x ≡ array_of k.symbols q → Named-so ds outside unexpanded_depth k h may q → IsNamedOfNest x
+      of_array q j e (inl (s, f)) = inr (inl (record {
         scalar = q.name;
         source = s;
-        name = ap (λ (z : Made). z.name) e ∙ (array_named k q j ∙ ap (λ c. array_name c q.name) (same_number p n m masked k masks is among normal made few anew));
-      })
+        name = ap (λ (z : Made). z.name) e ∙ (array_named k q j ∙ ap (λ c. array_name c q.name) (same_number p n m masked k masks is among normal made few anew ranges_few));
+      }))
       of_array q j e (inr (none, f)) = of (found_kind k.declarations (made_kind k.made q.name) q.name q.kind (start ds outside unexpanded_depth k h may q j).kind)
         where
-          of : ((d : Declaration) × (declared k.declarations q.name ≡ Some d) × (d.extent ≡ Given [])) ⊎ ((declared k.declarations q.name ≡ None) × (made_kind k.made q.name ≡ Some q.kind)) → IsMaskOfNest k masks x ⊎ IsArrayOfNest n x
+          of : ((d : Declaration) × (declared k.declarations q.name ≡ Some d) × (d.extent ≡ Given [])) ⊎ ((declared k.declarations q.name ≡ None) × (made_kind k.made q.name ≡ Some q.kind)) → IsNamedOfNest x
           of (inl r) = let bad : true ≡ false = sym (source_is q.name (may.source q.name r.0 r.1)) ∙ none in cc
           of (inr r) =
               let o = made_of k.made q.name q.kind r.1 in
-              a_mask_of o.made o.inside (ap (λ (z : Made). z.name) e ∙ (f ∙ sym o.name)) (ap (λ (z : Made). z.kind) e ∙ sym o.kind)
+              of_scalar o.made o.inside (ap (λ (z : Made). z.name) e ∙ (f ∙ sym o.name)) (ap (λ (z : Made). z.kind) e ∙ sym o.kind)
 
-      by : Stays x → IsMaskOfNest k masks x ⊎ IsArrayOfNest n x
-      by (inl r) = a_mask_of x r.0 refl refl
+      by : Stays x → IsNamedOfNest x
+      by (inl r) = of_scalar x r.0 refl refl
       by (inr r) = of_array r.0 r.1 r.2 (array_is ds outside unexpanded_depth k h may r.0 r.1)
 
   -- ---- they are declared together
@@ -265,11 +264,17 @@ module _ (p : Program) (n m masked k : Nest) (masks : ℕ) (is : IsProgram77 for
   counts_none : (d : Declaration) (x : Made) → Contains counted d → In x (expanded k).made → ¬ (d.name ≡ x.name)
   counts_none d x c i e = by (stays x i)
     where
-      by : Stays x → ⊥
-      by (inl r) =
+      of_scalar : IsOneOf masks (k.masks - masks) x ⊎ In x (names_made (substituted m masked)) → ⊥
+      of_scalar (inl one) =
           let o = of_counter (nest_loops m) (numbered p n m masked masks is among normal made few) d c in
-          let one = a_mask p n m masked k masks is among normal made few anew x r.0 in
           counter_apart_mask o.numbered.number one.number (o.numbered.is ∙ (e ∙ ap (λ (z : Made). z.name) one.is))
+      of_scalar (inr r) =
+          let o = of_counter (nest_loops m) (numbered p n m masked masks is among normal made few) d c in
+          let bad : 78 ≡ 76 = sym (fourth_letter p n m masked masks is among normal made few x r) ∙ (ap fourth (sym e ∙ sym o.numbered.is) ∙ fourth_loop o.numbered.number) in
+          absurd (omega (arith, bad))
+
+      by : Stays x → ⊥
+      by (inl r) = of_scalar (made_is_one p n m masked k masks is among normal made few anew ranges_few x r.0)
       by (inr r) =
           let o = of_counter (nest_loops m) (numbered p n m masked masks is among normal made few) d c in
           array_no_counter ds outside unexpanded_depth k h may r.0 r.1 o.numbered.number (sym (ap (λ (z : Made). z.name) r.2) ∙ (sym e ∙ sym o.numbered.is))
@@ -314,20 +319,21 @@ module _ (p : Program) (n m masked k : Nest) (masks : ℕ) (is : IsProgram77 for
   has : HasExpandedDeclarations k
   has =
       let s = stands p n m masked masks is among normal made few in
-      let f = in_places p (record p { declarations = all }) n m masked k masks is among normal made few anew are_all.more counted_so
+      let f = in_places p (record p { declarations = all }) n m masked k masks is among normal made few anew ranges_few are_all.more counted_so
       (λ x c. are_all.declared (as_made x) (Contains-append_right counted arrays (as_made x) (in_map as_made (expanded k).made x c))) s.round (here p n m masked masks is among normal made few) (number p n m masked masks is among normal made few) s.named s.is in
       record { declarations = all; around = s.round.variables; are = are_all.more.are; prepared = f.places.behind }
 
 pub found_nest_has_expanded_declarations : FoundNestHasExpandedDeclarations
-found_nest_has_expanded_declarations p n m masked k masks is among normal made anew few =
-    has p n m masked k masks is among normal made (few_before m masked k anew few) anew
+found_nest_has_expanded_declarations p n m masked k masks is among normal made anew ranges_few few =
+    has p n m masked k masks is among normal made (few_before m masked k anew few) anew ranges_few
 
 pub found_nest_has_made_names : FoundNestHasMadeNames
-found_nest_has_made_names p n m masked k masks is among normal made anew few x c =
-    named_so p n m masked k masks is among normal made (few_before m masked k anew few) anew x (Contains-In x (expanded k).made c)
+found_nest_has_made_names p n m masked k masks is among normal made anew ranges_few few x c =
+    named_so p n m masked k masks is among normal made (few_before m masked k anew few) anew ranges_few x (Contains-In x (expanded k).made c)
 
 pub found_nest_has_no_private_scalars : FoundNestHasNoPrivateScalars
-found_nest_has_no_private_scalars p n m masked k masks is among normal made anew few =
+found_nest_has_no_private_scalars p n m masked k masks is among normal made anew ranges_few few =
     let least = few_before m masked k anew few in
-    let o = one_loop p n m masked k masks is among normal made least anew in
-    expanded_nest_has_no_private_scalars (ds p n m masked k masks is among normal made least anew) (outside p n m masked k masks is among normal made least anew) unexpanded_depth k o.loop o.body (h p n m masked k masks is among normal made least anew) o.is_loop (may p n m masked k masks is among normal made least anew)
+    let o = one_loop p n m masked k masks is among normal made least anew ranges_few in
+    expanded_nest_has_no_private_scalars (ds p n m masked k masks is among normal made least anew ranges_few) (outside p n m masked k masks is among normal made least anew ranges_few) unexpanded_depth k o.loop o.body
+    (h p n m masked k masks is among normal made least anew ranges_few) o.is_loop (may p n m masked k masks is among normal made least anew ranges_few)

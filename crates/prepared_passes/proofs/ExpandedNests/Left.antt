@@ -1,5 +1,5 @@
 -- No private scalar is left as a scalar in the expanded nest but in its copies.
-use Rattle.std.proofs.Common.{◌≡◌, ◌⊎◌, inl, inr, refl, sym, ap, ◌∙◌, subst, ℕ, ◌+◌, pos, false, All, List, [], ◌∷◌, ◌++◌, map, reverse, length, Option, Some, None, arith}
+use Rattle.std.proofs.Common.{◌≡◌, ◌⊎◌, inl, inr, refl, sym, ap, ◌∙◌, subst, ℕ, pos, false, All, List, [], ◌∷◌, ◌++◌, map, reverse, length, Option, Some, None, arith}
 use Rattle.std.specs.Option.{option_map}
 use Rattle.last_values.specs.Scalars.{scalar}
 use Rattle.meaning.specs.Typed.{number_of_subscripts}

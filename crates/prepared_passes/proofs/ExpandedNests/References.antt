@@ -1,5 +1,5 @@
 -- The references of a statement in which private scalars have become elements, and where each comes from.
-use Rattle.std.proofs.Common.{◌≡◌, ◌⊎◌, inl, inr, refl, sym, ap, ◌∙◌, subst, ℕ, ◌+◌, List, [], ◌∷◌, ◌++◌, map, Option, Some, None, arith}
+use Rattle.std.proofs.Common.{◌≡◌, ◌⊎◌, inl, inr, refl, sym, ap, ◌∙◌, subst, ℕ, List, [], ◌∷◌, ◌++◌, map, Option, Some, None, arith}
 use Rattle.std.specs.Option.{IsSomeAnd, option_map}
 use mathlib.Core.List.{reverse_aux}
 use Rattle.tree.specs.Plain.{Apply, Binary, Constructor, Declaration, Expression, Expressions, Given, Logic, Named, Number, Only, Reduce, Reference, Reshape, Section, Spread, Subscript, Subscripts, Transpose, Unary, expression, no_expressions, no_subscripts, subscript, subscripts}

@@ -28,7 +28,6 @@ use Rattle.tree.specs.declared.ops.Kind.{Kind}
 use Rattle.scalar_expand.specs.Expanded.{array_of}
 use Rattle.scalar_expand.specs.Extents.{extent_under, extents_under}
 use Rattle.scalar_expand.specs.Privates.{declared_kind, kind_if_scalar, kind_of_scalar, made_kind, private_among, private_scalars, round_loop, trips_of}
-use Rattle.scalar_expand.specs.Stores.{arrays}
 use Rattle.scalar_expand.specs.Texts.{extent_text, extent_texts, texts_with}
 use Rattle.scalar_expand.specs.declared.privates.Private.{Private}
 use Rattle.scalar_expand.specs.declared.privates.RoundLoop.{RoundLoop}

@@ -1,5 +1,5 @@
 -- The loops round a statement of a prepared nest: how often they turn, and the forms of their variables.
-use Rattle.std.proofs.Common.{◌≡◌, ◌⊎◌, inl, inr, refl, sym, ap, ap₂, ◌∙◌, subst, ℕ, suc, ◌+◌, ◌≤◌, ℤ, pos, negsuc, Bool, true, false, cond, List, [], ◌∷◌, ◌++◌, map, length, drop, Option, Some, arith}
+use Rattle.std.proofs.Common.{◌≡◌, ◌⊎◌, inl, inr, refl, sym, ap, ap₂, ◌∙◌, subst, ℕ, suc, ◌≤◌, ℤ, pos, negsuc, Bool, true, false, cond, List, [], ◌∷◌, ◌++◌, map, length, drop, Option, Some, arith}
 use Rattle.std.specs.Prelude.{IsSome, int_div, nat_le}
 use Rattle.std.proofs.lemmas.List.{length-drop, length-map}
 use Rattle.tree.specs.Plain.{Declaration, Expression, Named, no_subscripts}
@@ -26,7 +26,6 @@ use Rattle.pass_laws.proofs.PreparedNests.Trips.{BearsNumber, bears_number, name
 use Rattle.pass_laws.proofs.PreparedNests.Walks.{AreRound, Follow}
 use Rattle.pass_laws.specs.prepared_nests.Loops.{IsPreparedLoop, IsPreparedTrip, variables_of_loops}
 use Rattle.pass_laws.specs.prepared_nests.Nests.{IsPrepared, IsPreparedSymbol}
-use Rattle.scalar_expand.proofs.Changes.{found}
 use Rattle.scalar_expand.specs.Flow.{AreTurns}
 use Rattle.scalar_expand.specs.Numbers.{at_loops, number_under, trip_at, turns_to}
 use Rattle.scalar_expand.specs.Privates.{trip_or_none}

@@ -35,6 +35,13 @@ in_either {A} (z ∷ zs) (suc k) x y (inr i) = by (in_either zs k x y i)
     by (inl e) = inl e
     by (inr j) = inr (inr j)
 
+-- what comes in is there
+pub itself : {A : Type 0} (xs : List A) (k : ℕ) (x : A) → In x (insert xs k x)
+itself [] zero x = inl refl
+itself [] (suc k) x = inl refl
+itself (z ∷ zs) zero x = inl refl
+itself (z ∷ zs) (suc k) x = inr (itself zs k x)
+
 pub length_more : {A : Type 0} (xs : List A) (k : ℕ) (x : A) → length (insert xs k x) ≡ length xs + 1
 length_more [] zero x = refl
 length_more [] (suc k) x = refl
@@ -90,7 +97,7 @@ unfolding IsDistinct
 ordered_distinct [] h = tt
 ordered_distinct (x ∷ xs) h = (each_apart x xs h.0, ordered_distinct xs h.1)
 
-member : (ys : List (List ℕ)) (x : List ℕ) → In x ys → is_among ys x ≡ true
+pub member : (ys : List (List ℕ)) (x : List ℕ) → In x ys → is_among ys x ≡ true
 member [] x i = absurd i
 member (y ∷ ys) x (inl e) = ap (λ b. b || is_among ys x) ((bytes_eq-Decides x y).1 e)
 member (y ∷ ys) x (inr i) = by (bytes_eq x y) (member ys x i)

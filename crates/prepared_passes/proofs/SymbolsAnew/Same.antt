@@ -2,12 +2,13 @@
 use Rattle.std.proofs.Common.{◌≡◌, ◌⊎◌, inl, inr, refl, sym, ap, ◌∙◌, subst, ℕ, not, ◌&&◌, List, [], ◌∷◌, map}
 use Rattle.meaning.specs.Names.{is_among}
 use Rattle.nest.specs.Bodies.{Standing, nest_loops, nest_statements}
-use Rattle.nest.specs.Plain.{Loop, Nest}
+use Rattle.nest.specs.Plain.{Choice, Guarded, Jump, Label, Loop, Nest, Part, Run, Turns}
 use Rattle.nest_order.proofs.orders.Membership.{In-map}
 use Rattle.nest_order.specs.orders.Lists.{In}
 use Rattle.nest_order.specs.shapes.Shapes.{IsPlain}
 use Rattle.nest_reasons.specs.Symbols.{is_integer_scalar}
 use Rattle.pass_laws.proofs.NormalFacts.FoundSymbols.{chosen}
+use Rattle.statement_passes.specs.Passes.{mapped_body}
 use Rattle.statement_passes.specs.Shifted.{shifted_loop, with_symbol, with_symbols}
 use Rattle.statement_passes.specs.Standings.{IsLoop, shifted_standing}
 use Rattle.statement_passes.specs.Symbols.{place_of}
@@ -34,15 +35,23 @@ mapped_in f same n m are x i =
     let o = In-map f x (nest_statements n) (subst (In x) are i) in
     subst (λ z. In z (names_assigned n)) (sym (ap (λ (s : Standing). s.statement.left.name) o.is ∙ same o.it)) (assigned_in (nest_statements n) o.it o.inside)
 
+-- a loop stays one
+pub mapped_loop : (each : List Loop → ℕ → Guarded → List Guarded) (p : Part) → IsLoop p → IsLoop (mapped_body each p)
+mapped_loop each (Turns l ps) h = tt
+mapped_loop each (Run g) h = absurd h
+mapped_loop each (Choice bs ps) h = absurd h
+mapped_loop each (Label i) h = absurd h
+mapped_loop each (Jump i) h = absurd h
+
 -- ---- symbols that come in
 
-record IsSame (n m : Nest) : Type 0 where
-  plain : IsPlain m.body
-  loop : IsLoop m.body
-  assigned : (z : List ℕ) → In z (names_assigned m) → In z (names_assigned n)
-  rest : m ≡ record n { symbols = m.symbols; body = m.body }
-  loops : map without_trip (nest_loops m) ≡ map without_trip (nest_loops n)
-  kept : (y : List ℕ) → In y n.symbols → In y m.symbols
+pub record IsSame (n m : Nest) : Type 0 where
+  pub plain : IsPlain m.body
+  pub loop : IsLoop m.body
+  pub assigned : (z : List ℕ) → In z (names_assigned m) → In z (names_assigned n)
+  pub rest : m ≡ record n { symbols = m.symbols; body = m.body }
+  pub loops : map without_trip (nest_loops m) ≡ map without_trip (nest_loops n)
+  pub kept : (y : List ℕ) → In y n.symbols → In y m.symbols
 
 all_assigned : (n m : Nest) → ((x : Standing) → In x (nest_statements m) → In x.statement.left.name (names_assigned n)) → (z : List ℕ) → In z (names_assigned m) → In z (names_assigned n)
 all_assigned n m f z i =
@@ -66,7 +75,7 @@ one_same n x plain loop =
       kept = λ y i. in_more n.symbols (place_of n.symbols x) x y i;
     }
 
-all_same : (n : Nest) (xs : List (List ℕ)) → IsPlain n.body → IsLoop n.body → IsSame n (with_symbols n xs)
+pub all_same : (n : Nest) (xs : List (List ℕ)) → IsPlain n.body → IsLoop n.body → IsSame n (with_symbols n xs)
 all_same n [] plain loop = record { plain = plain; loop = loop; assigned = λ z i. i; rest = refl; loops = refl; kept = λ y i. i }
 all_same n (x ∷ xs) plain loop =
     let one = one_same n x plain loop in

@@ -1,5 +1,5 @@
--- A nest that is found in a program of FORTRAN 77, with loops from 1 by 1, with masks, and with its symbols found anew,
--- and the expanded one.
+-- A nest that is found in a program of FORTRAN 77, with loops from 1 by 1, with masks, with its symbols found anew, its
+-- inductions substituted and its scalars renamed, and the expanded one.
 use Rattle.std.specs.Prelude.{◌≡◌, ◌⊎◌, ℕ, ◌+◌, ◌<◌, ◌≤◌, ◌^◌, IsSomeAnd, Some, All, Contains, List}
 use Rattle.tree.specs.Names.{IsSourceName}
 use Rattle.tree.specs.Plain.{Declaration, Program}
@@ -17,7 +17,6 @@ use Rattle.nest.specs.Bodies.{nest_loops}
 use Rattle.nest.specs.Plain.{Loop, Made, Nest}
 use Rattle.normal_loops.specs.Normalised.{normalised}
 use Rattle.pass_laws.specs.normal_facts.Laws.{IsCounter}
-use Rattle.pass_laws.specs.prepared_nests.Laws.{normal_depth}
 use Rattle.pass_laws.specs.prepared_nests.Made.{extent_for}
 use Rattle.pass_laws.specs.prepared_nests.Nests.{IsPrepared}
 use Rattle.if_convert.specs.Converted.{converted_nest}
@@ -26,18 +25,17 @@ use Rattle.prepared_passes.specs.conversion.Places.{IsMask}
 use Rattle.symbols_anew.specs.Nests.{with_symbols_found}
 use Rattle.scalar_expand.specs.Expanded.{expanded}
 use Rattle.scalar_expand.specs.Privates.{array_name}
+use Rattle.scalar_rename.specs.Ranges.{HaveFewRanges, most_ranges, range_name}
 use Rattle.prepared_passes.specs.expansion.Before.{before_expansion}
 use Rattle.prepared_passes.specs.expansion.Left.{NoPrivateScalarIsLeft}
 use Rattle.prepared_passes.specs.expansion.Places.{IsExpandedInPlaces}
+use Rattle.prepared_passes.specs.expansion.Unexpanded.{GoesOnAs, substituted, unexpanded, unexpanded_depth}
+use Rattle.prepared_passes.specs.renaming.Renamed.{AreNamesDeclared}
 
 -- what passes made for the nest m is declared by its kind and its extents
 abbrev pub AreDeclaredAsMade : Program → Nest → Type 0
 AreDeclaredAsMade a m = (x : Made) → Contains m.made x
     → declared a.declarations x.name ≡ Some (record { name = x.name; kind = x.kind; extent = extent_for x.extents })
-
--- before expansion, with canonical text by all symbols, which is at most 18 deeper
-abbrev pub unexpanded_depth : ℕ
-unexpanded_depth = normal_depth + 18
 
 -- expressions rise by at most one
 abbrev pub expanded_depth : ℕ
@@ -45,26 +43,31 @@ expanded_depth = unexpanded_depth + 1
 
 -- ---- its places
 
--- The nest k has masks from this number on, in place of what m has. Before expansion the counters of its loops and its
--- masks are declared, and it is expanded in the place of a
-pub record IsFoundInPlaces (p a : Program) (m k : Nest) (first : ℕ) (around : List (List ℕ)) : Type 0 where
+-- The nest k has masks from this number on, in place of what m has. Before expansion the counters of its loops, its
+-- masks and the names of ranges are declared, it goes on as the nest with its symbols found anew, and it is expanded in
+-- the place of a
+pub record IsFoundInPlaces (p a : Program) (m masked k : Nest) (first : ℕ) (around : List (List ℕ)) : Type 0 where
   pub counters : All (λ (l : Loop). IsSomeAnd (declared (before_expansion a k).declarations l.variable) IsCounter)
       (nest_loops m)
   pub masks : (i : ℕ) → first ≤ i → i < k.masks
       → IsSomeAnd (declared (before_expansion a k).declarations (mask_name i)) IsMask
+  pub names : AreNamesDeclared (before_expansion a k).declarations (substituted m masked)
+  pub goes_on : GoesOnAs p (before_expansion a k) (with_symbols_found m masked) k
   pub places : IsExpandedInPlaces p (before_expansion a k) a around unexpanded_depth expanded_depth k
 
--- Let k be made of the nest n of p, with loops from 1 by 1, with masks, and with its symbols found anew. The program a
--- has the names of p, the counters of its loops, what passes made for the expanded nest, and maybe further made names
+-- Let k be made of the nest n of p, with loops from 1 by 1, with masks, with its symbols found anew, its inductions
+-- substituted and its scalars renamed, of which none has too many ranges. The program a has the names of p, the
+-- counters of its loops, what passes made for the expanded nest, and maybe further made names
 abbrev pub FoundNestIsExpandedInPlaces : Type 0
 FoundNestIsExpandedInPlaces = (p a : Program) (n m masked k : Nest) (masks : ℕ) (w : Surroundings)
     (found : IsFoundNest p n) → IsProgram77 fortran77 p → Contains (found_in p) (InNest n)
     → normalised n ≡ Some m → converted_nest masks m ≡ Some masked
-    → k ≡ with_symbols_found m masked → k.masks ≤ 2 ^ 32
+    → k ≡ unexpanded m masked → HaveFewRanges (substituted m masked) → k.masks ≤ 2 ^ 32
     → AddMadeNames p.declarations a.declarations
     → All (λ (l : Loop). IsSomeAnd (declared a.declarations l.variable) IsCounter) (nest_loops m)
     → AreDeclaredAsMade a (expanded k) → n.number < 2 ^ 32 → All IsSourceName w.variables
-    → IsStatement p.declarations (as_statement found.loop.loop.loop) w → IsFoundInPlaces p a m k masks w.variables
+    → IsStatement p.declarations (as_statement found.loop.loop.loop) w
+    → IsFoundInPlaces p a m masked k masks w.variables
 
 -- ---- its declarations
 
@@ -79,7 +82,7 @@ pub record HasExpandedDeclarations (k : Nest) : Type 0 where
 abbrev pub FoundNestHasExpandedDeclarations : Type 0
 FoundNestHasExpandedDeclarations = (p : Program) (n m masked k : Nest) (masks : ℕ) → IsProgram77 fortran77 p
     → Contains (found_in p) (InNest n) → normalised n ≡ Some m → converted_nest masks m ≡ Some masked
-    → k ≡ with_symbols_found m masked → k.masks ≤ 2 ^ 32
+    → k ≡ unexpanded m masked → HaveFewRanges (substituted m masked) → k.masks ≤ 2 ^ 32
     → HasExpandedDeclarations k
 
 -- ---- the names of what is made
@@ -98,21 +101,35 @@ pub record IsArrayOfNest (n : Nest) (x : Made) : Type 0 where
   pub source : IsSourceName scalar
   pub name : x.name ≡ array_name n.number scalar
 
+-- a scalar or an array for a range of a scalar of the source, by the number of the nest
+pub record IsRangeOfNest (n : Nest) (x : Made) : Type 0 where
+  pub scalar : List ℕ
+  pub source : IsSourceName scalar
+  pub range : ℕ
+  pub few : range < most_ranges
+  pub name : x.name ≡ range_name n.number scalar range
+
 abbrev pub FoundNestHasMadeNames : Type 0
 FoundNestHasMadeNames = (p : Program) (n m masked k : Nest) (masks : ℕ) → IsProgram77 fortran77 p
     → Contains (found_in p) (InNest n) → normalised n ≡ Some m → converted_nest masks m ≡ Some masked
-    → k ≡ with_symbols_found m masked → k.masks ≤ 2 ^ 32
-    → (x : Made) → Contains (expanded k).made x → IsMaskOfNest k masks x ⊎ IsArrayOfNest n x
+    → k ≡ unexpanded m masked → HaveFewRanges (substituted m masked) → k.masks ≤ 2 ^ 32
+    → (x : Made) → Contains (expanded k).made x
+    → IsMaskOfNest k masks x ⊎ (IsArrayOfNest n x ⊎ IsRangeOfNest n x)
 
 -- nests with numbers of their own have arrays with names of their own
 abbrev pub ArrayNamesAreApart : Type 0
 ArrayNamesAreApart = (i j : ℕ) (x y : List ℕ) → i < 2 ^ 32 → j < 2 ^ 32 → IsSourceName x → IsSourceName y
     → array_name i x ≡ array_name j y → (i ≡ j) × (x ≡ y)
 
+-- and names of ranges of their own
+abbrev pub RangeNamesAreApart : Type 0
+RangeNamesAreApart = (i j : ℕ) (x y : List ℕ) (a b : ℕ) → i < 2 ^ 32 → j < 2 ^ 32 → a < most_ranges → b < most_ranges
+    → IsSourceName x → IsSourceName y → range_name i x a ≡ range_name j y b → (i ≡ j) × (x ≡ y) × (a ≡ b)
+
 -- ---- its private scalars
 
 abbrev pub FoundNestHasNoPrivateScalars : Type 0
 FoundNestHasNoPrivateScalars = (p : Program) (n m masked k : Nest) (masks : ℕ) → IsProgram77 fortran77 p
     → Contains (found_in p) (InNest n) → normalised n ≡ Some m → converted_nest masks m ≡ Some masked
-    → k ≡ with_symbols_found m masked → k.masks ≤ 2 ^ 32
+    → k ≡ unexpanded m masked → HaveFewRanges (substituted m masked) → k.masks ≤ 2 ^ 32
     → NoPrivateScalarIsLeft k (expanded k)

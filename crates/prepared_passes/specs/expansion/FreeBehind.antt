@@ -18,7 +18,6 @@ use Rattle.pass_laws.specs.normal_facts.Laws.{IsCounter}
 use Rattle.if_convert.specs.Converted.{converted_nest}
 use Rattle.if_convert.specs.Masks.{mask_name}
 use Rattle.prepared_passes.specs.conversion.Places.{IsMask}
-use Rattle.symbols_anew.specs.Nests.{with_symbols_found}
 use Rattle.prepared_passes.specs.expansion.Laws.{MayBeExpanded}
 use Rattle.prepared_passes.specs.expansion.Runs.{IsFreeBehind}
 
@@ -37,17 +36,3 @@ FoundNestIsFreeBehind = (p : Program) (n m k : Nest) (ds es : List Declaration) 
     → n.number < 2 ^ 32 → All IsSourceName w.variables
     → IsStatement p.declarations (as_statement found.loop.loop.loop) w
     → MayBeExpanded es k → IsFreeBehind k
-
--- The same of that nest with all its symbols
-abbrev pub FoundNestWithSymbolsIsFreeBehind : Type 0
-FoundNestWithSymbolsIsFreeBehind = (p : Program) (n m j : Nest) (ds es : List Declaration) (masks : ℕ)
-    (w : Surroundings) (found : IsFoundNest p n) → IsProgram77 fortran77 p → Contains (found_in p) (InNest n)
-    → normalised n ≡ Some m → converted_nest masks m ≡ Some j → j.masks ≤ 2 ^ 32
-    → AddMadeNames p.declarations ds → ((i : ℕ) → declared ds (mask_name i) ≡ None)
-    → All (λ (l : Loop). IsSomeAnd (declared ds l.variable) IsCounter) (nest_loops m)
-    → AddMadeNames p.declarations es
-    → ((i : ℕ) → masks ≤ i → i < j.masks → IsSomeAnd (declared es (mask_name i)) IsMask)
-    → All (λ (l : Loop). IsSomeAnd (declared es l.variable) IsCounter) (nest_loops m)
-    → n.number < 2 ^ 32 → All IsSourceName w.variables
-    → IsStatement p.declarations (as_statement found.loop.loop.loop) w
-    → MayBeExpanded es (with_symbols_found m j) → IsFreeBehind (with_symbols_found m j)

@@ -7,21 +7,17 @@ use Rattle.meaning.specs.Dialect.{fortran77}
 use Rattle.meaning.specs.Profile77.{IsProgram77}
 use Rattle.meaning.specs.Run.{State, does_all}
 use Rattle.meaning_laws.specs.profiles.Profiles.{AddMadeNames}
-use Rattle.nest.specs.Blocks.{statement_of_part}
 use Rattle.nest.specs.Plain.{Nest}
 use Rattle.nest_order.specs.shapes.Shapes.{IsPlain}
 use Rattle.normal_loops.specs.Normalised.{normalised}
 use Rattle.pass_laws.specs.prepared_nests.Nests.{IsPrepared}
+use Rattle.pass_laws.specs.prepared_runs.Running.{loops_then_after}
 use Rattle.rewrite.specs.Following.{IsSound}
 use Rattle.statement_passes.specs.Standings.{IsLoop}
 use Rattle.symbols_anew.specs.Nests.{with_symbols_found}
 use Rattle.prepared_passes.specs.symbols.Same.{IsSameButText}
 use Rattle.prepared_passes.specs.symbols.Sources.{IsOfSource}
-use Rattle.tree.specs.Plain.{Block, Declaration, Program, statement}
-
--- the loops of a nest, and then what comes after them
-abbrev pub loops_then_after : Nest → Block
-loops_then_after n = statement (statement_of_part n.line n.body) n.after
+use Rattle.tree.specs.Plain.{Block, Declaration, Program}
 
 -- Where the loops with what comes after them meet no fault, those of the nest with all its symbols come to the same
 -- moment, after as many steps, whatever nest it was made of

@@ -42,6 +42,9 @@ returns-clause-read_fault g c = top.read_fault _ _ c.work-outcome.result c.statu
 pub returns-clause-write_fault : goal.returns-clause-write_fault
 returns-clause-write_fault g c = top.write_fault _ _ c.work-outcome.result c.status.result c.status.ensures c.work-outcome.ensures.ended
 
+pub returns-clause-vectorised : goal.returns-clause-vectorised
+returns-clause-vectorised g c k = top.vectorised _ c.work-outcome.result c.status.result c.status.ensures (for_command _ _ _ _ k (for_words _ _ _ _ c.as_slice.ensures.value c.work-outcome.ensures.ended))
+
 pub returns-clause-translated : goal.returns-clause-translated
 returns-clause-translated g c k = top.translated _ c.work-outcome.result c.status.result c.status.ensures (for_command _ _ _ _ k (for_words _ _ _ _ c.as_slice.ensures.value c.work-outcome.ensures.ended))
 

@@ -42,7 +42,7 @@ may_be_emitted masks n m g h passed graph =
 -- ---- answers
 
 pub translated : (masks : ℕ) (n m : Nest) (g : Graph) (holds : List Hold) (lines : List (List ℕ)) (b : Block)
-    (ds : List Declaration) (next : ℕ) (passed : IsPassedAs masks n m) → IsLastGraph (expanded passed.anew) passed.graph g
+    (ds : List Declaration) (next : ℕ) (passed : IsPassedAs masks n m) → IsLastGraph (expanded passed.named) passed.graph g
     → AreTestsOf n.number m g holds lines → IsEmission m g holds b
     → ds ≡ map declaration_of_made m.made → next ≡ m.masks → IsAnswerTo masks (InNest n) lines (Some b) ds next
 translated masks n m g holds lines b ds next passed kept tests e declared count =

@@ -13,7 +13,7 @@ use Rattle.translation.specs.nest_profile.Laws.{TranslationIsOfProfile}
 -- ---- the law
 
 room : last_depth + rise ≤ expression_depth90
-room = let e : 802 ≤ 1000 = omega arith in e
+room = let e : 825 ≤ 1000 = omega arith in e
 
 pub translation_is_of_profile : TranslationIsOfProfile
 translation_is_of_profile p r n m b w found is among added translated counters made transpose reshape number round source =

@@ -5,6 +5,7 @@ use Rattle.std.proofs.Common.{negsuc, true, Option, Some, None, IfSome, List, Co
 use Rattle.std.specs.Prelude.{nat_abs}
 use Rattle.meaning.specs.Dialect.{fortran77, fortran90}
 use Rattle.meaning.specs.Holding.{HasBounds, HoldsProgram, IsStorable}
+use Rattle.meaning.specs.Run.{State}
 use Rattle.meaning.specs.Store.{Agree, Cell, Store, cell_in, names_of, nought, nought_like}
 use Rattle.meaning.specs.Typed.{declared}
 use Rattle.meaning.specs.Value.{is_in_range}
@@ -17,6 +18,7 @@ use Rattle.tree.specs.declared.ops.Value.TheVariants.{Int}
 use Rattle.meaning_laws.proofs.dialects.MadeNames.{is_declared}
 use Rattle.linear_forms.specs.Laws.{HoldsSized}
 use Rattle.meaning_laws.specs.profiles.Profiles.{AddMadeNames}
+use Rattle.nest_steps.specs.Keeping.{GoOnAlike}
 use Rattle.meaning_laws.proofs.profiles.Programs.{kept_declaration}
 use Rattle.std.specs.Option.{IsSomeAnd}
 use Rattle.translation.specs.placed_loops.Beside.{IsUnallocated}
@@ -35,6 +37,14 @@ agree_on p s t u a b = record {
   bounds = λ x n. a.bounds x n ∙ b.bounds x n;
   held = λ c n here. a.held c n here ∙ b.held c n (ap (λ b. cell_in b c.name c.subscripts) (sym (a.bounds c.name n)) ∙ here);
   kinds = λ c n. a.kinds c n ∙ b.kinds c n;
+}
+
+-- one run after another
+pub alike_then : (p : Program) (s t u : State) → GoOnAlike p s t → GoOnAlike p t u → GoOnAlike p s u
+alike_then p s t u h g = record {
+  going = h.going;
+  agree = agree_on p s.store t.store u.store h.agree g.agree;
+  rest = g.rest ∙ ap (λ (x : State). record x { store = u.store; steps = u.steps }) h.rest;
 }
 
 -- what is the same on the names of a program agrees

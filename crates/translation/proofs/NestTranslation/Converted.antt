@@ -1,5 +1,5 @@
 -- The nest with loops from 1 by 1, and with masks in place of its IFs, labels and jumps, goes on as the source's loop,
--- and so does that nest with its symbols found anew.
+-- and so does that nest with its symbols found anew, with inductions substituted, and with scalars renamed.
 use Rattle.std.proofs.Common.{◌≡◌, refl, sym, ap, ◌∙◌, subst, ℕ, ◌^◌, ◌≤◌, ℤ, Bool, List, [], ◌∷◌, Option, Some}
 use Rattle.std.proofs.Common.{None, IfSome, Contains}
 use Rattle.std.specs.Option.{IsSomeAnd}
@@ -9,6 +9,7 @@ use Rattle.prepared_passes.proofs.ConvertedNests.ProgramNames.{program_has_no_ma
 use Rattle.prepared_passes.proofs.ConvertedNests.Standing.{IsLoopOf, loop_of, nest_leads}
 use Rattle.prepared_passes.specs.conversion.Branching.{IsBranching}
 use Rattle.prepared_passes.specs.conversion.Places.{IsMask}
+use Rattle.prepared_passes.specs.expansion.Unexpanded.{GoesOnAs}
 use Rattle.find_nests.specs.Found.{InNest, found_in}
 use Rattle.find_nests.specs.Laws.{IsFoundNest}
 use Rattle.find_nests.specs.Loops.{as_statement}
@@ -26,6 +27,7 @@ use Rattle.nest.specs.Allocations.{allocation_then, allocations_then, block_then
 use Rattle.nest.specs.Blocks.{block_of_nest, statement_of_part}
 use Rattle.nest.specs.Bodies.{nest_loops}
 use Rattle.nest.specs.Plain.{Loop, Made, Nest, Parts, Turns}
+use Rattle.symbols_anew.specs.Nests.{with_symbols_found}
 use Rattle.nest_order.specs.runs.Guarded.{variable_cell}
 use Rattle.nest_steps.specs.Keeping.{GoOnAlike}
 use Rattle.nest_steps.specs.Leading.{Led}
@@ -43,9 +45,9 @@ use Rattle.tree.specs.declared.ops.Kind.TheVariants.{Logical}
 use Rattle.tree.specs.declared.ops.Value.{Value}
 use Rattle.tree.specs.declared.ops.Value.TheVariants.{Int, Truth}
 use Rattle.listing.specs.programs.Passed.{IsPassedAs}
-use Rattle.translation.proofs.NestTranslation.Cleaned.{agree_on, same_agree}
+use Rattle.translation.proofs.NestTranslation.Cleaned.{agree_on, alike_then, same_agree}
+use Rattle.translation.proofs.Converting.{same_masks}
 use Rattle.translation.proofs.NestTranslation.Prepared.{AreMasksDeclared, few_converted, passed_nest_is_converted}
-use Rattle.translation.proofs.NestTranslation.Prepared.{same_masks}
 use Rattle.translation.proofs.ProgramTranslation.Standing.{Stands, loop_stands}
 
 -- ---- without arrays as values no array comes or goes
@@ -214,16 +216,33 @@ module _ (p b : Program) (masks : ℕ) (n m : Nest) (found : IsFoundNest p n) (p
     goes_on_anew : GoOnAlike p first (does_all fortran77 None (loops_then_after passed.anew) v)
     goes_on_anew = subst (λ (x : State). GoOnAlike p first x) (sym alike) goes_on
 
--- from moments that agree on p, where b declares the counters and the masks, and where the loop meets no fault
+    -- and so it goes on with its inductions substituted, and its scalars renamed
+    module _ (on : GoesOnAs p b (with_symbols_found passed.normal passed.converted) passed.named) where
+      goes_on_so : GoesOnAs p b passed.anew passed.named
+      goes_on_so = subst (λ (z : Nest). GoesOnAs p b z passed.named) (sym passed.is_anew) on
+
+      anew_goes : (does_all fortran77 None (loops_then_after passed.anew) v).way ≡ Going
+      anew_goes = ap (λ (x : State). x.way) goes_on_anew.rest ∙ goes_on_anew.going
+
+      goes_on_named : GoOnAlike p first (does_all fortran77 None (loops_then_after passed.named) v)
+      goes_on_named =
+          alike_then p first (does_all fortran77 None (loops_then_after passed.anew) v)
+          (does_all fortran77 None (loops_then_after passed.named) v) goes_on_anew
+          (goes_on_so v (ap (λ (x : State). x.way) start.rest ∙ start.going) holds sized
+          (subst IsSound (sym anew_goes) tt))
+
+-- from moments that agree on p, where b declares the counters, the masks and the names of ranges, and where the loop
+-- meets no fault
 pub unexpanded_nest_goes_on_as_loop : (p b : Program) (masks : ℕ) (n m : Nest) (found : IsFoundNest p n) (s v : State)
     → IsProgram77 fortran77 p → Contains (found_in p) (InNest n) → (passed : IsPassedAs masks n m)
     → AddMadeNames p.declarations b.declarations
     → All (λ (l : Loop). IsSomeAnd (declared b.declarations l.variable) IsCounter) (nest_loops passed.normal)
-    → AreMasksDeclared b masks passed.anew.masks → HoldsProgram fortran77 b v.store → HoldsSized v.store
+    → AreMasksDeclared b masks passed.named.masks
+    → GoesOnAs p b (with_symbols_found passed.normal passed.converted) passed.named → HoldsProgram fortran77 b v.store → HoldsSized v.store
     → GoOnAlike p s v
     → IsSound (does fortran77 None (as_statement found.loop.loop.loop) s).way
     → GoOnAlike p (does fortran77 None (as_statement found.loop.loop.loop) s)
-    (does_all fortran77 None (loops_then_after passed.anew) v)
-unexpanded_nest_goes_on_as_loop p b masks n m found s v program is_nest passed add counters marks holds sized start sound =
-    goes_on_anew p b masks n m found program is_nest passed add counters
-    (subst (AreMasksDeclared b masks) (same_masks masks n m passed) marks) s v holds sized start sound
+    (does_all fortran77 None (loops_then_after passed.named) v)
+unexpanded_nest_goes_on_as_loop p b masks n m found s v program is_nest passed add counters marks on holds sized start sound =
+    goes_on_named p b masks n m found program is_nest passed add counters
+    (subst (AreMasksDeclared b masks) (same_masks masks n m passed) marks) s v holds sized start sound on

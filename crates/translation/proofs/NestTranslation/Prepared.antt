@@ -38,9 +38,11 @@ use Rattle.tree.specs.Names.{IsSourceName}
 use Rattle.tree.specs.Plain.{Block, Declaration, Program}
 use Rattle.interchange.specs.Arranged.{vectors_of}
 use Rattle.listing.proofs.programs.Arranging.{last_depth}
+use Rattle.listing.proofs.programs.Naming.{named_from}
+use Rattle.listing.proofs.programs.Stages.{few_so, made_by, named_so}
 use Rattle.listing.specs.programs.Passed.{IsPassedAs}
 use Rattle.scalar_expand.specs.Expanded.{expanded}
-use Rattle.translation.proofs.Converting.{anew_from, converted_from, passed_from}
+use Rattle.translation.proofs.Converting.{anew_from, converted_from, passed_from, same_masks}
 use Rattle.translation.proofs.LoopNumbers.Nests.{nest_number}
 use Rattle.translation.proofs.MadeDeclarations.Made.{made_names}
 use Rattle.translation.proofs.ProgramTranslation.Counted.{IsNumbered, counter_declarations, each_of, of_counter}
@@ -67,13 +69,10 @@ abbrev pub AreMasksDeclared : Program → ℕ → ℕ → Type 0
 AreMasksDeclared r k e = (i : ℕ) → k ≤ i → i < e → IsSomeAnd (declared r.declarations (mask_name i)) IsMask
 
 -- as many as passes have made by then
-pub few_masks : (masks : ℕ) (n m : Nest) (passed : IsPassedAs masks n m) → passed.anew.masks ≤ 2 ^ 32
+pub few_masks : (masks : ℕ) (n m : Nest) (passed : IsPassedAs masks n m) → passed.named.masks ≤ 2 ^ 32
 few_masks masks n m passed =
     subst (λ (i : ℕ). i ≤ 2 ^ 32) (passed_from masks n m passed).masks
     (at_most m.masks passed.counted)
-
-pub same_masks : (masks : ℕ) (n m : Nest) (passed : IsPassedAs masks n m) → passed.anew.masks ≡ passed.converted.masks
-same_masks masks n m passed = (anew_from passed.normal passed.converted passed.anew passed.is_anew).masks
 
 pub few_converted : (masks : ℕ) (n m : Nest) (passed : IsPassedAs masks n m) → passed.converted.masks ≤ 2 ^ 32
 few_converted masks n m passed =
@@ -147,6 +146,7 @@ pub same_declarations : (p : Program) (masks : ℕ) (n m : Nest) → IsFoundNest
     → m.declarations ≡ p.declarations
 same_declarations p masks n m found passed =
     (passed_from masks n m passed).declarations
+    ∙ (named_from passed.anew passed.substituted passed.named passed.is_substituted passed.is_named).declarations
     ∙ (anew_from passed.normal passed.converted passed.anew passed.is_anew).declarations
     ∙ (converted_from masks passed.normal passed.converted passed.is_converted).declarations
     ∙ (normal_declarations n passed.normal passed.made ∙ ap (λ (k : Nest). k.declarations) found.is)
@@ -178,14 +178,14 @@ module _ (p : Program) (masks : ℕ) (n m : Nest) (w : Surroundings) (found : Is
   module _ (r : Program) (add : AddMadeNames p.declarations r.declarations)
       (counters : All (λ (l : Loop). IsSomeAnd (declared r.declarations l.variable) IsCounter) (nest_loops passed.normal))
       (made : AreMadeDeclared r m) where
-    pub passed_nest_is_in_places : IsFoundInPlaces p r passed.normal passed.anew masks w.variables
+    pub passed_nest_is_in_places : IsFoundInPlaces p r passed.normal passed.converted passed.named masks w.variables
     passed_nest_is_in_places =
-        found_nest_is_expanded_in_places p r n passed.normal passed.converted passed.anew masks w found program is_nest
-        passed.made passed.is_converted passed.is_anew (few_masks masks n m passed) add counters
+        found_nest_is_expanded_in_places p r n passed.normal passed.converted passed.named masks w found program is_nest
+        passed.made passed.is_converted (named_so masks n m (made_by masks n m passed)) (few_so masks n m (made_by masks n m passed)) (few_masks masks n m passed) add counters
         (λ a c. made a (subst (λ (ms : List Made). Contains ms a) (sym (passed_from masks n m passed).made) c)) small (all_source w.variables named) is
 
     pub passed_nest_is_prepared : IsPrepared r.declarations w.variables last_depth m
     passed_nest_is_prepared =
         subst (IsPrepared r.declarations w.variables last_depth) (sym passed.is_arranged)
-        (arranged_nest_is_prepared r.declarations w.variables expanded_depth (expanded passed.anew)
+        (arranged_nest_is_prepared r.declarations w.variables expanded_depth (expanded passed.named)
         (vectors_of passed.graph.edges) passed_nest_is_in_places.places.behind)

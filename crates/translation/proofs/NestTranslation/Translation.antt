@@ -11,7 +11,8 @@ use Rattle.emission.specs.emission_pieces.Pieces.{Pieces, block_of_pieces}
 use Rattle.emission.specs.graph_orders.Nests.{run_nest}
 use Rattle.prepared_passes.proofs.ExpandedNests.Begun.{expanded_nest_is_begun_before}
 use Rattle.prepared_passes.specs.expansion.Before.{before_expansion}
-use Rattle.prepared_passes.specs.expansion.Found.{IsFoundInPlaces, expanded_depth, unexpanded_depth}
+use Rattle.prepared_passes.specs.expansion.Found.{IsFoundInPlaces, expanded_depth}
+use Rattle.prepared_passes.specs.expansion.Unexpanded.{unexpanded_depth}
 use Rattle.prepared_passes.specs.expansion.Places.{IsBegunBefore}
 use Rattle.find_nests.specs.Found.{InNest, found_in}
 use Rattle.find_nests.specs.Laws.{IsFoundNest}
@@ -67,7 +68,7 @@ use Rattle.tree.specs.Plain.{Block, Declaration, Expression, Program, Statement,
 use Rattle.translation.proofs.NestTranslation.Arrays.{arrays_free, free_again, made_apart, made_still, none_of_source}
 use Rattle.translation.proofs.NestTranslation.Arrays.{of_77, of_90, sized_still}
 use Rattle.translation.proofs.NestTranslation.Bounds.{sequential_keeps_bounds}
-use Rattle.translation.proofs.NestTranslation.Cleaned.{add_both, agree_back, agree_fewer, agree_on, cleaned, cleaned_agrees}
+use Rattle.translation.proofs.NestTranslation.Cleaned.{add_both, agree_back, agree_fewer, agree_on, alike_then, cleaned, cleaned_agrees}
 use Rattle.translation.proofs.NestTranslation.Cleaned.{cleaned_holds, cleaned_sized, same_agree}
 use Rattle.translation.proofs.NestTranslation.Converted.{unexpanded_nest_goes_on_as_loop}
 use Rattle.translation.proofs.NestTranslation.Prepared.{passed_nest_is_in_places, passed_nest_is_prepared}
@@ -95,14 +96,6 @@ number_of es x h = by (declared es x) refl h
     by (Some d) e g = record { declaration = d; is = e; kind = g.kind; extent = g.scalar }
 
 -- ---- moments
-
--- one run after another
-alike_then : (p : Program) (s t u : State) → GoOnAlike p s t → GoOnAlike p t u → GoOnAlike p s u
-alike_then p s t u h g = record {
-  going = h.going;
-  agree = agree_on p s.store t.store u.store h.agree g.agree;
-  rest = g.rest ∙ ap (λ (x : State). record x { store = u.store; steps = u.steps }) h.rest;
-}
 
 -- what goes on like one moment does so like each other one that does
 alike_beside : (p : Program) (s t u : State) → GoOnAlike p s u → GoOnAlike p t u → GoOnAlike p s t
@@ -160,12 +153,12 @@ module _ (p q r : Program) (n m : Nest) (b : Block) (w : Surroundings) (found : 
 
   -- the nest before private scalars become arrays, and the program in which it stands
   abbrev k : Nest
-  k = translated.passed.anew
+  k = translated.passed.named
 
   abbrev before : Program
   before = before_expansion r k
 
-  in_places : IsFoundInPlaces p r translated.passed.normal k translated.masks around
+  in_places : IsFoundInPlaces p r translated.passed.normal translated.passed.converted k translated.masks around
   in_places =
       passed_nest_is_in_places p translated.masks n m stands.round found program is_nest translated.passed stands.named
       stands.is r all counters made
@@ -311,7 +304,7 @@ module _ (p q r : Program) (n m : Nest) (b : Block) (w : Surroundings) (found : 
     from_loop : GoOnAlike p (does fortran77 None c s) earlier
     from_loop =
         unexpanded_nest_goes_on_as_loop p before translated.masks n m found s begun.state program is_nest translated.passed
-        in_places.places.places.before in_places.counters in_places.masks begun.holds begun.sized
+        in_places.places.places.before in_places.counters in_places.masks in_places.goes_on begun.holds begun.sized
         (alike_beside p s begun.state u start begun.alike) sound
 
     earlier_goes : earlier.way ≡ Going

@@ -1,6 +1,6 @@
--- No last value behind all loops is marked: neither of their variables nor of private scalars.
+-- No last value behind all loops is marked: neither of their variables nor of inductions nor of private scalars.
 use Rattle.std.proofs.Common.{◌≡◌, refl, ap₂, ap, sym, ◌∙◌, ℕ, Bool, true, false, cond, Option, Some, None}
-use Rattle.std.proofs.Common.{List, [], ◌∷◌, ◌++◌, append_assoc, length, flat_map}
+use Rattle.std.proofs.Common.{List, [], ◌∷◌, ◌++◌, append_assoc, length, flat_map, map}
 use Rattle.emission.specs.emission_marks.Marks.{Marked, Round, Under, marked, marked_in}
 use Rattle.tree.specs.Plain.{Block, Expression, Statement, block, no_statements, statement}
 use Rattle.last_values.specs.Behind.{stands_behind}
@@ -8,13 +8,17 @@ use Rattle.last_values.specs.ValuesBehind.{left_behind, or_none, values_behind}
 use Rattle.last_values.specs.Endings.{Texts, after_statements, ending, last_texts, only_where, where_all_hold}
 use Rattle.last_values.specs.Endings.{all_hold, assigned, with_last_forms}
 use Rattle.last_values.specs.declared.behind.NestedLoop.{NestedLoop}
+use Rattle.inductions.specs.Ends as inductions
+use Rattle.inductions.specs.Found.{inductions_by, outermost}
+use Rattle.inductions.specs.Nests.{endings, inductions_substituted, substituted_by, with_inductions}
+use Rattle.inductions.specs.declared.found.Induction.{Induction}
 use Rattle.nest.specs.Allocations.{block_then}
 use Rattle.nest.specs.Plain.{Nest}
 use Rattle.nest.specs.declared.parts.Trip.{Trip}
 use Rattle.last_values.specs.normal_forms.LastValues.{have_plain_trips, last_forms}
 use Rattle.last_values.specs.normal_forms.LastTexts.{tests_of}
 use Rattle.last_values.specs.normal_forms.NormalLoops.{is_known, is_positive}
-use Rattle.last_values.specs.normal_forms.Texts.{at_least_one}
+use Rattle.last_values.specs.normal_forms.Texts.{at_least_one, trip_text}
 use Rattle.last_values.specs.declared.normal_forms.last.LastForms.{LastForms}
 use Rattle.last_values.specs.declared.normal_forms.loops.NormalLoop.{NormalLoop}
 use Rattle.pass_laws.proofs.NormalMeaning.Made.{behind}
@@ -98,6 +102,42 @@ marked_then no_statements b = refl
 marked_then (statement c cs) b =
     ap (λ (more : List Marked). marked [] c ++ more) (marked_then cs b)
     ∙ sym (append_assoc (marked [] c) (marked_in [] cs) (marked_in [] b))
+
+-- ---- of inductions
+
+induction_is : (symbols : List (List ℕ)) (line : ℕ) (t : Trip) (d : Induction)
+    → AreUnmarked (inductions.ending symbols line t d ∷ [])
+induction_is symbols line t d round = by (is_positive t)
+  where
+    by : (b : Bool)
+        → marked_in round (block (cond b (assigned line d.name (inductions.end_text symbols t d))
+        (only_where line (at_least_one (trip_text [] symbols [] t)) (assigned line d.name (inductions.end_text symbols t d) ∷ [])) ∷ []))
+        ≡ []
+    by true = refl
+    by false = refl
+
+inductions_are : (symbols : List (List ℕ)) (line : ℕ) (t : Trip) (ds : List Induction)
+    → AreUnmarked (map (inductions.ending symbols line t) ds)
+inductions_are symbols line t [] round = refl
+inductions_are symbols line t (d ∷ ds) round =
+    joined (inductions.ending symbols line t d ∷ []) (map (inductions.ending symbols line t) ds)
+    (induction_is symbols line t d) (inductions_are symbols line t ds) round
+
+-- behind what isn't marked
+with_unmarked : (n : Nest) (o : List ℕ × Trip) (ds : List Induction) → marked_in [] n.after ≡ []
+    → marked_in [] (with_inductions n o ds).after ≡ []
+with_unmarked n o [] h = h
+with_unmarked n o (d ∷ ds) h =
+    marked_then n.after (endings n o.1 (d ∷ ds))
+    ∙ ap₂ (λ (xs ys : List Marked). xs ++ ys) h (inductions_are n.symbols n.line o.1 (d ∷ ds) [])
+
+pub substituted_unmarked : (n : Nest) → marked_in [] n.after ≡ [] → marked_in [] (inductions_substituted n).after ≡ []
+unfolding inductions_substituted
+substituted_unmarked n h = by (outermost n.body)
+  where
+    by : (o : Option (List ℕ × Trip)) → marked_in [] (substituted_by n o).after ≡ []
+    by None = h
+    by (Some o) = with_unmarked n o (inductions_by n (Some o)) h
 
 -- behind what isn't marked
 pub then_unmarked : (symbols : List (List ℕ)) (line : ℕ) (ps : List Private) (a : Block) → marked_in [] a ≡ []

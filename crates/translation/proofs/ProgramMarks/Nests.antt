@@ -18,6 +18,7 @@ use Rattle.emission.specs.graph_edges.Laws.{IsShallow}
 use Rattle.last_values.specs.ValuesBehind.{values_behind}
 use Rattle.last_values.specs.declared.behind.NestedLoop.{NestedLoop}
 use Rattle.scalar_expand.specs.Laws.{own_of}
+use Rattle.listing.proofs.programs.Naming.{IsNamedFrom, named_from}
 use Rattle.listing.proofs.programs.Sources as sources
 use Rattle.listing.proofs.programs.Stages.{made_by}
 use Rattle.listing.specs.programs.Passed.{IsPassedAs}
@@ -37,7 +38,7 @@ use Rattle.std.specs.Option.{option_map}
 use Rattle.translation.proofs.Converting.{IsAnewFrom, IsConvertedFrom, IsLastFrom, anew_from, converted_from, passed_from}
 use Rattle.translation.specs.nest_blocks.LoopAnswers.{IsTranslation}
 use Rattle.translation.specs.program_marks.Marks.{IsMarkedByGraph}
-use Rattle.translation.proofs.ProgramMarks.Endings.{last_values_unmarked, then_unmarked}
+use Rattle.translation.proofs.ProgramMarks.Endings.{last_values_unmarked, substituted_unmarked, then_unmarked}
 use Rattle.translation.proofs.ProgramMarks.Throughout.{marked_throughout}
 
 -- no statement stands in more than seven loops
@@ -81,13 +82,16 @@ module _ (p : Program) (masks : ℕ) (n m : Nest) (g : Graph) (ps : Pieces) (pro
   passed = translated.passed
 
   abbrev k : Nest
-  k = passed.anew
+  k = passed.named
 
   converted : IsConvertedFrom masks passed.normal passed.converted
   converted = converted_from masks passed.normal passed.converted passed.is_converted
 
-  anew_so : IsAnewFrom passed.converted k
-  anew_so = anew_from passed.normal passed.converted k passed.is_anew
+  anew_so : IsAnewFrom passed.converted passed.anew
+  anew_so = anew_from passed.normal passed.converted passed.anew passed.is_anew
+
+  named_so : IsNamedFrom passed.anew k
+  named_so = named_from passed.anew passed.substituted k passed.is_substituted passed.is_named
 
   last_so : IsLastFrom k m
   last_so = passed_from masks n m passed
@@ -95,7 +99,7 @@ module _ (p : Program) (masks : ℕ) (n m : Nest) (g : Graph) (ps : Pieces) (pro
   ready : IsReady m
   ready = sources.ready masks n m (record { program = p; profile = program; among = found }) (made_by masks n m passed)
 
-  after_is : k.after ≡ behind n
+  after_is : passed.anew.after ≡ behind n
   after_is =
       anew_so.after ∙ converted.after ∙ (made_of n passed.normal passed.made).after
       ∙ ap (λ (z : Nest). block_then z.after (behind n)) (found_nest_is_loop p n found).is
@@ -110,13 +114,17 @@ module _ (p : Program) (masks : ℕ) (n m : Nest) (g : Graph) (ps : Pieces) (pro
     edges_are = edges_lead m g (shallow m ready) translated.graph;
     after =
         ap (marked_in []) last_so.after
-        ∙ then_unmarked k.symbols k.line (own_of k) k.after (ap (marked_in []) after_is ∙ last_values_unmarked n);
+        ∙ then_unmarked k.symbols k.line (own_of k) k.after
+        (ap (marked_in []) named_so.after
+        ∙ substituted_unmarked passed.anew (ap (marked_in []) after_is ∙ last_values_unmarked n));
   }
 
   pub marked_by_graph : EmissionIsMarked → EmissionKeepsTogether
       → IsMarkedByGraph (record { found = n; normal = m; graph = g }) (translation m ps)
   marked_by_graph is_marked keeps_together = record {
-    number = last_so.number ∙ anew_so.number ∙ converted.number ∙ same_number n passed.normal passed.made;
+    number =
+        last_so.number ∙ named_so.number ∙ anew_so.number ∙ converted.number
+        ∙ same_number n passed.normal passed.made;
     core = block_of_pieces m 1 ps;
     throughout = marked_throughout m 1 ps;
     is = refl;

@@ -10,12 +10,13 @@ use Rattle.prepared_passes.proofs.ConvertedNests.Masked.{mask_same}
 use Rattle.prepared_passes.proofs.ExpandedNests.ArrayNames.{array_names_are_apart}
 use Rattle.prepared_passes.proofs.ExpandedNests.FoundExpanded.{found_nest_has_made_names}
 use Rattle.prepared_passes.proofs.ExpandedNests.Names.{source_is}
-use Rattle.prepared_passes.specs.expansion.Found.{HasExpandedDeclarations, IsArrayOfNest, IsMaskOfNest}
+use Rattle.prepared_passes.proofs.ExpandedNests.RangeNames.{range_names_are_apart}
+use Rattle.prepared_passes.specs.expansion.Found.{HasExpandedDeclarations, IsArrayOfNest, IsMaskOfNest, IsRangeOfNest}
 use Rattle.find_nests.specs.Found.{InNest, found_in}
 use Rattle.find_nests.specs.LookedAt.{looked_at}
 use Rattle.listing.proofs.programs.Arranging.{last_depth}
 use Rattle.listing.proofs.programs.Sources.{declared_for, prepared_for}
-use Rattle.listing.proofs.programs.Stages.{made_by}
+use Rattle.listing.proofs.programs.Stages.{few_so, made_by, named_so}
 use Rattle.listing.specs.programs.Passed.{IsPassedAs}
 use Rattle.meaning.specs.Dialect.{fortran77}
 use Rattle.meaning.specs.Profile77.{IsProgram77}
@@ -84,9 +85,9 @@ same_nest (x ∷ ns) h n m (inr i) (inr j) e = same_nest ns h.1 n m i j e
 
 -- ---- names
 
--- a mask of the nest, or an array for a scalar of the source
+-- a mask of the nest, an array for a scalar of the source, or the name of a range of one's values
 abbrev IsNamedFor : Nest → Nest → ℕ → Made → Type 0
-IsNamedFor n k masks a = IsMaskOfNest k masks a ⊎ IsArrayOfNest n a
+IsNamedFor n k masks a = IsMaskOfNest k masks a ⊎ IsArrayOfNest n a ⊎ IsRangeOfNest n a
 
 array_is : (n : Nest) (a : Made) (h : IsArrayOfNest n a) → a.name ≡ (codes "FV_EXP_" ++ h.scalar) ++ number_behind n.number
 array_is n a h =
@@ -96,20 +97,31 @@ array_is n a h =
 
 letter_of : (n k : Nest) (masks : ℕ) (a : Made) → IsNamedFor n k masks a → get_or a.name 0 0 ≡ 70
 letter_of n k masks a (inl m) = ap (λ (z : List ℕ). get_or z 0 0) m.name
-letter_of n k masks a (inr h) = ap (λ (z : List ℕ). get_or z 0 0) (array_is n a h)
+letter_of n k masks a (inr (inl h)) = ap (λ (z : List ℕ). get_or z 0 0) (array_is n a h)
+letter_of n k masks a (inr (inr h)) = ap (λ (z : List ℕ). get_or z 0 0) h.name
 
 -- by the fourth letter
-no_mask : (n k : Nest) (masks : ℕ) (a b : Made) → IsArrayOfNest n a → IsMaskOfNest k masks b → a.name ≡ b.name → ⊥
-no_mask n k masks a b h m e =
-    let z : 69 ≡ 77 = ap (λ (y : List ℕ). get_or y 3 0) (sym (array_is n a h) ∙ e ∙ m.name) in
-    absurd (omega (arith, z))
+abbrev fourth : List ℕ → ℕ
+fourth x = get_or x 3 0
+
+mask_fourth : (k : Nest) (masks : ℕ) (a : Made) → IsMaskOfNest k masks a → fourth a.name ≡ 77
+mask_fourth k masks a m = ap fourth m.name
+
+array_fourth : (n : Nest) (a : Made) → IsArrayOfNest n a → fourth a.name ≡ 69
+array_fourth n a h = ap fourth (array_is n a h)
+
+range_fourth : (n : Nest) (a : Made) → IsRangeOfNest n a → fourth a.name ≡ 78
+range_fourth n a h = ap fourth h.name
+
+other_letters : (x y : List ℕ) (c d : ℕ) → fourth x ≡ c → fourth y ≡ d → (c ≡ d → ⊥) → x ≡ y → ⊥
+other_letters x y c d f g other e = other (sym f ∙ ap fourth e ∙ g)
 
 module _ (p : Program) (program : IsProgram77 fortran77 p) where
   -- ---- what passes made for one nest
 
   module _ (masks : ℕ) (n m : Nest) (among : Contains (found_in p) (InNest n)) (passed : IsPassedAs masks n m) where
     abbrev k : Nest
-    k = passed.anew
+    k = passed.named
 
     small : n.number < 2 ^ 32
     small =
@@ -120,7 +132,7 @@ module _ (p : Program) (program : IsProgram77 fortran77 p) where
     named : (a : Made) → Contains m.made a → IsNamedFor n k masks a
     named a c =
         found_nest_has_made_names p n passed.normal passed.converted k masks program among passed.made
-        passed.is_converted passed.is_anew (few_masks masks n m passed) a
+        passed.is_converted (named_so masks n m (made_by masks n m passed)) (few_so masks n m (made_by masks n m passed)) (few_masks masks n m passed) a
         (subst (λ (ms : List Made). Contains ms a) (passed_from masks n m passed).made c)
 
     -- there are declarations by which the nest is prepared
@@ -167,11 +179,11 @@ module _ (p : Program) (program : IsProgram77 fortran77 p) where
     all = nests_among (found_in p)
 
     named_for : (d : Declaration) (h : IsMadeForNest p before d)
-        → IsNamedFor h.nest h.passed.anew (before h.nest.number) h.array
+        → IsNamedFor h.nest h.passed.named (before h.nest.number) h.array
     named_for d h = named (before h.nest.number) h.nest h.last h.among h.passed h.array h.made
 
     -- a mask of one nest is none of a nest behind it
-    past : (d : Declaration) (h : IsMadeForNest p before d) (j i : ℕ) → i < h.passed.anew.masks → before j ≤ i
+    past : (d : Declaration) (h : IsMadeForNest p before d) (j i : ℕ) → i < h.passed.named.masks → before j ≤ i
         → h.nest.number < j → ⊥
     past d h j i below from less =
         let rise = numbered h.nest h.last j h.among h.passed less in
@@ -182,8 +194,8 @@ module _ (p : Program) (program : IsProgram77 fortran77 p) where
       names : h.array.name ≡ g.array.name
       names = ap (λ (z : Declaration). z.name) h.is ∙ same ∙ sym (ap (λ (z : Declaration). z.name) g.is)
 
-      masks_number : IsMaskOfNest h.passed.anew (before h.nest.number) h.array
-          → IsMaskOfNest g.passed.anew (before g.nest.number) g.array → h.nest.number ≡ g.nest.number
+      masks_number : IsMaskOfNest h.passed.named (before h.nest.number) h.array
+          → IsMaskOfNest g.passed.named (before g.nest.number) g.array → h.nest.number ≡ g.nest.number
       masks_number a b = by (cases_lt h.nest.number g.nest.number) (cases_lt g.nest.number h.nest.number)
         where
           few : (k i : ℕ) → i < k → k ≤ 2 ^ 32 → i < 2 ^ 32
@@ -195,8 +207,8 @@ module _ (p : Program) (program : IsProgram77 fortran77 p) where
           one : a.number ≡ b.number
           one =
               mask_same a.number b.number
-              (few h.passed.anew.masks a.number a.below (few_masks (before h.nest.number) h.nest h.last h.passed))
-              (few g.passed.anew.masks b.number b.below (few_masks (before g.nest.number) g.nest g.last g.passed))
+              (few h.passed.named.masks a.number a.below (few_masks (before h.nest.number) h.nest h.last h.passed))
+              (few g.passed.named.masks b.number b.below (few_masks (before g.nest.number) g.nest g.last g.passed))
               (sym a.name ∙ names ∙ b.name)
 
           by : (h.nest.number < g.nest.number) ⊎ (g.nest.number ≤ h.nest.number)
@@ -207,21 +219,41 @@ module _ (p : Program) (program : IsProgram77 fortran77 p) where
               absurd (past e g h.nest.number b.number b.below (subst (λ (i : ℕ). before h.nest.number ≤ i) one a.from) less)
           by (inr most) (inr least) = omega (arith, most, least)
 
+      small_number : (x : Declaration) (i : IsMadeForNest p before x) → i.nest.number < 2 ^ 32
+      small_number x i = small (before i.nest.number) i.nest i.last i.among i.passed
+
       nest_number_same : h.nest.number ≡ g.nest.number
       nest_number_same = by (named_for d h) (named_for e g)
         where
-          by : IsNamedFor h.nest h.passed.anew (before h.nest.number) h.array
-              → IsNamedFor g.nest g.passed.anew (before g.nest.number) g.array → h.nest.number ≡ g.nest.number
+          by : IsNamedFor h.nest h.passed.named (before h.nest.number) h.array
+              → IsNamedFor g.nest g.passed.named (before g.nest.number) g.array → h.nest.number ≡ g.nest.number
           by (inl a) (inl b) = masks_number a b
-          by (inl a) (inr b) =
-              absurd (no_mask g.nest h.passed.anew (before h.nest.number) g.array h.array b a (sym names))
-          by (inr a) (inl b) =
-              absurd (no_mask h.nest g.passed.anew (before g.nest.number) h.array g.array a b names)
-          by (inr a) (inr b) =
-              (array_names_are_apart h.nest.number g.nest.number a.scalar b.scalar
-              (small (before h.nest.number) h.nest h.last h.among h.passed)
-              (small (before g.nest.number) g.nest g.last g.among g.passed) a.source b.source
-              (sym a.name ∙ names ∙ b.name)).0
+          by (inl a) (inr (inl b)) =
+              absurd (other_letters h.array.name g.array.name 77 69
+              (mask_fourth h.passed.named (before h.nest.number) h.array a) (array_fourth g.nest g.array b)
+              (λ e. omega (arith, e)) names)
+          by (inl a) (inr (inr b)) =
+              absurd (other_letters h.array.name g.array.name 77 78
+              (mask_fourth h.passed.named (before h.nest.number) h.array a) (range_fourth g.nest g.array b)
+              (λ e. omega (arith, e)) names)
+          by (inr (inl a)) (inl b) =
+              absurd (other_letters h.array.name g.array.name 69 77 (array_fourth h.nest h.array a)
+              (mask_fourth g.passed.named (before g.nest.number) g.array b) (λ e. omega (arith, e)) names)
+          by (inr (inl a)) (inr (inl b)) =
+              (array_names_are_apart h.nest.number g.nest.number a.scalar b.scalar (small_number d h) (small_number e g)
+              a.source b.source (sym a.name ∙ names ∙ b.name)).0
+          by (inr (inl a)) (inr (inr b)) =
+              absurd (other_letters h.array.name g.array.name 69 78 (array_fourth h.nest h.array a)
+              (range_fourth g.nest g.array b) (λ e. omega (arith, e)) names)
+          by (inr (inr a)) (inl b) =
+              absurd (other_letters h.array.name g.array.name 78 77 (range_fourth h.nest h.array a)
+              (mask_fourth g.passed.named (before g.nest.number) g.array b) (λ e. omega (arith, e)) names)
+          by (inr (inr a)) (inr (inl b)) =
+              absurd (other_letters h.array.name g.array.name 78 69 (range_fourth h.nest h.array a)
+              (array_fourth g.nest g.array b) (λ e. omega (arith, e)) names)
+          by (inr (inr a)) (inr (inr b)) =
+              (range_names_are_apart h.nest.number g.nest.number a.scalar b.scalar a.range b.range (small_number d h)
+              (small_number e g) a.few b.few a.source b.source (sym a.name ∙ names ∙ b.name)).0
 
       nest_same : h.nest ≡ g.nest
       nest_same =
@@ -250,14 +282,14 @@ module _ (p : Program) (program : IsProgram77 fortran77 p) where
           subst IsMadeDeclaration h.is
           (made_declaration (before h.nest.number) h.nest h.last h.among h.passed h.array h.made)
 
-      named_so : h.array.name ≡ d.name
-      named_so = ap (λ (z : Declaration). z.name) h.is
+      bears_name : h.array.name ≡ d.name
+      bears_name = ap (λ (z : Declaration). z.name) h.is
 
       -- it begins with F
       other_letter : (f : List ℕ) → (get_or f 0 0 ≡ 70 → ⊥) → ¬ (d.name ≡ f)
       other_letter f other e =
-          other (subst (λ (x : List ℕ). get_or x 0 0 ≡ 70) (named_so ∙ e)
-          (letter_of h.nest h.passed.anew (before h.nest.number) h.array (named_for d h)))
+          other (subst (λ (x : List ℕ). get_or x 0 0 ≡ 70) (bears_name ∙ e)
+          (letter_of h.nest h.passed.named (before h.nest.number) h.array (named_for d h)))
 
 pub names_are_made : (p : Program) (blocks : List (Option Block)) (made : List Declaration) → IsProgram77 fortran77 p
     → AreNestBlocks p blocks made → AreMade made

@@ -61,7 +61,7 @@ masks_by masks (Kept line r) = masks
 pub record IsTranslation (masks : ℕ) (n m : Nest) (g : Graph) (ps : Pieces) : Type 0 where
   pub passed : IsPassedAs masks n m
   pub graph : IsGraphOf m g
-  pub kept : IsLastGraph (expanded passed.anew) passed.graph g
+  pub kept : IsLastGraph (expanded passed.named) passed.graph g
   pub emitted : AreEmitted m g.edges (all_holds m) 1 (range_with_len 0 (length (nest_statements m))) ps
 
 -- each nest is translated as what passes make of it, after so many masks

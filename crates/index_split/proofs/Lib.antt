@@ -1,0 +1,9 @@
+pub mod FillLaws
+pub mod PieceLaws
+pub mod Multiples
+pub mod Adding
+pub mod Members
+pub mod CoupleLaws
+pub mod CutLaws
+pub mod AnswerLaws
+pub mod Counts

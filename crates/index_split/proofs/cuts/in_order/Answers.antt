@@ -1,0 +1,20 @@
+use Rattle.std.proofs.lemmas.List.Filters.{dedup_is}
+use Rattle.std.proofs.lemmas.List.Kept.{Contains-dedup_nat, Contains-from_dedup}
+use Rattle.std.proofs.lemmas.List.Sorted.{Contains-permutation, IsPermutation-sym}
+use Rattle.std.proofs.lemmas.Map.Keys.{IsStrictlyIncreasing-dedup}
+use Rattle.index_split.proofs.Members.{contains_in, in_contains}
+use Rattle.index_split.proofs.cuts.in_order.Goals as goal
+
+pub returns-clause-rising : goal.returns-clause-rising
+returns-clause-rising c =
+    let is = dedup_is _ _ _ c.dedup.ensures.filtered in
+    rw is (IsStrictlyIncreasing-dedup _ c.sort_unstable.ensures.sorted)
+
+pub returns-clause-same : goal.returns-clause-same
+returns-clause-same c =
+    let is = dedup_is _ _ _ c.dedup.ensures.filtered in
+    let moved = c.sort_unstable.ensures.permutation in
+    λ x. (
+      λ i. let h = in_contains x _ i in contains_in x _ (Contains-permutation _ _ x (IsPermutation-sym _ _ moved) (Contains-from_dedup _ _ x (rw is at h))),
+      λ i. let h = in_contains x _ i in contains_in x _ (rw is (Contains-dedup_nat _ x (Contains-permutation _ _ x moved h))),
+    )

@@ -1,0 +1,17 @@
+pub mod Names
+pub mod Webs
+pub mod Moved
+pub mod Walks
+pub mod Bodies
+pub mod Behind
+pub mod Facts
+pub mod Runs
+pub mod Standing
+pub mod Settled
+pub mod NewKinds
+pub mod Statements
+pub mod Prepared
+pub mod Declared
+pub mod Fresh
+pub mod Kept
+pub mod WithBehind

@@ -1,0 +1,13 @@
+pub mod After
+pub mod Behind
+pub mod EndNumbers
+pub mod Ends
+pub mod Grown
+pub mod Once
+pub mod Prepared
+pub mod Put
+pub mod Runs
+pub mod Shifted
+pub mod WithBehind
+pub mod Kept
+pub mod Named

@@ -1,5 +1,0 @@
-use Rattle.prepared_passes.proofs.ExpandedNests.FreeBehind.{found_nest_with_symbols_is_free_behind}
-use Rattle.prepared_passes.proofs.places.found_nest_with_symbols_is_free_behind.Goals as goal
-
-pub returns : goal.returns
-returns c = found_nest_with_symbols_is_free_behind

@@ -1,0 +1,5 @@
+use Rattle.prepared_passes.proofs.SubstitutedNests.WithBehind.{inductions_are_substituted_with_anything_behind}
+use Rattle.prepared_passes.proofs.substitution.inductions_are_substituted_with_anything_behind.Goals as goal
+
+pub returns : goal.returns
+returns c = inductions_are_substituted_with_anything_behind
