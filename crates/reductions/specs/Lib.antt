@@ -1,0 +1,6 @@
+pub mod Same
+pub mod Reading
+pub mod Gathering
+pub mod Finding
+pub mod Reduced
+pub mod View
