@@ -1,3 +1,4 @@
+pub mod Counted
 pub mod Elements
 pub mod GuardedNames
 pub mod Iterations

@@ -1,7 +1,10 @@
 pub mod Arranging
 pub mod FewOfEach
 pub mod Expanding
+pub mod Names
+pub mod Declared
 pub mod Naming
+pub mod Splitting
 pub mod Inductions
 pub mod Entries
 pub mod Plain

@@ -2,14 +2,15 @@
 //!
 //! - Proved (`list`, `listing_text`): what is given are the lines, or the text, of a listing of the program
 //!   (`IsListing`). For each loop that stands in no nest, in the order of the text: where a reason holds of it, one
-//!   line with its line and the first reason that holds; where none does it is a nest, and is listed by its number
-//!   with its loops, statements, some graph of it (`IsGraphOf`), its holds, and the cycles of what is emitted by these
+//!   line with its line and the first reason that holds; where none does it is a nest, and is listed by its number with
+//!   its loops, statements, some graph of it (`IsGraphOf`), its holds, and the cycles of what is emitted by these
 //!   (`AreCyclesOf`), once its loops go from 1 by 1, masks stand for its IFs, labels and jumps, INTEGER scalars that
 //!   get no value any more are symbols, forms of the counter stand for its inductions, each range of a scalar's values
-//!   has a name of its own, arrays stand for its private scalars, and its loops have moved as a graph of it asks for;
-//!   where none moves, that graph is the one that is listed. Masks are numbered through the program. Asked: that the
-//!   program is one of FORTRAN 77. Want of memory is the only error. What a graph says beyond that, as which groups the
-//!   Delta test drops, is shown by tests.
+//!   has a name of its own, arrays stand for its private scalars, reads are copied before they are overwritten as a
+//!   graph of it asks for, and its loops have moved as one of the nest with copies does; where nothing is copied, the
+//!   two are one graph, and where no loop moves, the last one is listed. Masks and copies are numbered through the
+//!   program. Asked: that the program is one of FORTRAN 77. Want of memory is the only error. What a graph says beyond
+//!   that, as which groups the Delta test drops, is shown by tests.
 //! - A law (`listed_nests_are_testable`): a nest that is listed with its graph is what the tests ask for (`IsReady`).
 //! - A law (`loops_are_listed`): a nest whose loops can be listed (`IsListedFrom` of normal_loops), and for which masks
 //!   can be made, is listed; so the chain of passes that the listing speaks of says no less.
@@ -25,8 +26,8 @@
 //!
 //! **The number in the line NEST is that of the nest as it was found.** Each nest that is found is listed: it has a
 //! form with loops from 1 by 1, masks for its IFs and jumps, all its symbols, forms for its inductions, names for
-//! ranges of its scalars' values, and arrays for its private scalars. Its loops move where its dependences ask for it;
-//! a graph is made anew only then.
+//! ranges of its scalars' values, and arrays for its private scalars. Reads are copied and loops move where its
+//! dependences ask for it; a graph is made anew only then.
 //!
 //! **More statements of a nest, or references of one statement, than 32 bits count are answered as want of memory.**
 mod counts;
@@ -37,6 +38,7 @@ mod nests;
 mod texts;
 mod words;
 
+pub use counts::Counts;
 pub use laws::{
     listed_nests_are_expanded, listed_nests_are_substituted, listed_nests_are_testable,
     listed_nests_have_causes, loops_are_listed,

@@ -4,3 +4,4 @@ pub mod SubstitutedNests
 pub mod RenamedNests
 pub mod ExpandedNests
 pub mod ArrangedNests
+pub mod SplitNests

@@ -4,3 +4,4 @@ pub mod substitution
 pub mod renaming
 pub mod expansion
 pub mod arrangement
+pub mod splitting

@@ -55,6 +55,17 @@
 //! (`expanded_nest_has_guarded_names`). Of a found nest with masks and with names of ranges the place before is made of
 //! the one behind (`found_nest_is_expanded_in_places`).
 //!
+//! **prepared_passes::splitting**: what is known of nests whose nodes were split (`node_splitting`) holds for every
+//! choice of reads that are copied. A prepared nest stays prepared, by declarations that have the arrays of copies
+//! (`split_nest_is_prepared`), and it is the same but for its statements and these arrays (`split_nest_keeps_rest`),
+//! whose names belong to one copy alone (`copy_names`). Where the arrays are allocated by their extents, and its loops
+//! with what comes after them meet no fault, neither do those of the split nest, and what they come to is the same but
+//! for the copies (`split_nest_goes_on_as_nest`). So the split nest may stand for the nest (`split_may_stand_for`). Its
+//! guarded statements name elements whatever their guards are (`split_nest_has_guarded_names`), and no private scalar
+//! comes back (`split_nest_has_no_private_scalars`). Where a statement meets no fault, each read in it has a value,
+//! since all operands are evaluated. So has its copy, which stands right before the statement under its guard: the
+//! statement then reads this value. The array has an element for each iteration of the loops round the statement.
+//!
 //! **prepared_passes::arrangement** (loop interchange): where the sequential run of a nest goes on, so does that of the
 //! nest with its loops in the order that the edges of its dependence graph ask for, its statements as they are, in the
 //! same store but for the loop variables (`moved_loops`). Asked: that the nest has its facts, and that each trip
@@ -73,6 +84,7 @@ mod conversion;
 mod expansion;
 mod places;
 mod renaming;
+mod splitting;
 mod substitution;
 mod symbols;
 mod unexpanded;
@@ -100,6 +112,11 @@ pub use places::{
 pub use renaming::{
     names_are_fresh, nest_is_renamed_with_anything_behind, renamed_may_stand_for,
     renamed_nest_goes_on_as_nest, renamed_nest_is_prepared, renamed_nest_keeps_rest,
+};
+pub use splitting::{
+    copies_are_fresh, copy_names, split_may_stand_for, split_nest_goes_on_as_nest,
+    split_nest_has_guarded_names, split_nest_has_no_private_scalars, split_nest_is_prepared,
+    split_nest_keeps_rest,
 };
 pub use substitution::{
     inductions_are_substituted_with_anything_behind, substituted_nest_is_prepared,

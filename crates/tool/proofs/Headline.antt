@@ -41,7 +41,7 @@ use Rattle.listing_laws.specs.told_nests.Nests.{by_entries, nests_of}
 use Rattle.listing_laws.proofs.told_nests.Nests.{lines_tell_nests, nests_are_told}
 use Rattle.translation.proofs.NestBlocks.Blocks.{answers_are_blocks}
 use Rattle.translation.proofs.NestBlocks.Listed.{answers_are_listed}
-use Rattle.listing.specs.programs.Listing.{IsListing, IsListingText, ListedNest, listed_nests}
+use Rattle.listing.specs.programs.Listing.{IsListing, IsListingText, ListedNest, listed_nests, no_counts}
 use Rattle.translation.proofs.ProgramMarks.Law.{translation_is_marked}
 use Rattle.translation.proofs.ProgramMarks.Relined.{marked_on_other_lines}
 use Rattle.tool.specs.Translation.{data_part, IsTranslationText}
@@ -75,7 +75,7 @@ module _ (ls : List (List ℕ)) (plain : AllByRecursion IsSourceLine ls) where
 
 -- the lines list the program, with the graphs of these nests
 abbrev ListNests : Program → List ListedNest → List (List ℕ) → Type 0
-ListNests p ts lines = (l : Lists p lines) × (listed_nests 0 (found_in p) l.listing.entries l.listing.are ≡ ts)
+ListNests p ts lines = (l : Lists p lines) × (listed_nests no_counts (found_in p) l.listing.entries l.listing.are ≡ ts)
 
 pub record Holds (deck text : List ℕ) : Type 0 where
   pub translates : Translates deck text
@@ -107,7 +107,7 @@ module _ (deck text : List ℕ) (p : Program) (h : IsReadAs Vectorise deck p)
   source : IsProgram77 fortran77 p
   source = read_is_source_program fortran77 (source_of data_line77 deck) h.reads.source.cards p (omega arith) h.reads.source.are_cards h.reads.source.program
 
-  listing : (l : IsListing p notes) × (listed_nests 0 (found_in p) l.entries l.are ≡ nests)
+  listing : (l : IsListing p notes) × (listed_nests no_counts (found_in p) l.entries l.are ≡ nests)
   listing = answers_are_listed p notes v.blocks v.made v.answers
 
   good : IsGoodTranslation p q

@@ -4,7 +4,7 @@ use Rattle.tree.specs.Plain.{Block, Program, block}
 use Rattle.meaning.specs.Deck.{source_of, data_line90}
 use Rattle.f90_laws.specs.printed.ReadBack.{block_without_numbers}
 use Rattle.find_nests.specs.Found.{found_in}
-use Rattle.listing.specs.programs.Listing.{ListedNest, listed_nests}
+use Rattle.listing.specs.programs.Listing.{ListedNest, listed_nests, no_counts}
 use Rattle.listing_laws.specs.reader.Lists.{Lists}
 use Rattle.translation.specs.loop_placing.Placing.{placed_in}
 use Rattle.translation.specs.program_marks.Marks.{IsMarkedAsListed}
@@ -29,4 +29,4 @@ pub record IsMarked (deck text : List ℕ) : Type 0 where
   pub translation : Program
   pub accepted : IsAccepted (source_of data_line90 text) translation
   pub marked :
-      IsMarkedBy program (listed_nests 0 (found_in program) lists.listing.entries lists.listing.are) translation
+      IsMarkedBy program (listed_nests no_counts (found_in program) lists.listing.entries lists.listing.are) translation

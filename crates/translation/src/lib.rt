@@ -34,9 +34,9 @@
 //! the text; the lines that they list, and in the place of each loop just what an answer puts there (`AreAnswersFor`).
 //! The answer to what was found in a program of FORTRAN 77 (`answer_to`, `IsAnswerTo`) has its lines in the listing
 //! and, where it is a nest, what is emitted for what the passes make of it by the graph that is listed and all its
-//! holds. Masks are numbered through the program: each answer says how many there are by then. Want of memory is the
-//! only error. Laws: these lines are a listing of the program (`answers_are_listed`), and these blocks translations of
-//! its nests (`answers_are_blocks`).
+//! holds. Masks and copies are numbered through the program: each answer says how many there are by then. Want of
+//! memory is the only error. Laws: these lines are a listing of the program (`answers_are_listed`), and these blocks
+//! translations of its nests (`answers_are_blocks`).
 //!
 //! **translation::made_declarations** (`with_declarations`, law): made names among declarations, each at its place in
 //! byte order: as passes made it, a scalar of its kind or an array that is allocated later, or else an INTEGER scalar.
@@ -78,9 +78,9 @@
 //! FORTRAN 77 doesn't have are declared; so no loop variable is declared that isn't used, and a made name may be a
 //! scalar for one pass and an array for the next: the last nest says how it is declared.
 //!
-//! **Each name that passes make is made for one nest.** Masks are numbered through the program, so those of a nest come
-//! behind those of each nest before it (`AreMasksNumbered`); the array for a scalar bears its name and its nest's
-//! number. So a mask may be an array in one nest, and each name is declared in one way.
+//! **Each name that passes make is made for one nest.** Masks and copies are numbered through the program, so those of
+//! a nest come behind those of each nest before it (`AreNumbered`); the array for a scalar bears its name and its
+//! nest's number. So a mask may be an array in one nest, and each name is declared in one way.
 //!
 //! **Arrays come and go within the block of a nest.** ALLOCATE stands before what is emitted and DEALLOCATE behind what
 //! comes after it, so between the statements of a translated program no allocatable array is there, and the runs of

@@ -18,7 +18,7 @@ use Rattle.last_values.specs.Occurrences.{stands_in_statement}
 use Rattle.meaning.specs.Typed.{declared}
 use Rattle.nest.specs.Bodies.{Standing, nest_loops, nest_statements}
 use Rattle.nest.specs.Plain.{Loop, Made, Nest}
-use Rattle.nest_order.proofs.orders.Membership.{map-In}
+use Rattle.nest_order.proofs.orders.Membership.{In-map, map-In}
 use Rattle.nest_order.specs.orders.Lists.{In}
 use Rattle.nest_order.specs.shapes.Shapes.{numbers_of}
 use Rattle.nest_rewrite.specs.Statements.{rewritten_statement}
@@ -31,7 +31,10 @@ use Rattle.scalar_expand.specs.Expanded.{element, expanded, expanding, made_befo
 use Rattle.scalar_expand.specs.Privates.{private_scalars, round_loop}
 use Rattle.scalar_expand.specs.declared.privates.Private.{Private}
 use Rattle.scalar_expand.specs.declared.privates.RoundLoop.{RoundLoop}
-use Rattle.tree.specs.Plain.{Declaration, Given, Program, Reference, subscripts}
+use Rattle.scalar_expand.specs.Privates.{trip_or_none}
+use Rattle.prepared_passes.specs.splitting.Elements as splitting
+use Rattle.node_splitting.specs.Arrays as copies
+use Rattle.tree.specs.Plain.{Declaration, Given, Program, Reference, Subscript, subscripts}
 
 pub made_named : (ms : List Made) (y : List ℕ) → list_any (λ (c : Made). bytes_eq c.name y) ms ≡ true
     → (c : Made) × In c ms × (c.name ≡ y)
@@ -129,3 +132,43 @@ module _ (p b a : Program) (around : List (List ℕ)) (deepest deeper : ℕ) (m 
       by : IsMadeOf (expanding (private_scalars m)) (nest_statements m) y → IsElementIn y.loops r
       by (inr none) = absurd (guarded none)
       by (inl h) = either y h.first inside h.inside h.is r i e
+
+-- ---- by the variables alone
+
+variables_are : (ls : List RoundLoop)
+    → map variable ls ≡ map copies.variable (map (λ (l : RoundLoop). l.variable) ls)
+variables_are [] = refl
+variables_are (l ∷ ls) = ap (λ (ss : List Subscript). variable l ∷ ss) (variables_are ls)
+
+by_variables : (ls : List Loop) (r : Reference) → IsElementIn ls r → splitting.IsElementIn ls r
+by_variables ls r h = record {
+  variables = map (λ (l : RoundLoop). l.variable) h.loops;
+  is = h.is ∙ ap (λ (ss : List Subscript). subscripts (reverse ss)) (variables_are h.loops);
+  among = λ x i.
+      let o = In-map (λ (l : RoundLoop). l.variable) x h.loops i in
+      subst (λ y. In y (variables_of_loops ls)) (sym o.is) (h.among o.it o.inside);
+}
+
+-- a loop of this variable
+round_named : List ℕ → RoundLoop
+round_named x = record { number = 0; variable = x; trip = trip_or_none None }
+
+named_are : (xs : List (List ℕ)) → map variable (map round_named xs) ≡ map copies.variable xs
+unfolding round_named
+named_are [] = refl
+named_are (x ∷ xs) = ap (λ (ss : List Subscript). copies.variable x ∷ ss) (named_are xs)
+
+pub by_loops : (ls : List Loop) (r : Reference) → splitting.IsElementIn ls r → IsElementIn ls r
+unfolding round_named
+by_loops ls r h = record {
+  loops = map round_named h.variables;
+  is = h.is ∙ ap (λ (ss : List Subscript). subscripts (reverse ss)) (sym (named_are h.variables));
+  among = λ l i.
+      let o = In-map round_named l h.variables i in
+      subst (λ (y : RoundLoop). In y.variable (variables_of_loops ls)) (sym o.is) (h.among o.it o.inside);
+}
+
+pub expanded_nest_has_elements : (p b a : Program) (around : List (List ℕ)) (deepest deeper : ℕ) (m : Nest)
+    → IsExpandedInPlaces p b a around deepest deeper m → splitting.HasElements (expanded m)
+expanded_nest_has_elements p b a around deepest deeper m x y inside guarded r i e =
+    by_variables y.loops r (elements_stand p b a around deepest deeper m x y inside guarded r i e)

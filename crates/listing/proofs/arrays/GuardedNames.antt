@@ -1,6 +1,6 @@
 -- Each reference of a nest whose loops have moved to what was made for private scalars names a cell, whatever the guard
 -- of its statement is.
-use Rattle.std.proofs.Common.{◌≡◌, ◌⊎◌, inl, inr, refl, sym, ap, ap₂, ◌∙◌, subst, ℕ, zero, suc, ◌+◌, ◌<◌, ℤ, pos, true, List, []}
+use Rattle.std.proofs.Common.{◌≡◌, ◌⊎◌, inl, inr, refl, sym, ap, ap₂, ◌∙◌, subst, ℕ, zero, suc, ◌+◌, ◌<◌, ◌≤◌, ℤ, pos, Bool, true, List, []}
 use Rattle.std.proofs.Common.{◌∷◌, ◌++◌, map, reverse, length, get_or, Option, Some, None, arith}
 use Rattle.std.specs.Option.{option_map}
 use Rattle.std.specs.Prelude.{unwrap_or}
@@ -19,13 +19,23 @@ use Rattle.prepared_passes.proofs.ExpandedNests.Guarded.{expanded_nest_has_guard
 use Rattle.prepared_passes.proofs.ExpandedNests.Rounds.{each_here, linear_variable}
 use Rattle.prepared_passes.proofs.ExpandedNests.Variables.{Here, Pairs, are_linear, has_each}
 use Rattle.prepared_passes.specs.expansion.Left.{references_of}
+use Rattle.prepared_passes.proofs.SplitNests.Elements.{split_nest_has_elements}
+use Rattle.prepared_passes.proofs.SplitNests.Guarded.{split_nest_has_guarded_names}
+use Rattle.prepared_passes.proofs.SplitNests.Prepared.{split_nest_is_prepared}
 use Rattle.prepared_passes.specs.expansion.Places.{IsExpandedInPlaces}
+use Rattle.prepared_passes.specs.expansion.Prepared.{extent_depth}
+use Rattle.prepared_passes.specs.splitting.Elements.{HasElements}
+use Rattle.prepared_passes.specs.splitting.Laws.{split_rise}
+use Rattle.prepared_passes.specs.splitting.Splits.{MayBeSplit, nodes_split}
+use Rattle.meaning.specs.Profile90.{AreDeclarations}
+use Rattle.dependence_graph.specs.declared.graphs.Place.{Place}
+use Rattle.node_splitting.specs.Split.{with_nodes_split}
 use Rattle.interchange.specs.Arranged.{arranged, with_moved_loops}
 use Rattle.last_values.specs.normal_forms.NormalLoops.{counter_name}
 use Rattle.linear_forms.specs.Laws.{HoldsSized}
 use Rattle.meaning.specs.Run.{State}
 use Rattle.nest.specs.Bodies.{Standing, nest_loops, nest_statements}
-use Rattle.nest.specs.Plain.{Guarded, Loop, Made, Nest}
+use Rattle.nest.specs.Plain.{Loop, Made, Nest}
 use Rattle.nest_order.proofs.orders.Lists.{In-append}
 use Rattle.nest_order.proofs.orders.Membership.{In-map, map-In}
 use Rattle.nest_order.specs.orders.Lists.{Distinct, In}
@@ -48,13 +58,16 @@ use Rattle.pass_laws.specs.prepared_runs.Running.{MayRun, setting_at}
 use Rattle.rewrite.specs.Making.{made, made_subscripts}
 use Rattle.scalar_expand.specs.Expanded.{expanded}
 use Rattle.scalar_expand.specs.declared.privates.RoundLoop.{RoundLoop}
+use Rattle.subscripts.specs.declared.affine.Dirs.{Dirs}
 use Rattle.tree.specs.Plain.{Declaration, Program, Reference, Subscripts}
-use Rattle.listing.proofs.arrays.Elements.{IsElementIn, elements_stand, made_named}
+use Rattle.listing.proofs.arrays.Counted.{names_counted, nothing_deeper, prepared_counted}
+use Rattle.listing.proofs.arrays.Elements.{IsElementIn, by_loops, expanded_nest_has_elements, made_named}
 use Rattle.listing.proofs.arrays.Iterations.{AreBefore, HaveBoth, are_before, both, of_loops, one_each}
 use Rattle.listing.proofs.arrays.Moved.{IsInBoth, in_both, loops_made, making, nest_is, new, old, old_loops, there}
 use Rattle.listing.proofs.arrays.Moved.{variables_made}
 use Rattle.listing.proofs.arrays.References.{ComesFrom, of_statement, subscripts_stay}
 use Rattle.listing.specs.arrays.Laws.{ArrangedNestHasGuardedNames}
+use Rattle.listing.specs.programs.Stages.{with_copies}
 
 -- ---- lists
 
@@ -100,18 +113,12 @@ module _ (es : List Declaration) (around : List (List ℕ)) (deepest : ℕ) (n :
 
 -- ---- a nest whose loops have moved
 
-module _ (p b a : Program) (around : List (List ℕ)) (deepest deeper : ℕ) (m : Nest)
-    (x : IsExpandedInPlaces p b a around deepest deeper m) (k : Nest) (c : IsMovedChain (expanded m) k)
-    (g : IsPrepared a.declarations around (deeper + 18) (there (expanded m) k c)) (u : State)
-    (may : MayRun a (there (expanded m) k c) u) (sized : HoldsSized u.store) where
-  abbrev e : Nest
-  e = expanded m
-
-  abbrev t : Nest
-  t = there (expanded m) k c
-
+module _ (a : Program) (around : List (List ℕ)) (deeper : ℕ) (nest : Nest) (are : AreDeclarations a.declarations)
+    (behind : IsPrepared a.declarations around deeper nest) (elements : HasElements nest) (u : State)
+    (names_before : (h : MayRun a nest u) → HaveGuardedNames nest (setting_at h)) (k : Nest) (c : IsMovedChain nest k)
+    (g : IsPrepared a.declarations around (deeper + 18) (there nest k c)) (may : MayRun a (there nest k c) u) where
   -- before a loop moved it might be run there, too
-  abbrev may_before : MayRun a (expanded m) u
+  abbrev may_before : MayRun a nest u
   may_before = record {
     going = may.going;
     holds = may.holds;
@@ -123,99 +130,99 @@ module _ (p b a : Program) (around : List (List ℕ)) (deepest deeper : ℕ) (m 
   abbrev w : Setting
   w = setting_at may
 
-  once : Distinct (numbers_of (nest_loops (expanded m)))
-  once = distinct_too (numbers_of (nest_loops (expanded m))) x.behind.parts.once
+  once : Distinct (numbers_of (nest_loops nest))
+  once = distinct_too (numbers_of (nest_loops nest)) behind.parts.once
 
-  once_there : Distinct (numbers_of (nest_loops (there (expanded m) k c)))
-  once_there = distinct_too (numbers_of (nest_loops (there (expanded m) k c))) g.parts.once
+  once_there : Distinct (numbers_of (nest_loops (there nest k c)))
+  once_there = distinct_too (numbers_of (nest_loops (there nest k c))) g.parts.once
 
-  module _ (s : ℕ) (q : IsInBoth (expanded m) k c s) where
+  module _ (s : ℕ) (q : IsInBoth nest k c s) where
     abbrev was : Standing
-    was = standing_under (old (expanded m) k c) q.guarded
+    was = standing_under (old nest k c) q.guarded
 
     abbrev is : Standing
-    is = standing_under (loops_made (making (expanded m) k c) (new (expanded m) k c)) (rewritten_statement (making (expanded m) k c) q.guarded)
+    is = standing_under (loops_made (making nest k c) (new nest k c)) (rewritten_statement (making nest k c) q.guarded)
 
-    was_in : In was (nest_statements (expanded m))
-    was_in = nth_in (nest_statements (expanded m)) s was q.was
+    was_in : In was (nest_statements nest)
+    was_in = nth_in (nest_statements nest) s was q.was
 
-    is_in : In is (nest_statements (there (expanded m) k c))
-    is_in = nth_in (nest_statements (there (expanded m) k c)) s is q.is
+    is_in : In is (nest_statements (there nest k c))
+    is_in = nth_in (nest_statements (there nest k c)) s is q.is
 
     before : Standing → Type 0
-    before y = standing_at (expanded m) s ≡ y
+    before y = standing_at nest s ≡ y
 
-    before_is : (s < length (nest_statements (expanded m))) × (standing_at (expanded m) s ≡ was)
-    before_is = at_place (nest_statements (expanded m)) s was no_statement q.was
+    before_is : (s < length (nest_statements nest)) × (standing_at nest s ≡ was)
+    before_is = at_place (nest_statements nest) s was no_statement q.was
 
     plain : IsPlainAssignment (assignment q.guarded)
     plain =
-        (all_in (IsPreparedStatement a.declarations (expanded m) deeper) (nest_statements (expanded m))
-        x.behind.parts.statements was was_in).plain
+        (all_in (IsPreparedStatement a.declarations nest deeper) (nest_statements nest)
+        behind.parts.statements was was_in).plain
 
     module _ (guarded : ¬ (q.guarded.guard ≡ None)) where
-      names : HasGuardedNames (expanded m) (setting_at may_before) s
+      names : HasGuardedNames nest (setting_at may_before) s
       names =
-          expanded_nest_has_guarded_names p b a around deepest deeper m u x may_before sized s before_is.0
+          names_before may_before s before_is.0
           (λ none. guarded (sym (ap (λ (y : Standing). y.statement.guard) before_is.1) ∙ none))
 
       -- ---- an element
 
-      module _ (r : Reference) (inside : In r (references_of q.guarded)) (made : is_made (expanded m) r.name ≡ true) where
-        cells : HasCells (run_nest (expanded m)) (setting_at may_before) s r
+      module _ (r : Reference) (inside : In r (references_of q.guarded)) (made : is_made nest r.name ≡ true) where
+        cells : HasCells (run_nest nest) (setting_at may_before) s r
         cells =
             names.made r (subst (λ (y : runs.Guarded). In r (y.left ∷ references_read y)) (sym (ap guarded_of q.was)) inside)
             made
 
-        element : IsElementIn (old (expanded m) k c) r
-        element = elements_stand p b a around deepest deeper m x was was_in guarded r inside made
+        element : IsElementIn (old nest k c) r
+        element = by_loops (old nest k c) r (elements was was_in guarded r inside made)
 
         module _ (o : Instance)
-            (instance : IsInstance (run_nest (there (expanded m) k c)).loops_of ((run_nest (there (expanded m) k c)).turns_of may.values)
-            (run_nest (there (expanded m) k c)).shape o) (at : o.statement ≡ s) where
+            (instance : IsInstance (run_nest (there nest k c)).loops_of ((run_nest (there nest k c)).turns_of may.values)
+            (run_nest (there nest k c)).shape o) (at : o.statement ≡ s) where
           abbrev HereNow : List ℕ → ℕ → Type 0
-          HereNow = Here (run_nest (there (expanded m) k c)) may.values s o.iterations
+          HereNow = Here (run_nest (there nest k c)) may.values s o.iterations
 
-          turns : Within (turns_in (there (expanded m) k c) may.values) [] (numbers_of (loops_made (making (expanded m) k c) (new (expanded m) k c))) o.iterations
+          turns : Within (turns_in (there nest k c) may.values) [] (numbers_of (loops_made (making nest k c) (new nest k c))) o.iterations
           turns =
-              subst (λ (ls : List ℕ). Within (turns_in (there (expanded m) k c) may.values) [] ls o.iterations)
-              (ap (run_nest (there (expanded m) k c)).loops_of at ∙ ap rounds_of q.is) instance.1
+              subst (λ (ls : List ℕ). Within (turns_in (there nest k c) may.values) [] ls o.iterations)
+              (ap (run_nest (there nest k c)).loops_of at ∙ ap rounds_of q.is) instance.1
 
-          now : Pairs HereNow (variables_of_loops (loops_made (making (expanded m) k c) (new (expanded m) k c))) o.iterations
+          now : Pairs HereNow (variables_of_loops (loops_made (making nest k c) (new nest k c))) o.iterations
           now =
-              each_here a.declarations around (deeper + 18) (there (expanded m) k c) g may.values s is q.is is_in o.iterations
+              each_here a.declarations around (deeper + 18) (there nest k c) g may.values s is q.is is_in o.iterations
               turns
 
-          first : AreBefore (expanded m) k c may.values once once_there HereNow o.iterations (old (expanded m) k c)
-          first = are_before (expanded m) k c may.values once once_there HereNow o.iterations now turns
+          first : AreBefore nest k c may.values once once_there HereNow o.iterations (old nest k c)
+          first = are_before nest k c may.values once once_there HereNow o.iterations now turns
 
           abbrev HereThen : List ℕ → ℕ → Type 0
-          HereThen = Here (run_nest (expanded m)) may.values s first.iterations
+          HereThen = Here (run_nest nest) may.values s first.iterations
 
-          then_here : Pairs HereThen (variables_of_loops (old (expanded m) k c)) first.iterations
+          then_here : Pairs HereThen (variables_of_loops (old nest k c)) first.iterations
           then_here =
-              each_here a.declarations around deeper (expanded m) x.behind may.values s was q.was was_in first.iterations
+              each_here a.declarations around deeper nest behind may.values s was q.was was_in first.iterations
               (first.within [])
 
           abbrev place : Instance
           place = record { statement = s; iterations = first.iterations }
 
-          stands : IsInstance (run_nest (expanded m)).loops_of ((run_nest (expanded m)).turns_of may.values) (run_nest (expanded m)).shape place
+          stands : IsInstance (run_nest nest).loops_of ((run_nest nest).turns_of may.values) (run_nest nest).shape place
           stands = (
-            (statements_stand (expanded m) x.behind.plain
-                (prepared_nest_is_ready a.declarations around deeper (expanded m) x.places.behind.are x.behind) s was q.was).0,
-            subst (λ (ls : List ℕ). Within (turns_in (expanded m) may.values) [] ls first.iterations)
+            (statements_stand nest behind.plain
+                (prepared_nest_is_ready a.declarations around deeper nest are behind) s was q.was).0,
+            subst (λ (ls : List ℕ). Within (turns_in nest may.values) [] ls first.iterations)
                 (sym (ap rounds_of q.was)) (first.within []),
           )
 
-          named : NamesCell (run_nest (expanded m)) (setting_at may_before) place r
+          named : NamesCell (run_nest nest) (setting_at may_before) place r
           named = cells.names place stands refl
 
           -- the variables of the element have the same iterations in both
           have : HaveBoth HereThen HereNow element.loops
           have =
-              of_loops HereThen HereNow (variables_of_loops (old (expanded m) k c)) first.iterations
-              (both HereThen HereNow (variables_of_loops (old (expanded m) k c)) first.iterations then_here first.here)
+              of_loops HereThen HereNow (variables_of_loops (old nest k c)) first.iterations
+              (both HereThen HereNow (variables_of_loops (old nest k c)) first.iterations then_here first.here)
               element.loops element.among
 
           abbrev values : List ℤ
@@ -223,107 +230,160 @@ module _ (p b a : Program) (around : List (List ℕ)) (deepest deeper : ℕ) (m 
 
           same : reverse (map pos have.iterations) ≡ named.cell.subscripts
           same =
-              one_each (run_nest (expanded m)) may.values s first.iterations r.subscripts values named.cell.subscripts
+              one_each (run_nest nest) may.values s first.iterations r.subscripts values named.cell.subscripts
               cells.linear
-              (subst (λ (qs : Subscripts). MayHaveEach (run_nest (expanded m)) may.values s first.iterations qs values)
+              (subst (λ (qs : Subscripts). MayHaveEach (run_nest nest) may.values s first.iterations qs values)
               (sym element.is)
-              (has_each (run_nest (expanded m)) may.values s first.iterations element.loops have.iterations have.first))
+              (has_each (run_nest nest) may.values s first.iterations element.loops have.iterations have.first))
               named.may.subscripts
 
-          there_too : MayHaveEach (run_nest (there (expanded m) k c)) may.values s o.iterations r.subscripts named.cell.subscripts
+          there_too : MayHaveEach (run_nest (there nest k c)) may.values s o.iterations r.subscripts named.cell.subscripts
           there_too =
-              subst (λ (zs : List ℤ). MayHaveEach (run_nest (there (expanded m) k c)) may.values s o.iterations r.subscripts zs) same
-              (subst (λ (qs : Subscripts). MayHaveEach (run_nest (there (expanded m) k c)) may.values s o.iterations qs values)
+              subst (λ (zs : List ℤ). MayHaveEach (run_nest (there nest k c)) may.values s o.iterations r.subscripts zs) same
+              (subst (λ (qs : Subscripts). MayHaveEach (run_nest (there nest k c)) may.values s o.iterations qs values)
               (sym element.is)
-              (has_each (run_nest (there (expanded m) k c)) may.values s o.iterations element.loops have.iterations have.second))
+              (has_each (run_nest (there nest k c)) may.values s o.iterations element.loops have.iterations have.second))
 
-          names_now : NamesCell (run_nest (there (expanded m) k c)) (setting_at may) o r
+          names_now : NamesCell (run_nest (there nest k c)) (setting_at may) o r
           names_now = record {
             cell = named.cell;
             may = record {
               name = named.may.name;
               subscripts =
-                  subst (λ (n : ℕ). MayHaveEach (run_nest (there (expanded m) k c)) may.values n o.iterations r.subscripts named.cell.subscripts)
+                  subst (λ (n : ℕ). MayHaveEach (run_nest (there nest k c)) may.values n o.iterations r.subscripts named.cell.subscripts)
                   (sym at) there_too;
             };
             within = named.within;
           }
 
         variable_now : (l : RoundLoop) → In l element.loops
-            → In l.variable (variables_of_loops (loops_made (making (expanded m) k c) (new (expanded m) k c)))
+            → In l.variable (variables_of_loops (loops_made (making nest k c) (new nest k c)))
         variable_now l i =
-            let v = In-map (λ (y : Loop). y.variable) l.variable (old (expanded m) k c) (element.among l i) in
-            subst (In l.variable) (sym (variables_made (making (expanded m) k c) (new (expanded m) k c)))
-            (subst (λ z. In z (variables_of_loops (new (expanded m) k c))) (sym v.is)
-            (map-In (λ (y : Loop). y.variable) v.it (new (expanded m) k c) (c.all v.it v.inside)))
+            let v = In-map (λ (y : Loop). y.variable) l.variable (old nest k c) (element.among l i) in
+            subst (In l.variable) (sym (variables_made (making nest k c) (new nest k c)))
+            (subst (λ z. In z (variables_of_loops (new nest k c))) (sym v.is)
+            (map-In (λ (y : Loop). y.variable) v.it (new nest k c) (c.all v.it v.inside)))
 
-        has_cells : HasCells (run_nest (there (expanded m) k c)) (setting_at may) s r
+        has_cells : HasCells (run_nest (there nest k c)) (setting_at may) s r
         has_cells = record {
           linear =
-              subst (AreLinear (run_nest (there (expanded m) k c)) s) (sym element.is)
-              (are_linear (run_nest (there (expanded m) k c)) s element.loops
-              (λ l i. linear_variable a.declarations around (deeper + 18) (there (expanded m) k c) g may.values s is q.is is_in
+              subst (AreLinear (run_nest (there nest k c)) s) (sym element.is)
+              (are_linear (run_nest (there nest k c)) s element.loops
+              (λ l i. linear_variable a.declarations around (deeper + 18) (there nest k c) g may.values s is q.is is_in
               l.variable (variable_now l i)));
           names = λ o instance at. names_now o instance at;
         }
 
       -- ---- whichever it is
 
-      in_nest : (l : Loop) → In l (new (expanded m) k c) → In l (nest_loops (expanded m))
-      in_nest l i = subst (In l) (sym (old_loops (expanded m) k c)) (c.among l i)
+      in_nest : (l : Loop) → In l (new nest k c) → In l (nest_loops nest)
+      in_nest l i = subst (In l) (sym (old_loops nest k c)) (c.among l i)
 
-      of_made : (r : Reference) → In r (references_of (rewritten_statement (making (expanded m) k c) q.guarded))
-          → is_made (expanded m) r.name ≡ true → HasCells (run_nest (there (expanded m) k c)) (setting_at may) s r
+      of_made : (r : Reference) → In r (references_of (rewritten_statement (making nest k c) q.guarded))
+          → is_made nest r.name ≡ true → HasCells (run_nest (there nest k c)) (setting_at may) s r
       of_made r i made =
-          by (of_statement (variables_of_loops (new (expanded m) k c)) (expanded m).symbols q.guarded plain r i)
+          by (of_statement (variables_of_loops (new nest k c)) nest.symbols q.guarded plain r i)
         where
-          by : ComesFrom (variables_of_loops (new (expanded m) k c)) (expanded m).symbols (references_of q.guarded) r
-              → HasCells (run_nest (there (expanded m) k c)) (setting_at may) s r
+          by : ComesFrom (variables_of_loops (new nest k c)) nest.symbols (references_of q.guarded) r
+              → HasCells (run_nest (there nest k c)) (setting_at may) s r
           by (inl j) =
               absurd
-              (made_apart a.declarations around deeper (expanded m) x.behind (new (expanded m) k c) in_nest r.name made j)
+              (made_apart a.declarations around deeper nest behind (new nest k c) in_nest r.name made j)
           by (inr h) =
-              let there_made : is_made (expanded m) h.first.name ≡ true
-              = subst (λ y. is_made (expanded m) y ≡ true) h.name made in
+              let there_made : is_made nest h.first.name ≡ true
+              = subst (λ y. is_made nest y ≡ true) h.name made in
               let o = element h.first h.inside there_made in
-              let stay : made_subscripts (making (expanded m) k c) h.first.subscripts ≡ h.first.subscripts
-              = ap (made_subscripts (making (expanded m) k c)) o.is
-              ∙ (subscripts_stay (variables_of_loops (new (expanded m) k c)) (expanded m).symbols o.loops ∙ sym o.is) in
+              let stay : made_subscripts (making nest k c) h.first.subscripts ≡ h.first.subscripts
+              = ap (made_subscripts (making nest k c)) o.is
+              ∙ (subscripts_stay (variables_of_loops (new nest k c)) nest.symbols o.loops ∙ sym o.is) in
               let same : r ≡ h.first
               = ap₂ (λ y (qs : Subscripts). record { name = y; subscripts = qs }) h.name (h.subscripts ∙ stay) in
-              subst (HasCells (run_nest (there (expanded m) k c)) (setting_at may) s) (sym same)
+              subst (HasCells (run_nest (there nest k c)) (setting_at may) s) (sym same)
               (has_cells h.first h.inside there_made)
 
-      has_names : HasGuardedNames (there (expanded m) k c) (setting_at may) s
+      has_names : HasGuardedNames (there nest k c) (setting_at may) s
       has_names = record {
         declared = names.declared;
         made = λ r i made.
             of_made r (subst (λ (y : runs.Guarded). In r (y.left ∷ references_read y)) (ap guarded_of q.is) i) made;
       }
 
-  guarded_names : HaveGuardedNames (there (expanded m) k c) (setting_at may)
+  guarded_names : HaveGuardedNames (there nest k c) (setting_at may)
   guarded_names s within guarded =
-      let q = in_both (expanded m) k c s within in
-      let at = at_place (nest_statements (there (expanded m) k c)) s (is s q) no_statement q.is in
+      let q = in_both nest k c s within in
+      let at = at_place (nest_statements (there nest k c)) s (is s q) no_statement q.is in
       has_names s q
       (λ none. guarded (ap (λ (y : Standing). y.statement.guard) at.1
-      ∙ ap (option_map (made (making (expanded m) k c))) none))
+      ∙ ap (option_map (made (making nest k c))) none))
+
+-- whatever nest it is whose guarded statements name elements of what was made
+moved_nest_has_guarded_names : (a : Program) (around : List (List ℕ)) (deeper : ℕ) (nest : Nest) (vectors : List Dirs)
+    (u : State) → AreDeclarations a.declarations → IsPrepared a.declarations around deeper nest → HasElements nest
+    → ((h : MayRun a nest u) → HaveGuardedNames nest (setting_at h)) → (may : MayRun a (arranged nest vectors) u)
+    → HaveGuardedNames (arranged nest vectors) (setting_at may)
+moved_nest_has_guarded_names a around deeper nest vectors u are behind elements before may =
+    by (with_moved_loops nest vectors) refl may
+  where
+    prepared : IsPrepared a.declarations around (deeper + 18) (arranged nest vectors)
+    prepared = arranged_nest_is_prepared a.declarations around deeper nest vectors behind
+
+    by : (o : Option Nest) → with_moved_loops nest vectors ≡ o → (h : MayRun a (unwrap_or o nest) u)
+        → HaveGuardedNames (unwrap_or o nest) (setting_at h)
+    by None e h = before h
+    by (Some k) e h =
+        let c = moved_chain nest vectors k (moved_is nest vectors k e) in
+        let same = nest_is nest k c in
+        let again : IsPrepared a.declarations around (deeper + 18) k
+        = subst (λ (o : Option Nest). IsPrepared a.declarations around (deeper + 18) (unwrap_or o nest)) e prepared in
+        subst (λ (z : Nest). (i : MayRun a z u) → HaveGuardedNames z (setting_at i)) (sym same)
+        (λ i. guarded_names a around deeper nest are behind elements u before k c
+        (subst (IsPrepared a.declarations around (deeper + 18)) same again) i) h
+
+-- ---- the split nest
+
+module _ (p b a : Program) (around : List (List ℕ)) (deepest deeper copies : ℕ) (m : Nest) (may : Place → Bool)
+    (u : State) (x : IsExpandedInPlaces p b a around deepest deeper m) (room : extent_depth ≤ deeper)
+    (can : MayBeSplit a.declarations may (with_copies copies (expanded m))) (sized : HoldsSized u.store) where
+  abbrev e : Nest
+  e = with_copies copies (expanded m)
+
+  abbrev HasAll : Nest → Type 0
+  HasAll z = IsPrepared a.declarations around (deeper + split_rise) z × HasElements z
+      × ((h : MayRun a z u) → HaveGuardedNames z (setting_at h))
+
+  prepared_before : IsPrepared a.declarations around deeper (with_copies copies (expanded m))
+  prepared_before = prepared_counted a.declarations around deeper (expanded m) copies x.behind
+
+  elements_before : HasElements (with_copies copies (expanded m))
+  elements_before = expanded_nest_has_elements p b a around deepest deeper m x
+
+  names_before_split : (h : MayRun a (with_copies copies (expanded m)) u) → HaveGuardedNames (with_copies copies (expanded m)) (setting_at h)
+  names_before_split =
+      names_counted a (expanded m) copies u
+      (λ h. expanded_nest_has_guarded_names p b a around deepest deeper m u x h sized)
+
+  split_has_all : IsPrepared a.declarations around (deeper + split_rise) (nodes_split may (with_copies copies (expanded m)))
+      × HasElements (nodes_split may (with_copies copies (expanded m)))
+      × ((h : MayRun a (nodes_split may (with_copies copies (expanded m))) u)
+      → HaveGuardedNames (nodes_split may (with_copies copies (expanded m))) (setting_at h))
+  split_has_all = by (with_nodes_split may e) refl
+    where
+      by : (o : Option Nest) → with_nodes_split may e ≡ o → HasAll (unwrap_or o e)
+      by None f = (
+        nothing_deeper a.declarations around deeper split_rise e prepared_before,
+        elements_before,
+        names_before_split,
+      )
+      by (Some k) f = (
+        split_nest_is_prepared a.declarations around deeper may e k prepared_before can room f,
+        split_nest_has_elements a around deeper may e k prepared_before can f elements_before,
+        (λ h. split_nest_has_guarded_names a around deeper may e k u x.places.behind.are prepared_before can room f
+            elements_before names_before_split h sized),
+      )
 
 pub arranged_nest_has_guarded_names : ArrangedNestHasGuardedNames
-arranged_nest_has_guarded_names p b a around deepest deeper m vectors u x may sized =
-    by (with_moved_loops (expanded m) vectors) refl may
-  where
-    prepared : IsPrepared a.declarations around (deeper + 18) (arranged (expanded m) vectors)
-    prepared = arranged_nest_is_prepared a.declarations around deeper (expanded m) vectors x.behind
-
-    by : (o : Option Nest) → with_moved_loops (expanded m) vectors ≡ o → (h : MayRun a (unwrap_or o (expanded m)) u)
-        → HaveGuardedNames (unwrap_or o (expanded m)) (setting_at h)
-    by None e h = expanded_nest_has_guarded_names p b a around deepest deeper m u x h sized
-    by (Some k) e h =
-        let c = moved_chain (expanded m) vectors k (moved_is (expanded m) vectors k e) in
-        let same = nest_is (expanded m) k c in
-        let again : IsPrepared a.declarations around (deeper + 18) k
-        = subst (λ (o : Option Nest). IsPrepared a.declarations around (deeper + 18) (unwrap_or o (expanded m))) e prepared in
-        subst (λ (z : Nest). (i : MayRun a z u) → HaveGuardedNames z (setting_at i)) (sym same)
-        (λ i. guarded_names p b a around deepest deeper m x k c
-        (subst (IsPrepared a.declarations around (deeper + 18)) same again) u i sized) h
+arranged_nest_has_guarded_names p b a around deepest deeper copies m split may vectors u x room can same run sized =
+    let all = split_has_all p b a around deepest deeper copies m may u x room can sized in
+    subst (λ (z : Nest). (h : MayRun a (arranged z vectors) u) → HaveGuardedNames (arranged z vectors) (setting_at h)) (sym same)
+    (λ h. moved_nest_has_guarded_names a around (deeper + split_rise) (nodes_split may (with_copies copies (expanded m)))
+    vectors u x.places.behind.are all.0 all.1 all.2 h) run

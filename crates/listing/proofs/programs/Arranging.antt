@@ -5,6 +5,7 @@ use Rattle.std.specs.Prelude.{unwrap_or}
 use Rattle.prepared_passes.proofs.ArrangedNests.MovedChains.{moved_is}
 use Rattle.dependence_graph.specs.nest_graph.Spans.{spans_of}
 use Rattle.prepared_passes.specs.expansion.Found.{expanded_depth}
+use Rattle.prepared_passes.specs.splitting.Laws.{split_rise}
 use Rattle.interchange.specs.Arranged.{arranged, arranged_by, arranged_chain, body_in, is_changed, trips_of, with_moved_loops}
 use Rattle.interchange.specs.Arranged.{with_order}
 use Rattle.interchange.specs.Chains.{Chain, chain_of}
@@ -15,9 +16,10 @@ use Rattle.nest.specs.declared.parts.Trip.{Trip}
 use Rattle.subscripts.specs.declared.affine.Dirs.{Dirs}
 use Rattle.tree.specs.Plain.{Block}
 
--- canonical text, which is made anew where a loop moves, is at most 18 deeper
+-- an element of a copy may be deeper by one, and canonical text, which is made anew where a read is copied and where a
+-- loop moves, by 18
 abbrev pub last_depth : ℕ
-last_depth = expanded_depth + 18
+last_depth = (expanded_depth + split_rise) + 18
 
 -- ---- all but the body
 

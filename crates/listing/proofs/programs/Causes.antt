@@ -24,19 +24,20 @@ use Rattle.listing.proofs.programs.CausesByEntries.{causes_by_entries}
 use Rattle.listing.proofs.programs.ListedParts.{as_listed, cycles_listed, edges_listed, holds_listed}
 use Rattle.listing.proofs.programs.Sources.{listed_nest_is_testable, prepared_for}
 use Rattle.listing.proofs.programs.Stages.{listed_is_made}
+use Rattle.listing.specs.declared.programs.counts.Counts.{Counts}
 use Rattle.listing.specs.graphs.Lines.{Entry}
 use Rattle.listing.specs.programs.Causes.{AreCaused, listed_cycles, listed_edges, listed_holds}
 use Rattle.listing.specs.programs.Laws.{ListedNestsHaveCauses}
-use Rattle.listing.specs.programs.Listing.{HasCycleEntries, HaveEntries, tested_entries}
+use Rattle.listing.specs.programs.Listing.{HasCycleEntries, HaveEntries, counts_of, no_counts, tested_entries}
 use Rattle.listing.specs.programs.Stages.{IsListedFrom}
 
 module _ (p : Program) (is : IsProgram77 fortran77 p) where
-  have_causes : (masks : ℕ) (n m : Nest) (g : Graph) (cs : List Cycle) → Contains (found_in p) (InNest n) → IsListedFrom masks n m
+  have_causes : (counts : Counts) (n m : Nest) (g : Graph) (cs : List Cycle) → Contains (found_in p) (InNest n) → IsListedFrom counts n m
       → IsGraphOf m g → AreCyclesOf m g.edges (all_holds m) cs → HaveCauses m g.edges (all_holds m) cs
-  have_causes masks n m g cs c listed graph cycles =
-      let w = listed_is_made masks n m listed in
-      let prepared = prepared_for p masks n w.nest is c w.made in
-      let shallow = ready_is_shallow m (listed_nest_is_testable p masks n m is c listed) in
+  have_causes counts n m g cs c listed graph cycles =
+      let w = listed_is_made counts n m listed in
+      let prepared = prepared_for p counts n w.nest is c w.made in
+      let shallow = ready_is_shallow m (listed_nest_is_testable p counts n m is c listed) in
       loops_have_causes m g.edges (all_holds m) cs (subst (λ (k : Nest). IsPlain k.body) (sym w.same) prepared.plain)
       (subst (λ (k : Nest). Distinct (numbers_of (loops_of k.body))) (sym w.same) prepared.parts.once)
       (edges_lead m g shallow graph) cycles
@@ -52,16 +53,16 @@ module _ (p : Program) (is : IsProgram77 fortran77 p) where
       (subst (λ (xs : List Cycle). HaveCauses m (map as_listed g.edges) (all_holds m) xs) (sym (cycles_listed m number g (all_holds m) h.cycles))
       (causes_by_entries g.edges m (all_holds m) h.cycles causes))))
 
-  all_caused : (masks : ℕ) (fs : List Found) (es : List Entry) → ((f : Found) → Contains fs f → Contains (found_in p) f)
-      → (h : HaveEntries masks fs es) → AreCaused masks fs es h
-  all_caused masks [] es c h = tt
-  all_caused masks (InNest n ∷ fs) es c h = (
+  all_caused : (counts : Counts) (fs : List Found) (es : List Entry) → ((f : Found) → Contains fs f → Contains (found_in p) f)
+      → (h : HaveEntries counts fs es) → AreCaused counts fs es h
+  all_caused counts [] es c h = tt
+  all_caused counts (InNest n ∷ fs) es c h = (
     listed_causes n.number h.3.0 h.3.2.0 h.0 h.3.2.2
-        (have_causes masks n h.3.0 h.3.2.0 h.3.2.2.cycles (c (InNest n) (here (InNest n) fs)) h.3.1 h.3.2.1 h.3.2.2.cycles_are),
-    all_caused h.3.0.masks fs h.1 (λ g i. c g (there (InNest n) fs g i)) h.4,
+        (have_causes counts n h.3.0 h.3.2.0 h.3.2.2.cycles (c (InNest n) (here (InNest n) fs)) h.3.1 h.3.2.1 h.3.2.2.cycles_are),
+    all_caused (counts_of h.3.0) fs h.1 (λ g i. c g (there (InNest n) fs g i)) h.4,
   )
-  all_caused masks (Kept line r ∷ fs) es c h =
-      all_caused masks fs h.1 (λ g i. c g (there (Kept line r) fs g i)) h.4
+  all_caused counts (Kept line r ∷ fs) es c h =
+      all_caused counts fs h.1 (λ g i. c g (there (Kept line r) fs g i)) h.4
 
 pub listed_nests_have_causes : ListedNestsHaveCauses
-listed_nests_have_causes p lines is l = all_caused p is 0 (found_in p) l.entries (λ f c. c) l.are
+listed_nests_have_causes p lines is l = all_caused p is no_counts (found_in p) l.entries (λ f c. c) l.are

@@ -9,7 +9,7 @@ use Rattle.dependence_graph.specs.declared.graphs.Cycle.{Cycle}
 use Rattle.dependence_graph.specs.declared.graphs.Edge.{Edge}
 use Rattle.dependence_graph.specs.declared.graphs.Hold.{Hold}
 use Rattle.nest.specs.Plain.{Nest}
-use Rattle.emission.specs.emission_causes.Causes.{HasCycle, HaveCauses, IsCycleOf, IsHeldThere, StandsInLoop, steps_at}
+use Rattle.emission.specs.emission_causes.Causes.{HasCycle, HaveCauses, IsHeldThere, StandsInLoop, steps_at}
 use Rattle.emission.specs.emission_marks.Components as marks
 use Rattle.emission.specs.emission_marks.Components.{IsAloneAt}
 use Rattle.emission.specs.emission_pieces.Cycles.{is_step, steps_of}

@@ -21,9 +21,11 @@ use Rattle.find_nests.specs.View.{found_of}
 use Rattle.listing.specs.graphs.Lines.{Entry, KeepEntry}
 use Rattle.listing.specs.graphs.Listing.{lines_of_entries, lines_of_entry, listing_of}
 use Rattle.listing.proofs.graphs.LoopLines.{entries-append, one_more}
+use Rattle.listing.specs.declared.programs.counts.Counts.{Counts}
 use Rattle.listing.specs.declared.programs.nests.Listed.{Listed}
 use Rattle.listing.specs.programs.Listed.{IsListedAs}
-use Rattle.listing.specs.programs.Listing.{HasEntries, HaveEntries, IsListing, IsListingText, masks_behind}
+use Rattle.listing.specs.programs.Listing.{HasEntries, HaveEntries, IsListing, IsListingText, counts_behind, counts_of}
+use Rattle.listing.specs.programs.Listing.{no_counts}
 use Rattle.listing.specs.programs.Listing.{kept, reason_word, tested_entries}
 use Rattle.listing.specs.programs.Stages.{IsLastGraph, IsListedFrom}
 use Rattle.listing.specs.programs.Testable.{AreTestsOf}
@@ -50,19 +52,19 @@ tests_of number n g holds cycles lines graph h are l = record {
 
 -- ---- one that was found
 
-pub listed_nest : (masks : ℕ) (found n : Nest) (g : Graph) (holds : List Hold) (r : Listed)
-    → (listed : IsListedFrom masks found n) → IsLastGraph listed.stages.expanded listed.stages.graph g
-    → AreTestsOf found.number n g holds (map text_of r.lines) → r.masks ≡ n.masks → IsListedAs masks (InNest found) r
-listed_nest masks found n g holds r t kept h e = record {
+pub listed_nest : (counts : Counts) (found n : Nest) (g : Graph) (holds : List Hold) (r : Listed)
+    → (listed : IsListedFrom counts found n) → IsLastGraph listed.stages.split listed.stages.graph g
+    → AreTestsOf found.number n g holds (map text_of r.lines) → r.counts ≡ counts_of n → IsListedAs counts (InNest found) r
+listed_nest counts found n g holds r t kept h e = record {
   entries = h.entries;
   are = (n, t, (g, h.graph, h.listed, kept));
   lines = h.lines_are;
   behind = e;
 }
 
-pub found_listed : {E : Type 0} (masks : ℕ) (r : Result Listed E) (f g : Found) → g ≡ f → IfOk r (IsListedAs masks f)
-    → IfOk r (IsListedAs masks g)
-found_listed masks r f g e h = subst (λ (f : Found). IfOk r (IsListedAs masks f)) (sym e) h
+pub found_listed : {E : Type 0} (counts : Counts) (r : Result Listed E) (f g : Found) → g ≡ f → IfOk r (IsListedAs counts f)
+    → IfOk r (IsListedAs counts g)
+found_listed counts r f g e h = subst (λ (f : Found). IfOk r (IsListedAs counts f)) (sym e) h
 
 pub kept_texts : {E : Type 0} (r : Result (List Line) E) (line : ℕ) (reason : Reason) (word : List ℕ)
     → word ≡ reason_word reason → GivesTexts r (lines_of_entry (KeepEntry line word))
@@ -72,83 +74,83 @@ kept_texts (Ok all) line reason word w h =
     h ∙ ap (λ (t : List ℕ). lines_of_entry (KeepEntry line t)) w
     ∙ sym (append-nil (lines_of_entry (KeepEntry line (reason_word reason))))
 
-pub kept_listed : (masks line : ℕ) (reason : Reason) (f : Found) (r : Listed) → f ≡ Kept line reason
-    → map text_of r.lines ≡ lines_of_entries (kept line reason) → r.masks ≡ masks → IsListedAs masks f r
-kept_listed masks line reason f r is h e =
-    subst (λ (f : Found). IsListedAs masks f r) (sym is)
+pub kept_listed : (counts : Counts) (line : ℕ) (reason : Reason) (f : Found) (r : Listed) → f ≡ Kept line reason
+    → map text_of r.lines ≡ lines_of_entries (kept line reason) → r.counts ≡ counts → IsListedAs counts f r
+kept_listed counts line reason f r is h e =
+    subst (λ (f : Found). IsListedAs counts f r) (sym is)
     (record { entries = kept line reason; are = refl; lines = h; behind = e })
 
 -- ---- one more
 
--- the masks that are made before and by what was found, which is listed so
-abbrev pub masks_after : (masks : ℕ) (fs : List Found) (es : List Entry) → HaveEntries masks fs es → ℕ
-masks_after masks [] es h = masks
-masks_after masks (f ∷ fs) es h = masks_after (masks_behind masks f h.0 h.3) fs h.1 h.4
+-- what is made before and by what was found, which is listed so
+abbrev pub counts_after : (counts : Counts) (fs : List Found) (es : List Entry) → HaveEntries counts fs es → Counts
+counts_after counts [] es h = counts
+counts_after counts (f ∷ fs) es h = counts_after (counts_behind counts f h.0 h.3) fs h.1 h.4
 
--- what was found is listed so, and so many masks are made by then
-pub record AreListed (fs : List Found) (lines : List (List ℕ)) (masks : ℕ) : Type 0 where
+-- what was found is listed so, and so much is made by then
+pub record AreListed (fs : List Found) (lines : List (List ℕ)) (counts : Counts) : Type 0 where
   pub entries : List Entry
-  pub are : HaveEntries 0 fs entries
+  pub are : HaveEntries no_counts fs entries
   pub lines_are : lines ≡ lines_of_entries entries
-  pub masks_are : masks ≡ masks_after 0 fs entries are
+  pub counts_are : counts ≡ counts_after no_counts fs entries are
 
-record HaveMore (masks : ℕ) (fs : List Found) (es last : List Entry) (f : Found) (next : ℕ) : Type 0 where
-  are : HaveEntries masks (fs ++ f ∷ []) (es ++ last)
-  masks_are : next ≡ masks_after masks (fs ++ f ∷ []) (es ++ last) are
+record HaveMore (counts : Counts) (fs : List Found) (es last : List Entry) (f : Found) (next : Counts) : Type 0 where
+  are : HaveEntries counts (fs ++ f ∷ []) (es ++ last)
+  counts_are : next ≡ counts_after counts (fs ++ f ∷ []) (es ++ last) are
 
-have_more : (masks : ℕ) (fs : List Found) (es last : List Entry) (f : Found) (h : HaveEntries masks fs es)
-    (k : HasEntries (masks_after masks fs es h) f last)
-    → HaveMore masks fs es last f (masks_behind (masks_after masks fs es h) f last k)
-have_more masks [] es last f e k =
-    record { are = (last, [], ap (λ u. u ++ last) e ∙ sym (append-nil last), k, refl); masks_are = refl }
-have_more masks (g ∷ fs) es last f h k =
-    let rest = have_more (masks_behind masks g h.0 h.3) fs h.1 last f h.4 k in
+have_more : (counts : Counts) (fs : List Found) (es last : List Entry) (f : Found) (h : HaveEntries counts fs es)
+    (k : HasEntries (counts_after counts fs es h) f last)
+    → HaveMore counts fs es last f (counts_behind (counts_after counts fs es h) f last k)
+have_more counts [] es last f e k =
+    record { are = (last, [], ap (λ u. u ++ last) e ∙ sym (append-nil last), k, refl); counts_are = refl }
+have_more counts (g ∷ fs) es last f h k =
+    let rest = have_more (counts_behind counts g h.0 h.3) fs h.1 last f h.4 k in
     record {
       are = (h.0, h.1 ++ last, ap (λ u. u ++ last) h.2 ∙ append_assoc h.0 h.1 last, h.3, rest.are);
-      masks_are = rest.masks_are;
+      counts_are = rest.counts_are;
     }
 
-lines_more : (fs : List Found) (f : Found) (old new : List (List ℕ)) (masks : ℕ) (r : Listed) → AreListed fs old masks
-    → IsListedAs masks f r → new ≡ old ++ map text_of r.lines → AreListed (fs ++ f ∷ []) new r.masks
-lines_more fs f old new masks r h k e = by (subst (λ (m : ℕ). IsListedAs m f r) h.masks_are k)
+lines_more : (fs : List Found) (f : Found) (old new : List (List ℕ)) (counts : Counts) (r : Listed) → AreListed fs old counts
+    → IsListedAs counts f r → new ≡ old ++ map text_of r.lines → AreListed (fs ++ f ∷ []) new r.counts
+lines_more fs f old new counts r h k e = by (subst (λ (m : Counts). IsListedAs m f r) h.counts_are k)
   where
-    by : IsListedAs (masks_after 0 fs h.entries h.are) f r → AreListed (fs ++ f ∷ []) new r.masks
+    by : IsListedAs (counts_after no_counts fs h.entries h.are) f r → AreListed (fs ++ f ∷ []) new r.counts
     by i =
-        let more = have_more 0 fs h.entries i.entries f h.are i.are in
+        let more = have_more no_counts fs h.entries i.entries f h.are i.are in
         record {
           entries = h.entries ++ i.entries;
           are = more.are;
           lines_are =
               e ∙ ap (λ u. u ++ map text_of r.lines) h.lines_are ∙ ap (λ u. lines_of_entries h.entries ++ u) i.lines
               ∙ sym (entries-append h.entries i.entries);
-          masks_are = i.behind ∙ more.masks_are;
+          counts_are = i.behind ∙ more.counts_are;
         }
 
-pub listed_none : (items : List Found') → AreListed (map found_of (take 0 items)) [] 0
-listed_none items = record { entries = []; are = refl; lines_are = refl; masks_are = refl }
+pub listed_none : (items : List Found') → AreListed (map found_of (take 0 items)) [] no_counts
+listed_none items = record { entries = []; are = refl; lines_are = refl; counts_are = refl }
 
-pub listed_more : (items : List Found') (i : ℕ) (x : Found') (old new : List Line) (masks next : ℕ) (r : Listed)
-    → i < length items → x ≡ get_or items i x → AreListed (map found_of (take i items)) (map text_of old) masks
-    → IsListedAs masks (found_of x) r → new ≡ old ++ r.lines → next ≡ r.masks
+pub listed_more : (items : List Found') (i : ℕ) (x : Found') (old new : List Line) (counts next : Counts) (r : Listed)
+    → i < length items → x ≡ get_or items i x → AreListed (map found_of (take i items)) (map text_of old) counts
+    → IsListedAs counts (found_of x) r → new ≡ old ++ r.lines → next ≡ r.counts
     → AreListed (map found_of (take (i + 1) items)) (map text_of new) next
-listed_more items i x old new masks next r h is before this now behind =
+listed_more items i x old new counts next r h is before this now behind =
     let one : map found_of (take (i + 1) items) ≡ map found_of (take i items) ++ found_of x ∷ [] =
     ap (map found_of) (one_more items i x h is) ∙ map-append found_of (take i items) (x ∷ []) in
     let lines : map text_of new ≡ map text_of old ++ map text_of r.lines
     = ap (map text_of) now ∙ map-append text_of old r.lines in
     subst (AreListed (map found_of (take (i + 1) items)) (map text_of new)) (sym behind)
-    (subst (λ (fs : List Found). AreListed fs (map text_of new) r.masks) (sym one)
-    (lines_more (map found_of (take i items)) (found_of x) (map text_of old) (map text_of new) masks r before this lines))
+    (subst (λ (fs : List Found). AreListed fs (map text_of new) r.counts) (sym one)
+    (lines_more (map found_of (take i items)) (found_of x) (map text_of old) (map text_of new) counts r before this lines))
 
 -- all that was found
-pub listed_all : (p : Program) (items : List Found') (i : ℕ) (all lines : List Line) (masks : ℕ)
+pub listed_all : (p : Program) (items : List Found') (i : ℕ) (all lines : List Line) (counts : Counts)
     → map found_of items ≡ found_in p → length items ≤ i
-    → AreListed (map found_of (take i items)) (map text_of all) masks → lines ≡ all → IsListing p (map text_of lines)
-listed_all p items i all lines masks is h k e =
+    → AreListed (map found_of (take i items)) (map text_of all) counts → lines ≡ all → IsListing p (map text_of lines)
+listed_all p items i all lines counts is h k e =
     let whole : map found_of (take i items) ≡ found_in p = ap (map found_of) (take_all i items h) ∙ is in
-    let l : AreListed (found_in p) (map text_of lines) masks =
-    subst (λ (fs : List Found). AreListed fs (map text_of lines) masks) whole
-    (subst (λ (ls : List Line). AreListed (map found_of (take i items)) (map text_of ls) masks) (sym e) k) in
+    let l : AreListed (found_in p) (map text_of lines) counts =
+    subst (λ (fs : List Found). AreListed fs (map text_of lines) counts) whole
+    (subst (λ (ls : List Line). AreListed (map found_of (take i items)) (map text_of ls) counts) (sym e) k) in
     record { entries = l.entries; are = l.are; lines_are = l.lines_are }
 
 -- ---- the text

@@ -1,9 +1,8 @@
 -- The edges, holds and cycles among the entries of a nest are those that it is listed by.
-use Rattle.std.proofs.Common.{◌≡◌, refl, sym, ap, ◌∙◌, ℕ, suc, Bool, true, false, cond, None, List, [], ◌∷◌, ◌++◌, map, append-nil}
+use Rattle.std.proofs.Common.{◌≡◌, refl, ap, ◌∙◌, ℕ, suc, None, List, [], ◌∷◌, ◌++◌, map, append-nil}
 use mathlib.Core.Path.{ap₂}
 use Rattle.std.specs.List.{flat_map}
 use Rattle.std.proofs.lemmas.List.Concat.{flat_map-append}
-use Rattle.array_form.specs.holds.Holds.{all_holds}
 use Rattle.dependence_graph.specs.declared.graphs.Cycle.{Cycle}
 use Rattle.dependence_graph.specs.declared.graphs.Dropped.{Dropped}
 use Rattle.dependence_graph.specs.declared.graphs.Edge.{Edge}

@@ -1,6 +1,6 @@
 -- What is found in a program of FORTRAN 77, and what is made of its nests.
-use Rattle.std.proofs.Common.{◌≡◌, ℕ, ◌≤◌, ◌<◌, ◌^◌, Result, Ok, Err, Some, None, List, is_some, length, map, get_or}
-use Rattle.std.proofs.Common.{true≢false, Contains, Option, refl, sym, ap, ◌∙◌, subst, arith}
+use Rattle.std.proofs.Common.{◌≡◌, ℕ, ◌+◌, ◌≤◌, ◌<◌, ◌^◌, Result, Ok, Err, Some, None, List, is_some, length, map, get_or}
+use Rattle.std.proofs.Common.{true≢false, Bool, Contains, Option, refl, sym, ap, ◌∙◌, subst, arith}
 use Rattle.std.specs.Prelude.{IfOk, unwrap_or}
 use Rattle.std.proofs.lemmas.List.{get_or-map, length-map}
 use Rattle.tree.specs.Plain.{Block, Program, Reference}
@@ -11,6 +11,11 @@ use Rattle.prepared_passes.proofs.ExpandedNests.Anew.{masks_anew}
 use Rattle.prepared_passes.proofs.ExpandedNests.FoundExpanded.{found_nest_has_expanded_declarations}
 use Rattle.prepared_passes.proofs.ExpandedNests.MadeArrays.{symbols_are}
 use Rattle.prepared_passes.proofs.ExpandedNests.Renaming.{anew_prepared}
+use Rattle.prepared_passes.proofs.ExpandedNests.Sameness.{few_before}
+use Rattle.prepared_passes.proofs.SplitNests.Prepared.{split_nest_is_prepared}
+use Rattle.prepared_passes.specs.splitting.Laws.{split_rise}
+use Rattle.prepared_passes.specs.splitting.Splits.{nodes_split}
+use Rattle.node_splitting.specs.Split.{IsSplit, made_arrays, with_nodes_split}
 use Rattle.prepared_passes.specs.expansion.Found.{HasExpandedDeclarations, expanded_depth}
 use Rattle.prepared_passes.specs.expansion.Unexpanded.{substituted, unexpanded}
 use Rattle.f90_print.specs.Notes.{text_of}
@@ -48,15 +53,21 @@ use Rattle.pass_laws.proofs.PreparedNests.Emitted.{prepared_nest_may_be_emitted}
 use Rattle.pass_laws.proofs.PreparedNests.Ready.{prepared_nest_is_ready}
 use Rattle.pass_laws.specs.prepared_nests.Nests.{IsPrepared}
 use Rattle.listing.proofs.programs.Arranging.{arranged_rest, arranged_some, last_depth}
+use Rattle.listing.proofs.arrays.Counted.{nothing_deeper, prepared_counted}
+use Rattle.listing.proofs.programs.Declared.{HasCopiesDeclared, has_copies_declared}
 use Rattle.listing.proofs.programs.Expanding.{masks_kept}
+use Rattle.listing.proofs.programs.Splitting.{split_copies, split_rest, split_so}
+use Rattle.listing.specs.declared.programs.counts.Counts.{Counts}
+use Rattle.listing.specs.declared.programs.nests.Graphed.{Graphed}
 use Rattle.listing.proofs.programs.Stages.{IsMadeBy, few_of, listed_is_made, named_of}
 use Rattle.listing.specs.programs.Counted.{AreCounted}
 use Rattle.listing.specs.programs.Laws.{ListedNestIsTestable}
 use Rattle.listing.specs.declared.programs.nests.Passed.{Passed}
-use Rattle.listing.specs.programs.Passed.{IsAnewOf, IsArrangedAs, IsExpandedOf, IsPassed, IsSubstitutedOf, IsUnexpanded}
+use Rattle.listing.specs.programs.Passed.{IsAnewOf, IsArrangedAs, IsExpandedOf, IsPassed, IsSplitOf, IsSubstitutedOf}
+use Rattle.listing.specs.programs.Passed.{IsUnexpanded}
 use Rattle.listing.specs.programs.Sources.{IsFoundInSource, IsNestOfSource, IsNormalOfSource}
-use Rattle.listing.specs.programs.Stages.{IsLastGraph}
-use Rattle.listing.specs.programs.Testable.{AreTestsOf, MayBeListed}
+use Rattle.listing.specs.programs.Stages.{IsSplitBy, with_copies}
+use Rattle.listing.specs.programs.Testable.{AreTestsOf, MayBeListed, MayBeSplitReady}
 
 -- ---- symbols and declarations
 
@@ -179,93 +190,230 @@ expanded_of masks m k (Ok new) made h = (k, made, h)
 
 -- ---- nests that may be tested
 
--- with arrays for private scalars
-module _ (p : Program) (masks : ℕ) (n normal k : Nest) (profile : IsProgram77 fortran77 p)
-    (among : Contains (found_in p) (InNest n)) (normal_is : normalised n ≡ Some normal) (e : IsExpandedOf masks normal k)
-    (few : k.masks < 2 ^ 32) where
-  pub declared_before : HasExpandedDeclarations e.0
-  declared_before =
+-- with arrays for private scalars, and behind that pass
+module _ (p : Program) (counts : Counts) (n normal k : Nest) (profile : IsProgram77 fortran77 p)
+    (among : Contains (found_in p) (InNest n)) (normal_is : normalised n ≡ Some normal)
+    (e : IsExpandedOf counts.masks normal k) (few : k.masks < 2 ^ 32) where
+  abbrev masks : ℕ
+  masks = counts.masks
+
+  most : e.0.masks ≤ 4294967296
+  most =
       let less : k.masks < 4294967296 = few in
       let same : k.masks ≡ e.0.masks = ap (λ (j : Nest). j.masks) e.2 ∙ masks_kept e.0 in
-      let most : e.0.masks ≤ 4294967296 = omega (arith, less, same) in
+      omega (arith, less, same)
+
+  -- whichever reads are copied there are declarations for it, where the copies can be counted
+  pub copies_declared : (may : Place → Bool)
+      → counts.copies + length (made_arrays may (with_copies counts.copies (expanded e.0))) ≤ 2 ^ 32
+      → HasCopiesDeclared may counts.copies e.0
+  copies_declared may top =
+      has_copies_declared p n normal (with_masks masks normal e.0 e.1) e.0 masks counts.copies may profile among normal_is
+      e.1.1.1.1 (few_before normal (with_masks masks normal e.0 e.1) e.0 (named_is masks normal e.0 e.1) most)
+      (named_is masks normal e.0 e.1) (few_ranges masks normal e.0 e.1) top
+
+  -- and where none is
+  declared_before : HasExpandedDeclarations e.0
+  declared_before =
       found_nest_has_expanded_declarations p n normal (with_masks masks normal e.0 e.1) e.0 masks profile among normal_is
       e.1.1.1.1 (named_is masks normal e.0 e.1) (few_ranges masks normal e.0 e.1) most
 
-  pub prepared_before : IsPrepared declared_before.declarations declared_before.around expanded_depth k
+  prepared_before : IsPrepared declared_before.declarations declared_before.around expanded_depth (with_copies counts.copies k)
   prepared_before =
-      subst (IsPrepared declared_before.declarations declared_before.around expanded_depth) (sym e.2)
-      declared_before.prepared
+      subst (λ (z : Nest). IsPrepared declared_before.declarations declared_before.around expanded_depth (with_copies counts.copies z))
+      (sym e.2)
+      (prepared_counted declared_before.declarations declared_before.around expanded_depth (expanded e.0) counts.copies
+      declared_before.prepared)
 
-  expanded_nest_is_ready : IsReady k
+  expanded_nest_is_ready : IsReady (with_copies counts.copies k)
   expanded_nest_is_ready =
-      prepared_nest_is_ready declared_before.declarations declared_before.around expanded_depth k declared_before.are
-      prepared_before
+      prepared_nest_is_ready declared_before.declarations declared_before.around expanded_depth
+      (with_copies counts.copies k) declared_before.are prepared_before
 
-  expanded_nest_may_be_listed : MayBeListed k
-  expanded_nest_may_be_listed = record {
-    ready = expanded_nest_is_ready;
-    emitted = λ g graph. prepared_nest_may_be_emitted declared_before.declarations declared_before.around expanded_depth k g
-        declared_before.are prepared_before graph;
-  }
+  -- ---- the split nest
 
-  -- and by whatever vectors its loops move
-  moved_nest_is_prepared : (vectors : List Dirs)
-      → IsPrepared declared_before.declarations declared_before.around last_depth (arranged k vectors)
-  moved_nest_is_prepared vectors =
-      arranged_nest_is_prepared declared_before.declarations declared_before.around expanded_depth k vectors prepared_before
+  abbrev split_by : (Place → Bool) → Nest
+  split_by may = nodes_split may (with_copies counts.copies (expanded e.0))
 
-  moved_nest_is_ready : (vectors : List Dirs) → IsReady (arranged k vectors)
-  moved_nest_is_ready vectors =
-      prepared_nest_is_ready declared_before.declarations declared_before.around last_depth (arranged k vectors)
-      declared_before.are (moved_nest_is_prepared vectors)
+  split_is_prepared : (may : Place → Bool)
+      → (top : counts.copies + length (made_arrays may (with_copies counts.copies (expanded e.0))) ≤ 2 ^ 32)
+      → IsPrepared (copies_declared may top).declarations (copies_declared may top).around (expanded_depth + split_rise)
+      (nodes_split may (with_copies counts.copies (expanded e.0)))
+  split_is_prepared may top = by (with_nodes_split may (with_copies counts.copies (expanded e.0))) refl
+    where
+      before : IsPrepared (copies_declared may top).declarations (copies_declared may top).around expanded_depth
+          (with_copies counts.copies (expanded e.0))
+      before =
+          prepared_counted (copies_declared may top).declarations (copies_declared may top).around expanded_depth
+          (expanded e.0) counts.copies (copies_declared may top).prepared
 
-  moved_nest_may_be_listed : (vectors : List Dirs) → MayBeListed (arranged k vectors)
-  moved_nest_may_be_listed vectors = record {
-    ready = moved_nest_is_ready vectors;
-    emitted = λ g graph. prepared_nest_may_be_emitted declared_before.declarations declared_before.around last_depth
-        (arranged k vectors) g declared_before.are (moved_nest_is_prepared vectors) graph;
-  }
+      by : (o : Option Nest) → with_nodes_split may (with_copies counts.copies (expanded e.0)) ≡ o
+          → IsPrepared (copies_declared may top).declarations (copies_declared may top).around (expanded_depth + split_rise)
+          (unwrap_or o (with_copies counts.copies (expanded e.0)))
+      by None f =
+          nothing_deeper (copies_declared may top).declarations (copies_declared may top).around expanded_depth split_rise
+          (with_copies counts.copies (expanded e.0)) before
+      by (Some s) f =
+          split_nest_is_prepared (copies_declared may top).declarations (copies_declared may top).around expanded_depth may
+          (with_copies counts.copies (expanded e.0)) s before (copies_declared may top).split (omega arith) f
 
-pub may_be_listed_before : (masks : ℕ) (m k : Nest) → IsNormalOfSource m → IsExpandedOf masks m k → k.masks < 2 ^ 32
-    → MayBeListed k
-may_be_listed_before masks m k h e few =
-    expanded_nest_may_be_listed h.source.program masks h.nest m k h.source.profile h.source.among h.made e few
+  -- by whatever vectors its loops move
+  moved_is_prepared : (may : Place → Bool)
+      → (top : counts.copies + length (made_arrays may (with_copies counts.copies (expanded e.0))) ≤ 2 ^ 32)
+      → (vectors : List Dirs)
+      → IsPrepared (copies_declared may top).declarations (copies_declared may top).around last_depth
+      (arranged (nodes_split may (with_copies counts.copies (expanded e.0))) vectors)
+  moved_is_prepared may top vectors =
+      arranged_nest_is_prepared (copies_declared may top).declarations (copies_declared may top).around
+      (expanded_depth + split_rise) (nodes_split may (with_copies counts.copies (expanded e.0))) vectors
+      (split_is_prepared may top)
 
-pub may_be_listed_moved : (masks : ℕ) (m k : Nest) → IsNormalOfSource m → IsExpandedOf masks m k → k.masks < 2 ^ 32
-    → (vectors : List Dirs) → MayBeListed (arranged k vectors)
-may_be_listed_moved masks m k h e few =
-    moved_nest_may_be_listed h.source.program masks h.nest m k h.source.profile h.source.among h.made e few
+  -- how many copies there are behind it
+  pub top_of : (may : Place → Bool) → (nodes_split may (with_copies counts.copies (expanded e.0))).copies < 2 ^ 32
+      → counts.copies + length (made_arrays may (with_copies counts.copies (expanded e.0))) ≤ 2 ^ 32
+  top_of may h =
+      let less : (nodes_split may (with_copies counts.copies (expanded e.0))).copies < 4294967296 = h in
+      let is = split_copies may (with_copies counts.copies (expanded e.0)) in
+      let least : counts.copies + length (made_arrays may (with_copies counts.copies (expanded e.0))) ≤ 4294967296
+      = omega (arith, less, is) in
+      least
+
+  split_nest_is_ready : (may : Place → Bool) → (nodes_split may (with_copies counts.copies (expanded e.0))).copies < 2 ^ 32
+      → IsReady (nodes_split may (with_copies counts.copies (expanded e.0)))
+  split_nest_is_ready may h =
+      let d = copies_declared may (top_of may h) in
+      prepared_nest_is_ready d.declarations d.around (expanded_depth + split_rise)
+      (nodes_split may (with_copies counts.copies (expanded e.0))) d.are (split_is_prepared may (top_of may h))
+
+  split_nest_may_be_listed : (may : Place → Bool)
+      → (nodes_split may (with_copies counts.copies (expanded e.0))).copies < 2 ^ 32
+      → MayBeListed (nodes_split may (with_copies counts.copies (expanded e.0)))
+  split_nest_may_be_listed may h =
+      let d = copies_declared may (top_of may h) in
+      let prepared = split_is_prepared may (top_of may h) in
+      record {
+        ready = split_nest_is_ready may h;
+        emitted = λ g graph. prepared_nest_may_be_emitted d.declarations d.around (expanded_depth + split_rise)
+            (nodes_split may (with_copies counts.copies (expanded e.0))) g d.are prepared graph;
+      }
+
+  moved_nest_may_be_listed : (may : Place → Bool)
+      → (nodes_split may (with_copies counts.copies (expanded e.0))).copies < 2 ^ 32 → (vectors : List Dirs)
+      → MayBeListed (arranged (nodes_split may (with_copies counts.copies (expanded e.0))) vectors)
+  moved_nest_may_be_listed may h vectors =
+      let d = copies_declared may (top_of may h) in
+      let s = arranged (nodes_split may (with_copies counts.copies (expanded e.0))) vectors in
+      let prepared = moved_is_prepared may (top_of may h) vectors in
+      record {
+        ready = prepared_nest_is_ready d.declarations d.around last_depth s d.are prepared;
+        emitted = λ g graph. prepared_nest_may_be_emitted d.declarations d.around last_depth s g d.are prepared graph;
+      }
+
+pub ready_before : (counts : Counts) (m k : Nest) → IsNormalOfSource m → IsExpandedOf counts.masks m k
+    → k.masks < 2 ^ 32 → IsReady (with_copies counts.copies k)
+ready_before counts m k h e few =
+    expanded_nest_is_ready h.source.program counts h.nest m k h.source.profile h.source.among h.made e few
+
+-- the nest that splitting makes of it
+pub ready_split : (counts : Counts) (m k : Nest) → IsNormalOfSource m → IsExpandedOf counts.masks m k
+    → k.masks < 2 ^ 32 → MayBeSplitReady (with_copies counts.copies k)
+ready_split counts m k h e few may s made copied =
+    subst IsReady is
+    (split_nest_is_ready h.source.program counts h.nest m k h.source.profile h.source.among h.made e few may
+    (subst (λ (z : Nest). z.copies < 2 ^ 32) (sym is) copied))
+  where
+    is : nodes_split may (with_copies counts.copies (expanded e.0)) ≡ s
+    is =
+        ap (λ (z : Nest). nodes_split may (with_copies counts.copies z)) (sym e.2)
+        ∙ ap (λ (o : Option Nest). unwrap_or o (with_copies counts.copies k)) made
+
+-- of which the nest k is one, with a graph
+split_of_is : (counts : Counts) (m k : Nest) (g : Graph) (s : IsSplitOf counts m k g)
+    → k ≡ nodes_split s.is_split.is.may (with_copies counts.copies (expanded s.is_expanded.0))
+split_of_is counts m k g s =
+    split_so (with_copies counts.copies s.expanded) k s.split_graph g s.is_split
+    ∙ ap (λ (z : Nest). nodes_split s.is_split.is.may (with_copies counts.copies z)) s.is_expanded.2
+
+few_of_split : (counts : Counts) (m k : Nest) (g : Graph) (s : IsSplitOf counts m k g) → k.masks < 2 ^ 32
+    → s.expanded.masks < 2 ^ 32
+few_of_split counts m k g s few =
+    subst (λ (i : ℕ). i < 2 ^ 32)
+    (ap (λ (z : Nest). z.masks)
+    (split_so (with_copies counts.copies s.expanded) k s.split_graph g s.is_split
+    ∙ split_rest s.is_split.is.may (with_copies counts.copies s.expanded))) few
+
+pub may_be_listed_split : (counts : Counts) (m k : Nest) (g : Graph) → IsNormalOfSource m → IsSplitOf counts m k g
+    → k.masks < 2 ^ 32 → k.copies < 2 ^ 32 → MayBeListed k
+may_be_listed_split counts m k g h s few copied =
+    let is = split_of_is counts m k g s in
+    subst MayBeListed (sym is)
+    (split_nest_may_be_listed h.source.program counts h.nest m s.expanded h.source.profile h.source.among h.made
+    s.is_expanded (few_of_split counts m k g s few) s.is_split.is.may
+    (subst (λ (z : Nest). z.copies < 2 ^ 32) is copied))
+
+pub may_be_listed_moved : (counts : Counts) (m k : Nest) (g : Graph) → IsNormalOfSource m → IsSplitOf counts m k g
+    → k.masks < 2 ^ 32 → k.copies < 2 ^ 32 → (vectors : List Dirs) → MayBeListed (arranged k vectors)
+may_be_listed_moved counts m k g h s few copied vectors =
+    let is = split_of_is counts m k g s in
+    subst (λ (z : Nest). MayBeListed (arranged z vectors)) (sym is)
+    (moved_nest_may_be_listed h.source.program counts h.nest m s.expanded h.source.profile h.source.among h.made
+    s.is_expanded (few_of_split counts m k g s few) s.is_split.is.may
+    (subst (λ (z : Nest). z.copies < 2 ^ 32) is copied) vectors)
 
 -- the last one
-module _ (p : Program) (masks : ℕ) (n m : Nest) (profile : IsProgram77 fortran77 p)
-    (among : Contains (found_in p) (InNest n)) (made : IsMadeBy masks n m) where
+module _ (p : Program) (counts : Counts) (n m : Nest) (profile : IsProgram77 fortran77 p)
+    (among : Contains (found_in p) (InNest n)) (made : IsMadeBy counts n m) where
+  abbrev pub split_made : Nest
+  split_made = nodes_split made.may (with_copies counts.copies (expanded made.named))
+
+  same_rest : m ≡ record split_made { body = m.body }
+  same_rest =
+      subst (λ (z : Nest). z ≡ record split_made { body = z.body }) (sym made.is_arranged)
+      (arranged_rest split_made made.vectors)
+
   pub few_made : (expanded made.named).masks < 2 ^ 32
   few_made =
       let less : m.masks < 4294967296 = made.counted in
       let same : m.masks ≡ (expanded made.named).masks
-      = ap (λ (j : Nest). j.masks) (made.is_arranged ∙ arranged_rest (expanded made.named) made.vectors) in
+      = ap (λ (j : Nest). j.masks) same_rest
+      ∙ ap (λ (j : Nest). j.masks) (split_rest made.may (with_copies counts.copies (expanded made.named))) in
       let few : (expanded made.named).masks < 4294967296 = omega (arith, less, same) in
       few
 
-  abbrev before : IsExpandedOf masks made.normal (expanded made.named)
+  pub symbols_made : m.symbols ≡ made.named.symbols
+  symbols_made =
+      ap (λ (j : Nest). j.symbols) same_rest
+      ∙ (ap (λ (j : Nest). j.symbols) (split_rest made.may (with_copies counts.copies (expanded made.named)))
+      ∙ symbols_are made.named)
+
+  abbrev before : IsExpandedOf counts.masks made.normal (expanded made.named)
   before =
       (made.named, (made.substituted, (made.anew, (made.converted, made.is_converted, made.is_anew), made.is_substituted), made.is_named, made.few), refl)
 
-  pub declared_for : HasExpandedDeclarations made.named
-  declared_for = declared_before p masks n made.normal (expanded made.named) profile among made.made before few_made
+  copied_made : (nodes_split made.may (with_copies counts.copies (expanded made.named))).copies < 2 ^ 32
+  copied_made = subst (λ (i : ℕ). i < 2 ^ 32) (ap (λ (j : Nest). j.copies) same_rest) made.copied
+
+  pub top_made : counts.copies + length (made_arrays made.may (with_copies counts.copies (expanded made.named))) ≤ 2 ^ 32
+  top_made =
+      top_of p counts n made.normal (expanded made.named) profile among made.made before few_made made.may copied_made
+
+  pub declared_for : HasCopiesDeclared made.may counts.copies made.named
+  declared_for =
+      copies_declared p counts n made.normal (expanded made.named) profile among made.made before few_made made.may top_made
 
   pub prepared_for : IsPrepared declared_for.declarations declared_for.around last_depth m
   unfolding declared_for
   prepared_for =
       subst (IsPrepared declared_for.declarations declared_for.around last_depth) (sym made.is_arranged)
-      (moved_nest_is_prepared p masks n made.normal (expanded made.named) profile among made.made before few_made made.vectors)
+      (moved_is_prepared p counts n made.normal (expanded made.named) profile among made.made before few_made made.may
+      top_made made.vectors)
 
   made_nest_is_ready : IsReady m
   made_nest_is_ready =
       prepared_nest_is_ready declared_for.declarations declared_for.around last_depth m declared_for.are prepared_for
 
-pub ready : (masks : ℕ) (n m : Nest) → IsNestOfSource n → IsMadeBy masks n m → IsReady m
-ready masks n m h made = made_nest_is_ready h.program masks n m h.profile h.among made
+pub ready : (counts : Counts) (n m : Nest) → IsNestOfSource n → IsMadeBy counts n m → IsReady m
+ready counts n m h made = made_nest_is_ready h.program counts n m h.profile h.among made
 
 -- what stands behind a nest isn't tested
 module _ (n : Nest) (b : Block) (h : IsReady n) where
@@ -284,61 +432,90 @@ module _ (n : Nest) (b : Block) (h : IsReady n) where
   }
 
 pub listed_nest_is_testable : ListedNestIsTestable
-listed_nest_is_testable p masks n m profile among listed =
-    let w = listed_is_made masks n m listed in
+listed_nest_is_testable p counts n m profile among listed =
+    let w = listed_is_made counts n m listed in
     subst IsReady (sym w.same)
-    (ready_too w.nest m.after (made_nest_is_ready p masks n w.nest profile among w.made))
+    (ready_too w.nest m.after (made_nest_is_ready p counts n w.nest profile among w.made))
 
 -- ---- what the code gives
 
+-- the nest with copies, and with a graph of it
+pub split_some : {E : Type 0} (k s : Nest) (g : Graph) (r : Result Graphed E) → IsSplit k g (Some s)
+    → IfOk r (λ a. nest_of a.nest.value ≡ s) → IfOk r (λ a. IsGraphOf s a.graph)
+    → IfOk r (λ a. IsSplitBy k g (nest_of a.nest.value) a.graph)
+split_some k s g (Err e) is nest graph = tt
+split_some k s g (Ok a) is nest graph = record {
+  new = Some s;
+  is = is;
+  nest = nest;
+  graph = subst (λ (z : Nest). IsGraphOf z a.graph) (sym nest) graph;
+  kept = λ e. absurd (true≢false (ap is_some e));
+}
+
+pub split_none : (k : Nest) (g : Graph) → IsGraphOf k g → IsSplit k g None → IsSplitBy k g k g
+split_none k g graph is = record { new = None; is = is; nest = refl; graph = graph; kept = λ e. refl }
+
+pub split_of : {E : Type 0} (counts : Counts) (m k : Nest) (g : Graph) (r : Result Graphed E)
+    → IsExpandedOf counts.masks m k → IsGraphOf (with_copies counts.copies k) g
+    → IfOk r (λ a. IsSplitBy (with_copies counts.copies k) g (nest_of a.nest.value) a.graph)
+    → IfOk r (λ a. IsSplitOf counts m (nest_of a.nest.value) a.graph)
+split_of counts m k g (Err e) made graph is = tt
+split_of counts m k g (Ok a) made graph is =
+    record { expanded = k; is_expanded = made; split_graph = g; is_split_graph = graph; is_split = is }
+
 -- a nest in which a loop has moved
-pub moved_as : (number : ℕ) (k : Nest) (g : Graph) (r : Passed) → IsGraphOf k g
+pub moved_as : (number : ℕ) (k : Nest) (g : Graph) (r : Passed)
     → with_moved_loops k (vectors_of g.edges) ≡ Some (nest_of r.nest.value)
     → AreTestsOf number (nest_of r.nest.value) r.tests.graph r.tests.holds (map text_of r.tests.lines)
-    → IsArrangedAs number k r
-moved_as number k g r graph e tests = record {
-  graph = g;
-  is_graph = graph;
+    → IsArrangedAs number k g r
+moved_as number k g r e tests = record {
   is_arranged = arranged_some k (nest_of r.nest.value) (vectors_of g.edges) e;
   kept = λ none. absurd (true≢false (ap is_some (sym e ∙ none)));
   tests = tests;
 }
 
 -- one in which none has
-pub stays_as : (number : ℕ) (k : Nest) (g : Graph) (r : Passed) → IsGraphOf k g
+pub stays_as : (number : ℕ) (k : Nest) (g : Graph) (r : Passed)
     → with_moved_loops k (vectors_of g.edges) ≡ None → nest_of r.nest.value ≡ k → r.tests.graph ≡ g
     → AreTestsOf number (nest_of r.nest.value) r.tests.graph r.tests.holds (map text_of r.tests.lines)
-    → IsArrangedAs number k r
-stays_as number k g r graph e same kept tests = record {
-  graph = g;
-  is_graph = graph;
+    → IsArrangedAs number k g r
+stays_as number k g r e same kept tests = record {
   is_arranged = same ∙ sym (ap (λ (o : Option Nest). unwrap_or o k) e);
   kept = λ none. kept;
   tests = tests;
 }
 
-pub passed_as : (masks : ℕ) (n m k : Nest) (r : Passed) → normalised n ≡ Some m → IsExpandedOf masks m k
-    → k.masks < 2 ^ 32 → IsArrangedAs n.number k r → AreCounted (nest_of r.nest.value) → IsPassed masks n r
-passed_as masks n m k r made e few h counted = record {
-  passed = record {
-    normal = m;
-    made = made;
-    converted = e.1.1.1.0;
-    is_converted = e.1.1.1.1;
-    anew = e.1.1.0;
-    is_anew = e.1.1.1.2;
-    substituted = e.1.0;
-    is_substituted = e.1.1.2;
-    named = e.0;
-    is_named = e.1.2;
-    few = e.1.3;
-    graph = h.graph;
-    is_graph = subst (λ (j : Nest). IsGraphOf j h.graph) e.2 h.is_graph;
-    is_arranged = h.is_arranged ∙ ap (λ (j : Nest). arranged j (vectors_of h.graph.edges)) e.2;
-    counted = subst (λ (i : ℕ). i < 2 ^ 32)
-        (sym (ap (λ (j : Nest). j.masks) (h.is_arranged ∙ arranged_rest k (vectors_of h.graph.edges)))) few;
-    numbered = counted;
-  };
-  kept = subst (λ (j : Nest). IsLastGraph j h.graph r.tests.graph) e.2 h.kept;
-  tests = h.tests;
-}
+pub passed_as : (counts : Counts) (n m k : Nest) (g : Graph) (r : Passed) → normalised n ≡ Some m
+    → IsSplitOf counts m k g → k.masks < 2 ^ 32 → k.copies < 2 ^ 32 → IsArrangedAs n.number k g r
+    → AreCounted (nest_of r.nest.value) → IsPassed counts n r
+passed_as counts n m k g r made s few copied h counted =
+    let e = s.is_expanded in
+    let rest = h.is_arranged ∙ arranged_rest k (vectors_of g.edges) in
+    let same : with_copies counts.copies s.expanded ≡ with_copies counts.copies (expanded e.0)
+    = ap (with_copies counts.copies) e.2 in
+    record {
+      passed = record {
+        normal = m;
+        made = made;
+        converted = e.1.1.1.0;
+        is_converted = e.1.1.1.1;
+        anew = e.1.1.0;
+        is_anew = e.1.1.1.2;
+        substituted = e.1.0;
+        is_substituted = e.1.1.2;
+        named = e.0;
+        is_named = e.1.2;
+        few = e.1.3;
+        split_graph = s.split_graph;
+        is_split_graph = subst (λ (j : Nest). IsGraphOf j s.split_graph) same s.is_split_graph;
+        split = k;
+        graph = g;
+        is_split = subst (λ (j : Nest). IsSplitBy j s.split_graph k g) same s.is_split;
+        is_arranged = h.is_arranged;
+        counted = subst (λ (i : ℕ). i < 2 ^ 32) (sym (ap (λ (j : Nest). j.masks) rest)) few;
+        copied = subst (λ (i : ℕ). i < 2 ^ 32) (sym (ap (λ (j : Nest). j.copies) rest)) copied;
+        numbered = counted;
+      };
+      kept = h.kept;
+      tests = h.tests;
+    }

@@ -1,6 +1,7 @@
 -- What passes make of a nest is what it is listed as, link by link, but for what stands behind; and no other nest is
 -- listed.
-use Rattle.std.proofs.Common.{◌≡◌, ℕ, ◌<◌, ◌^◌, List, Option, Some, None, ap, is_some, sym, true≢false, ◌∙◌, subst, refl}
+use Rattle.std.proofs.Common.{◌≡◌, ℕ, ◌<◌, ◌^◌, Bool, List, Option, Some, None, ap, is_some, sym, true≢false, ◌∙◌, subst, refl}
+use Rattle.dependence_graph.specs.declared.graphs.Place.{Place}
 use Rattle.if_convert.specs.Converted.{converted_loop, converted_nest}
 use Rattle.inductions.specs.Nests.{inductions_substituted}
 use Rattle.interchange.specs.Arranged.{arranged, vectors_of}
@@ -9,10 +10,11 @@ use Rattle.normal_loops.specs.Listed.{IsListedFrom as HasNormalLoops}
 use Rattle.normal_loops.specs.Normalised.{normalised}
 use Rattle.pass_laws.proofs.ListedNests.ListedNests.{listed_nest_is_normal, normal_nest_is_listed}
 use Rattle.tree.specs.Plain.{Block}
+use Rattle.listing.specs.declared.programs.counts.Counts.{Counts}
 use Rattle.listing.specs.programs.Counted.{AreCounted}
 use Rattle.listing.specs.programs.Laws.{LoopsAreListed}
 use Rattle.listing.specs.programs.Passed.{IsPassedAs}
-use Rattle.listing.specs.programs.Stages.{AreStagesOf, IsListedFrom, Stages}
+use Rattle.listing.specs.programs.Stages.{AreStagesOf, IsListedFrom, Stages, with_copies}
 use Rattle.scalar_expand.specs.Expanded.{expanded}
 use Rattle.scalar_rename.specs.Ranges.{HaveFewRanges}
 use Rattle.scalar_rename.specs.Renamed.{renamed}
@@ -21,9 +23,11 @@ use Rattle.symbols_anew.specs.Nests.{with_symbols_found}
 use Rattle.prepared_passes.proofs.SymbolsAnew.Same.{symbols_are_found_with_anything_behind}
 use Rattle.prepared_passes.proofs.ExpandedNests.Anew.{masks_anew}
 use Rattle.prepared_passes.specs.expansion.Unexpanded.{unexpanded}
+use Rattle.prepared_passes.specs.splitting.Splits.{nodes_split}
 use Rattle.listing.proofs.programs.Arranging.{arranged_beside, arranged_rest}
 use Rattle.listing.proofs.programs.Expanding.{expanded_beside, masks_kept}
 use Rattle.listing.proofs.programs.Naming.{named_from, renamed_beside, substituted_beside}
+use Rattle.listing.proofs.programs.Splitting.{counted_beside, split_beside, split_rest, split_so}
 
 -- ---- loops from 1 by 1
 
@@ -102,12 +106,12 @@ anew_beside n m k before after e =
 
 -- ---- the chain
 
--- passes make m of n, where the loops move by whatever vectors
-pub record IsMadeBy (masks : ℕ) (n m : Nest) : Type 0 where
+-- passes make m of n, where whatever reads are copied, and the loops move by whatever vectors
+pub record IsMadeBy (counts : Counts) (n m : Nest) : Type 0 where
   pub normal : Nest
   pub made : normalised n ≡ Some normal
   pub converted : Nest
-  pub is_converted : converted_nest masks normal ≡ Some converted
+  pub is_converted : converted_nest counts.masks normal ≡ Some converted
   pub anew : Nest
   pub is_anew : anew ≡ with_symbols_found normal converted
   pub substituted : Nest
@@ -115,13 +119,15 @@ pub record IsMadeBy (masks : ℕ) (n m : Nest) : Type 0 where
   pub named : Nest
   pub is_named : named ≡ renamed substituted
   pub few : HaveFewRanges substituted
+  pub may : Place → Bool
   pub vectors : List Dirs
-  pub is_arranged : m ≡ arranged (expanded named) vectors
+  pub is_arranged : m ≡ arranged (nodes_split may (with_copies counts.copies (expanded named))) vectors
   pub counted : m.masks < 2 ^ 32
+  pub copied : m.copies < 2 ^ 32
   pub numbered : AreCounted m
 
-abbrev pub made_by : (masks : ℕ) (n m : Nest) → IsPassedAs masks n m → IsMadeBy masks n m
-made_by masks n m h = record {
+abbrev pub made_by : (counts : Counts) (n m : Nest) → IsPassedAs counts n m → IsMadeBy counts n m
+made_by counts n m h = record {
   normal = h.normal;
   made = h.made;
   converted = h.converted;
@@ -133,9 +139,13 @@ made_by masks n m h = record {
   named = h.named;
   is_named = h.is_named;
   few = h.few;
+  may = h.is_split.is.may;
   vectors = vectors_of h.graph.edges;
-  is_arranged = h.is_arranged;
+  is_arranged = h.is_arranged
+      ∙ ap (λ (z : Nest). arranged z (vectors_of h.graph.edges))
+      (split_so (with_copies counts.copies (expanded h.named)) h.split h.split_graph h.graph h.is_split);
   counted = h.counted;
+  copied = h.copied;
   numbered = h.numbered;
 }
 
@@ -150,29 +160,31 @@ pub few_of : (normal converted anew substituted : Nest) → anew ≡ with_symbol
     → HaveFewRanges (inductions_substituted (with_symbols_found normal converted))
 few_of normal converted anew substituted a i h = subst HaveFewRanges (i ∙ ap inductions_substituted a) h
 
-pub few_so : (masks : ℕ) (n m : Nest) (h : IsMadeBy masks n m)
+pub few_so : (counts : Counts) (n m : Nest) (h : IsMadeBy counts n m)
     → HaveFewRanges (inductions_substituted (with_symbols_found h.normal h.converted))
-few_so masks n m h = few_of h.normal h.converted h.anew h.substituted h.is_anew h.is_substituted h.few
+few_so counts n m h = few_of h.normal h.converted h.anew h.substituted h.is_anew h.is_substituted h.few
 
-pub named_so : (masks : ℕ) (n m : Nest) (h : IsMadeBy masks n m) → h.named ≡ unexpanded h.normal h.converted
-named_so masks n m h =
+pub named_so : (counts : Counts) (n m : Nest) (h : IsMadeBy counts n m) → h.named ≡ unexpanded h.normal h.converted
+named_so counts n m h =
     named_of h.normal h.converted h.anew h.substituted h.named h.is_anew h.is_substituted h.is_named
 
 -- passes make a nest of n, and m is it, whatever stands behind m
-pub record IsMadeBut (masks : ℕ) (n m : Nest) : Type 0 where
+pub record IsMadeBut (counts : Counts) (n m : Nest) : Type 0 where
   pub nest : Nest
-  pub made : IsMadeBy masks n nest
+  pub made : IsMadeBy counts n nest
   pub same : m ≡ record nest { after = m.after }
 
-abbrev pub passed_is_listed : (masks : ℕ) (n m : Nest) → IsPassedAs masks n m → IsListedFrom masks n m
-passed_is_listed masks n m h = record {
+abbrev pub passed_is_listed : (counts : Counts) (n m : Nest) → IsPassedAs counts n m → IsListedFrom counts n m
+passed_is_listed counts n m h = record {
   stages = record {
     normal = h.normal;
     converted = h.converted;
     anew = h.anew;
     substituted = h.substituted;
     named = h.named;
-    expanded = expanded h.named;
+    expanded = with_copies counts.copies (expanded h.named);
+    split_graph = h.split_graph;
+    split = h.split;
     graph = h.graph;
     arranged = m;
   };
@@ -184,35 +196,37 @@ passed_is_listed masks n m h = record {
     is_named = h.is_named;
     few = h.few;
     is_expanded = refl;
-    is_graph = h.is_graph;
+    is_split_graph = h.is_split_graph;
+    is_split = h.is_split;
     is_arranged = h.is_arranged;
     counted = h.counted;
+    copied = h.copied;
     numbered = h.numbered;
   };
   last = refl;
 }
 
 -- what is counted isn't behind the nest
-counted_beside : (m k : Nest) → m ≡ record k { after = m.after } → AreCounted m → AreCounted k
-counted_beside m k e h =
+numbered_beside : (m k : Nest) → m ≡ record k { after = m.after } → AreCounted m → AreCounted k
+numbered_beside m k e h =
     let c = subst AreCounted e h in record { statements = c.statements; references = c.references }
 
 few_beside : (m k : Nest) → m ≡ record k { after = m.after } → HaveFewRanges m → HaveFewRanges k
 few_beside m k e h = subst HaveFewRanges e h
 
 -- the nests that passes make of n, and those that k are, whatever stands behind these
-pub record AreBeside (masks : ℕ) (n : Nest) (k : Stages) : Type 0 where
+pub record AreBeside (counts : Counts) (n : Nest) (k : Stages) : Type 0 where
   pub last : Nest
-  pub made : IsMadeBy masks n last
+  pub made : IsMadeBy counts n last
   pub given : k.anew ≡ record made.anew { after = k.anew.after }
   pub named : k.named ≡ record made.named { after = k.named.after }
   pub behind : k.arranged ≡ record last { after = k.arranged.after }
 
-pub stages_beside : (masks : ℕ) (n : Nest) (k : Stages) → AreStagesOf masks n k → AreBeside masks n k
-stages_beside masks n k h =
+pub stages_beside : (counts : Counts) (n : Nest) (k : Stages) → AreStagesOf counts n k → AreBeside counts n k
+stages_beside counts n k h =
     let w = normal_link n k.normal h.normal in
-    let v = masks_beside masks w.nest k.converted k.normal.after
-    (subst (λ (j : Nest). converted_nest masks j ≡ Some k.converted) w.same h.converted) in
+    let v = masks_beside counts.masks w.nest k.converted k.normal.after
+    (subst (λ (j : Nest). converted_nest counts.masks j ≡ Some k.converted) w.same h.converted) in
     let a = with_symbols_found w.nest v.nest in
     let u = anew_beside w.nest v.nest k.anew k.normal.after k.converted.after
     (subst (λ (i : Nest). k.anew ≡ with_symbols_found i (record v.nest { after = k.converted.after })) w.same
@@ -221,10 +235,14 @@ stages_beside masks n k h =
     let q = substituted_beside k.anew a k.substituted u h.is_substituted in
     let r = renamed_beside k.substituted i k.named q h.is_named in
     let e = expanded (renamed i) in
-    let x = expanded_beside k.named (renamed i) k.expanded r h.is_expanded in
-    let y = arranged_beside k.expanded e k.arranged (vectors_of k.graph.edges) x h.is_arranged in
+    let c = with_copies counts.copies e in
+    let x = counted_beside counts.copies (expanded k.named) e k.expanded
+    (expanded_beside k.named (renamed i) (expanded k.named) r refl) h.is_expanded in
+    let s = nodes_split h.is_split.is.may c in
+    let z = split_beside k.expanded c k.split k.split_graph k.graph x h.is_split in
+    let y = arranged_beside k.split s k.arranged (vectors_of k.graph.edges) z h.is_arranged in
     record {
-      last = arranged e (vectors_of k.graph.edges);
+      last = arranged s (vectors_of k.graph.edges);
       made = record {
         normal = w.nest;
         made = w.made;
@@ -237,26 +255,29 @@ stages_beside masks n k h =
         named = renamed i;
         is_named = refl;
         few = few_beside k.substituted i q h.few;
+        may = h.is_split.is.may;
         vectors = vectors_of k.graph.edges;
         is_arranged = refl;
         counted = subst (λ (j : Nest). j.masks < 2 ^ 32) y h.counted;
-        numbered = counted_beside k.arranged (arranged e (vectors_of k.graph.edges)) y h.numbered;
+        copied = subst (λ (j : Nest). j.copies < 2 ^ 32) y h.copied;
+        numbered = numbered_beside k.arranged (arranged s (vectors_of k.graph.edges)) y h.numbered;
       };
       given = u;
       named = r;
       behind = y;
     }
 
-pub listed_is_made : (masks : ℕ) (n m : Nest) → IsListedFrom masks n m → IsMadeBut masks n m
-listed_is_made masks n m h =
-    let b = stages_beside masks n h.stages h.are in
-    subst (IsMadeBut masks n) (sym h.last) (record { nest = b.last; made = b.made; same = b.behind })
+pub listed_is_made : (counts : Counts) (n m : Nest) → IsListedFrom counts n m → IsMadeBut counts n m
+listed_is_made counts n m h =
+    let b = stages_beside counts n h.stages h.are in
+    subst (IsMadeBut counts n) (sym h.last) (record { nest = b.last; made = b.made; same = b.behind })
 
 pub loops_are_listed : LoopsAreListed
-loops_are_listed masks n m k g h made few ranges graph counted =
+loops_are_listed counts n m k s f g h made few ranges first split copied counted =
     let a = with_symbols_found m k in
     let i = inductions_substituted a in
     let e = expanded (renamed i) in
+    let c = with_copies counts.copies e in
     record {
       stages = record {
         normal = m;
@@ -264,9 +285,11 @@ loops_are_listed masks n m k g h made few ranges graph counted =
         anew = a;
         substituted = i;
         named = renamed i;
-        expanded = e;
+        expanded = c;
+        split_graph = f;
+        split = s;
         graph = g;
-        arranged = arranged e (vectors_of g.edges);
+        arranged = arranged s (vectors_of g.edges);
       };
       are = record {
         normal = h;
@@ -276,11 +299,15 @@ loops_are_listed masks n m k g h made few ranges graph counted =
         is_named = refl;
         few = ranges;
         is_expanded = refl;
-        is_graph = graph;
+        is_split_graph = first;
+        is_split = split;
         is_arranged = refl;
         counted = subst (λ (j : ℕ). j < 2 ^ 32)
-            (sym (ap (λ (j : Nest). j.masks) (arranged_rest e (vectors_of g.edges)) ∙ masks_kept (renamed i)
-            ∙ (named_from a i (renamed i) refl refl).masks ∙ masks_anew m k a refl)) few;
+            (sym (ap (λ (j : Nest). j.masks) (arranged_rest s (vectors_of g.edges))
+            ∙ (ap (λ (j : Nest). j.masks) (split_so c s f g split ∙ split_rest split.is.may c)
+            ∙ (masks_kept (renamed i) ∙ ((named_from a i (renamed i) refl refl).masks ∙ masks_anew m k a refl))))) few;
+        copied = subst (λ (j : ℕ). j < 2 ^ 32)
+            (sym (ap (λ (j : Nest). j.copies) (arranged_rest s (vectors_of g.edges)))) copied;
         numbered = counted;
       };
       last = refl;

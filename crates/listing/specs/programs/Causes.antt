@@ -1,14 +1,15 @@
 -- Why statements stand in loops of what is emitted for the nests that are listed, by the entries of a nest alone.
-use Rattle.std.specs.Prelude.{⊤, ℕ, None, List, [], ◌∷◌}
+use Rattle.std.specs.Prelude.{⊤, None, List, [], ◌∷◌}
 use Rattle.std.specs.List.{flat_map}
 use Rattle.dependence_graph.specs.declared.graphs.Cycle.{Cycle}
 use Rattle.dependence_graph.specs.declared.graphs.Edge.{Edge}
 use Rattle.dependence_graph.specs.declared.graphs.Hold.{Hold}
 use Rattle.emission.specs.emission_causes.Causes.{HaveCauses}
 use Rattle.find_nests.specs.Found.{Found, InNest, Kept}
+use Rattle.listing.specs.declared.programs.counts.Counts.{Counts}
 use Rattle.listing.specs.graphs.Lines.{Entry, NestEntry, LoopEntry, StatementEntry, EdgeEntry, DropEntry, HoldEntry}
 use Rattle.listing.specs.graphs.Lines.{CycleEntry, KeepEntry}
-use Rattle.listing.specs.programs.Listing.{HaveEntries}
+use Rattle.listing.specs.programs.Listing.{HaveEntries, counts_of}
 
 -- ---- what is read of the entries of a nest
 
@@ -65,8 +66,9 @@ listed_cycles es = flat_map cycle_listed es
 -- ---- causes
 
 -- of the loops of each nest that is listed, by the edges, holds and cycles among its entries
-abbrev pub AreCaused : (masks : ℕ) (fs : List Found) (entries : List Entry) → HaveEntries masks fs entries → Type 0
-AreCaused masks [] entries h = ⊤
-AreCaused masks (InNest n ∷ fs) entries h =
-    HaveCauses h.3.0 (listed_edges h.0) (listed_holds h.0) (listed_cycles h.0) × AreCaused h.3.0.masks fs h.1 h.4
-AreCaused masks (Kept line r ∷ fs) entries h = AreCaused masks fs h.1 h.4
+abbrev pub AreCaused : (counts : Counts) (fs : List Found) (entries : List Entry) → HaveEntries counts fs entries
+    → Type 0
+AreCaused counts [] entries h = ⊤
+AreCaused counts (InNest n ∷ fs) entries h =
+    HaveCauses h.3.0 (listed_edges h.0) (listed_holds h.0) (listed_cycles h.0) × AreCaused (counts_of h.3.0) fs h.1 h.4
+AreCaused counts (Kept line r ∷ fs) entries h = AreCaused counts fs h.1 h.4

@@ -14,37 +14,40 @@ use Rattle.normal_loops.specs.Listed.{IsListedFrom as HasNormalLoops}
 use Rattle.scalar_expand.specs.Expanded.{expanded}
 use Rattle.scalar_rename.specs.Ranges.{HaveFewRanges}
 use Rattle.prepared_passes.specs.expansion.Unexpanded.{substituted, unexpanded}
+use Rattle.listing.specs.declared.programs.counts.Counts.{Counts}
 use Rattle.listing.specs.programs.Causes.{AreCaused}
 use Rattle.listing.specs.programs.Counted.{AreCounted}
 use Rattle.listing.specs.programs.Inductions.{AreSubstituted}
-use Rattle.listing.specs.programs.Listing.{IsListing}
+use Rattle.listing.specs.programs.Listing.{IsListing, no_counts}
 use Rattle.listing.specs.programs.Private.{AreExpanded}
-use Rattle.listing.specs.programs.Stages.{IsListedFrom}
+use Rattle.listing.specs.programs.Stages.{IsListedFrom, IsSplitBy, with_copies}
 
--- the nest that is made of one of a program of FORTRAN 77, after so many masks
+-- the nest that is made of one of a program of FORTRAN 77, after so many masks and copies
 abbrev pub ListedNestIsTestable : Type 0
-ListedNestIsTestable = (p : Program) (masks : ℕ) (n m : Nest) → IsProgram77 fortran77 p
-    → Contains (found_in p) (InNest n) → IsListedFrom masks n m → IsReady m
+ListedNestIsTestable = (p : Program) (counts : Counts) (n m : Nest) → IsProgram77 fortran77 p
+    → Contains (found_in p) (InNest n) → IsListedFrom counts n m → IsReady m
 
--- a nest whose loops can be listed, and for which masks can be made, is listed with these loops and statements, whose
--- loops are moved by any graph of it, where no scalar has too many ranges
+-- a nest whose loops can be listed, and for which masks and copies can be made, is listed with these loops and
+-- statements, where reads are copied by any graph of it, and loops are moved by any graph of that one, where no scalar
+-- has too many ranges
 abbrev pub LoopsAreListed : Type 0
-LoopsAreListed = (masks : ℕ) (n m k : Nest) (g : Graph) → HasNormalLoops n m → converted_nest masks m ≡ Some k
-    → k.masks < 2 ^ 32 → HaveFewRanges (substituted m k) → IsGraphOf (expanded (unexpanded m k)) g
-    → AreCounted (arranged (expanded (unexpanded m k)) (vectors_of g.edges))
-    → IsListedFrom masks n (arranged (expanded (unexpanded m k)) (vectors_of g.edges))
+LoopsAreListed = (counts : Counts) (n m k s : Nest) (f g : Graph) → HasNormalLoops n m
+    → converted_nest counts.masks m ≡ Some k → k.masks < 2 ^ 32 → HaveFewRanges (substituted m k)
+    → IsGraphOf (with_copies counts.copies (expanded (unexpanded m k))) f
+    → IsSplitBy (with_copies counts.copies (expanded (unexpanded m k))) f s g → s.copies < 2 ^ 32
+    → AreCounted (arranged s (vectors_of g.edges)) → IsListedFrom counts n (arranged s (vectors_of g.edges))
 
 -- its private scalars are arrays, in each listing of a program of FORTRAN 77
 abbrev pub ListedNestsAreExpanded : Type 0
 ListedNestsAreExpanded = (p : Program) (lines : List (List ℕ)) → IsProgram77 fortran77 p → (l : IsListing p lines)
-    → AreExpanded 0 (found_in p) l.entries l.are
+    → AreExpanded no_counts (found_in p) l.entries l.are
 
 -- its inductions aren't written, in each listing of a program of FORTRAN 77
 abbrev pub ListedNestsAreSubstituted : Type 0
 ListedNestsAreSubstituted = (p : Program) (lines : List (List ℕ)) → IsProgram77 fortran77 p → (l : IsListing p lines)
-    → AreSubstituted 0 (found_in p) l.entries l.are
+    → AreSubstituted no_counts (found_in p) l.entries l.are
 
 -- its loops have causes, in each listing of a program of FORTRAN 77
 abbrev pub ListedNestsHaveCauses : Type 0
 ListedNestsHaveCauses = (p : Program) (lines : List (List ℕ)) → IsProgram77 fortran77 p → (l : IsListing p lines)
-    → AreCaused 0 (found_in p) l.entries l.are
+    → AreCaused no_counts (found_in p) l.entries l.are

@@ -12,6 +12,7 @@ use Rattle.dependence_graph.specs.nest_graph.Graph.{IsGraphOf}
 use Rattle.array_form.specs.holds.Holds.{all_holds}
 use Rattle.emission.specs.emission_pieces.Cycles.{AreCyclesOf}
 use Rattle.f90_grammar.specs.PrintedText.{with_line_feed}
+use Rattle.listing.specs.declared.programs.counts.Counts.{Counts}
 use Rattle.listing.specs.graphs.Lines.{Entry, KeepEntry}
 use Rattle.listing.specs.graphs.Listing.{entries_of, lines_of_entries}
 use Rattle.listing.specs.programs.Stages.{IsLastGraph, IsListedFrom}
@@ -41,12 +42,12 @@ pub record HasCycleEntries (number : ℕ) (n : Nest) (g : Graph) (entries : List
 abbrev pub HasGraphEntries : ℕ → Nest → (Graph → Type 0) → List Entry → Type 0
 HasGraphEntries number n P entries = (g : Graph) × IsGraphOf n g × HasCycleEntries number n g entries × P g
 
--- A nest is listed by a graph of the last nest that passes make of it, where so many masks were made before in the
--- program. Where the last pass moves no loop, it is the graph by which none was moved
-abbrev pub HasNestEntries : ℕ → Nest → List Entry → Type 0
-HasNestEntries masks n entries =
-    (m : Nest) × (h : IsListedFrom masks n m)
-    × HasGraphEntries n.number m (IsLastGraph h.stages.expanded h.stages.graph) entries
+-- A nest is listed by a graph of the last nest that passes make of it, where so much was made before in the program.
+-- Where the last pass moves no loop, it is the graph by which none was moved
+abbrev pub HasNestEntries : Counts → Nest → List Entry → Type 0
+HasNestEntries counts n entries =
+    (m : Nest) × (h : IsListedFrom counts n m)
+    × HasGraphEntries n.number m (IsLastGraph h.stages.split h.stages.graph) entries
 
 -- a kept loop
 abbrev pub kept : ℕ → Reason → List Entry
@@ -54,21 +55,29 @@ kept line r = KeepEntry line (reason_word r) ∷ []
 
 -- ---- programs
 
-abbrev pub HasEntries : ℕ → Found → List Entry → Type 0
-HasEntries masks (InNest n) entries = HasNestEntries masks n entries
-HasEntries masks (Kept line r) entries = entries ≡ kept line r
+abbrev pub HasEntries : Counts → Found → List Entry → Type 0
+HasEntries counts (InNest n) entries = HasNestEntries counts n entries
+HasEntries counts (Kept line r) entries = entries ≡ kept line r
 
--- how many masks are made in the program up to the end of what is listed so
-abbrev pub masks_behind : (masks : ℕ) (f : Found) (entries : List Entry) → HasEntries masks f entries → ℕ
-masks_behind masks (InNest n) entries h = h.0.masks
-masks_behind masks (Kept line r) entries h = masks
+-- how many masks and copies are made before the first nest of a program
+abbrev pub no_counts : Counts
+no_counts = record { masks = 0; copies = 0 }
+
+-- and by the end of the last nest that passes make of one
+abbrev pub counts_of : Nest → Counts
+counts_of m = record { masks = m.masks; copies = m.copies }
+
+-- up to the end of what is listed so
+abbrev pub counts_behind : (counts : Counts) (f : Found) (entries : List Entry) → HasEntries counts f entries → Counts
+counts_behind counts (InNest n) entries h = counts_of h.0
+counts_behind counts (Kept line r) entries h = counts
 
 -- one after the other
-abbrev pub HaveEntries : ℕ → List Found → List Entry → Type 0
-HaveEntries masks [] entries = entries ≡ []
-HaveEntries masks (f ∷ fs) entries =
-    (first : List Entry) × (rest : List Entry) × (entries ≡ first ++ rest) × (h : HasEntries masks f first)
-    × HaveEntries (masks_behind masks f first h) fs rest
+abbrev pub HaveEntries : Counts → List Found → List Entry → Type 0
+HaveEntries counts [] entries = entries ≡ []
+HaveEntries counts (f ∷ fs) entries =
+    (first : List Entry) × (rest : List Entry) × (entries ≡ first ++ rest) × (h : HasEntries counts f first)
+    × HaveEntries (counts_behind counts f first h) fs rest
 
 -- ---- the nests that are listed with a graph
 
@@ -78,16 +87,17 @@ pub record ListedNest : Type 0 where
   pub normal : Nest
   pub graph : Graph
 
-abbrev pub listed_nest : (masks : ℕ) (n : Nest) (entries : List Entry) → HasNestEntries masks n entries → ListedNest
-listed_nest masks n entries h = record { found = n; normal = h.0; graph = h.2.0 }
+abbrev pub listed_nest : (counts : Counts) (n : Nest) (entries : List Entry) → HasNestEntries counts n entries
+    → ListedNest
+listed_nest counts n entries h = record { found = n; normal = h.0; graph = h.2.0 }
 
 -- in the order of the listing
-abbrev pub listed_nests : (masks : ℕ) (fs : List Found) (entries : List Entry) → HaveEntries masks fs entries
+abbrev pub listed_nests : (counts : Counts) (fs : List Found) (entries : List Entry) → HaveEntries counts fs entries
     → List ListedNest
-listed_nests masks [] entries h = []
-listed_nests masks (InNest n ∷ fs) entries h =
-    listed_nest masks n h.0 h.3 ∷ listed_nests h.3.0.masks fs h.1 h.4
-listed_nests masks (Kept line r ∷ fs) entries h = listed_nests masks fs h.1 h.4
+listed_nests counts [] entries h = []
+listed_nests counts (InNest n ∷ fs) entries h =
+    listed_nest counts n h.0 h.3 ∷ listed_nests (counts_of h.3.0) fs h.1 h.4
+listed_nests counts (Kept line r ∷ fs) entries h = listed_nests counts fs h.1 h.4
 
 -- ---- lines
 
@@ -97,9 +107,10 @@ pub record AreLinesOf (P : List Entry → Type 0) (lines : List (List ℕ)) : Ty
   pub are : P entries
   pub lines_are : lines ≡ lines_of_entries entries
 
--- each loop of the program that stands in no nest, in the order of the text; masks are numbered through the program
+-- each loop of the program that stands in no nest, in the order of the text; masks and copies are numbered through
+-- the program
 abbrev pub IsListing : Program → List (List ℕ) → Type 0
-IsListing p lines = AreLinesOf (HaveEntries 0 (found_in p)) lines
+IsListing p lines = AreLinesOf (HaveEntries no_counts (found_in p)) lines
 
 -- a line feed ends each line
 pub record IsListingText (p : Program) (text : List ℕ) : Type 0 where

@@ -13,9 +13,10 @@ use Rattle.scalar_expand.specs.Expanded.{expanded}
 use Rattle.scalar_rename.specs.Ranges.{HaveFewRanges}
 use Rattle.scalar_rename.specs.Renamed.{renamed}
 use Rattle.symbols_anew.specs.Nests.{with_symbols_found}
+use Rattle.listing.specs.declared.programs.counts.Counts.{Counts}
 use Rattle.listing.specs.declared.programs.nests.Passed.{Passed}
 use Rattle.listing.specs.programs.Counted.{AreCounted}
-use Rattle.listing.specs.programs.Stages.{IsLastGraph}
+use Rattle.listing.specs.programs.Stages.{IsLastGraph, IsSplitBy, with_copies}
 use Rattle.listing.specs.programs.Testable.{AreTestsOf}
 
 -- The nest k is made of one with loops from 1 by 1, where so many masks were made before in the program: its IFs,
@@ -38,22 +39,28 @@ IsUnexpanded masks normal k =
 abbrev pub IsExpandedOf : ℕ → Nest → Nest → Type 0
 IsExpandedOf masks normal m = (k : Nest) × IsUnexpanded masks normal k × (m ≡ expanded k)
 
--- Of the nest k loops are moved by a graph of it. What is made is in r, with its tests under this number
-pub record IsArrangedAs (number : ℕ) (k : Nest) (r : Passed) : Type 0 where
-  pub graph : Graph
-  pub is_graph : IsGraphOf k graph
-  pub is_arranged : nest_of r.nest.value ≡ arranged k (vectors_of graph.edges)
-  pub kept : IsLastGraph k graph r.tests.graph
+-- of that one the nest m with its graph h, in which reads are copied by a graph of the nest before
+pub record IsSplitOf (counts : Counts) (normal m : Nest) (h : Graph) : Type 0 where
+  pub expanded : Nest
+  pub is_expanded : IsExpandedOf counts.masks normal expanded
+  pub split_graph : Graph
+  pub is_split_graph : IsGraphOf (with_copies counts.copies expanded) split_graph
+  pub is_split : IsSplitBy (with_copies counts.copies expanded) split_graph m h
+
+-- Of the nest k loops are moved by this graph of it. What is made is in r, with its tests under this number
+pub record IsArrangedAs (number : ℕ) (k : Nest) (g : Graph) (r : Passed) : Type 0 where
+  pub is_arranged : nest_of r.nest.value ≡ arranged k (vectors_of g.edges)
+  pub kept : IsLastGraph k g r.tests.graph
   pub tests : AreTestsOf number (nest_of r.nest.value) r.tests.graph r.tests.holds (map text_of r.tests.lines)
 
--- So is m made of n, whose loops go from 1 by 1 first: a nest for each pass, and the link to the nest before; last its
--- loops are moved by a graph. Its statements and references are counted, and so are all masks of the program so far and
--- the ranges of each scalar
-pub record IsPassedAs (masks : ℕ) (n m : Nest) : Type 0 where
+-- So is m made of n, whose loops go from 1 by 1 first: a nest for each pass, and the link to the nest before; last
+-- reads are copied by a graph, and loops are moved by one. Its statements and references are counted, and so are all
+-- masks and copies of the program so far and the ranges of each scalar
+pub record IsPassedAs (counts : Counts) (n m : Nest) : Type 0 where
   pub normal : Nest
   pub made : normalised n ≡ Some normal
   pub converted : Nest
-  pub is_converted : converted_nest masks normal ≡ Some converted
+  pub is_converted : converted_nest counts.masks normal ≡ Some converted
   pub anew : Nest
   pub is_anew : anew ≡ with_symbols_found normal converted
   pub substituted : Nest
@@ -61,14 +68,18 @@ pub record IsPassedAs (masks : ℕ) (n m : Nest) : Type 0 where
   pub named : Nest
   pub is_named : named ≡ renamed substituted
   pub few : HaveFewRanges substituted
+  pub split_graph : Graph
+  pub is_split_graph : IsGraphOf (with_copies counts.copies (expanded named)) split_graph
+  pub split : Nest
   pub graph : Graph
-  pub is_graph : IsGraphOf (expanded named) graph
-  pub is_arranged : m ≡ arranged (expanded named) (vectors_of graph.edges)
+  pub is_split : IsSplitBy (with_copies counts.copies (expanded named)) split_graph split graph
+  pub is_arranged : m ≡ arranged split (vectors_of graph.edges)
   pub counted : m.masks < 2 ^ 32
+  pub copied : m.copies < 2 ^ 32
   pub numbered : AreCounted m
 
 -- with its tests, under the number of the nest as it was found
-pub record IsPassed (masks : ℕ) (n : Nest) (r : Passed) : Type 0 where
-  pub passed : IsPassedAs masks n (nest_of r.nest.value)
-  pub kept : IsLastGraph (expanded passed.named) passed.graph r.tests.graph
+pub record IsPassed (counts : Counts) (n : Nest) (r : Passed) : Type 0 where
+  pub passed : IsPassedAs counts n (nest_of r.nest.value)
+  pub kept : IsLastGraph passed.split passed.graph r.tests.graph
   pub tests : AreTestsOf n.number (nest_of r.nest.value) r.tests.graph r.tests.holds (map text_of r.tests.lines)

@@ -1,4 +1,4 @@
-//! How many statements and references a nest has.
+//! How many statements and references a nest has, and what was made in a program.
 ghost use Rattle.std.specs.Prelude.{◌+◌, ◌<◌, ◌^◌, All, OnOk, length};
 ghost use Rattle.dependence_graph.specs.nest_graph.References.{references_of};
 ghost use Rattle.listing.specs.programs.Counted.{AreCounted};
@@ -10,6 +10,13 @@ use nest::Nest;
 use nest::statement_loops::{Standing, statements_of};
 use std::alloc::Global;
 use tree::Memory;
+
+/// How many masks and copies were made so far in the program.
+#[derive(Clone, Copy)]
+pub struct Counts {
+    pub masks: u32,
+    pub copies: u32,
+}
 
 // More than there are numbers, which count from 1, don't fit into memory.
 fn check_count(count: usize) -> Result<(), Memory>

@@ -11,6 +11,7 @@ ghost use Rattle.listing.specs.programs.Listed.{IsListedAs};
 ghost use Rattle.listing.specs.programs.Sources.{IsFoundInSource};
 
 use crate::graphs::kept_lines;
+use crate::programs::counts::Counts;
 use crate::programs::lists::add;
 use crate::programs::nests::{Listed, nest_lines};
 use crate::programs::words::reason_word;
@@ -25,31 +26,35 @@ pub fn kept_loop(alloc: Global, line: u32, reason: Reason) -> Result<Seq<Line>, 
     kept_lines(alloc, line, reason_word(reason))
 }
 
-fn lines_of(alloc: Global, found: &Found, masks: u32) -> Result<Listed, Memory>
+fn lines_of(alloc: Global, found: &Found, counts: Counts) -> Result<Listed, Memory>
     requires { IsFoundInSource (found_of found.now) }
-    ensures { IfOk result (IsListedAs masks (found_of found.now)) }
+    ensures { IfOk result (IsListedAs counts (found_of found.now)) }
 {
     match found {
-        Found::Nest(nest) => nest_lines(alloc, nest, masks),
+        Found::Nest(nest) => nest_lines(alloc, nest, counts),
         Found::Kept(line, reason) => Ok(Listed {
             lines: kept_loop(alloc, *line, *reason)?,
-            masks,
+            counts,
         }),
     }
 }
 
 /// The listing of a program: in the order of the text each kept loop with its reason, and each nest with its loops, its
 /// statements, the dependences between them, each with the test behind it, and what keeps a statement from array form.
-/// Of a nest its IFs, labels and jumps are listed as masks, which are numbered through the program.
+/// Of a nest its IFs, labels and jumps are listed as masks, and reads of what is overwritten as copies, both numbered
+/// through the program.
 pub fn list(alloc: Global, program: &Program77) -> Result<Seq<Line>, Memory>
     requires { IsProgram77 fortran77 (program_of program.now) }
     ensures { IfOk result (λ all. IsListing (program_of program.now) (map text_of all)) }
 {
     let mut all = Vec::new(alloc);
-    let mut masks = 0;
+    let mut counts = Counts {
+        masks: 0,
+        copies: 0,
+    };
     for found in find_nests(alloc, program)?.as_slice() {
-        let listed = lines_of(alloc, found, masks)?;
-        masks = listed.masks;
+        let listed = lines_of(alloc, found, counts)?;
+        counts = listed.counts;
         add(&mut all, listed.lines)?;
     }
     Ok(Seq::from_vec(all))

@@ -13,12 +13,13 @@ ghost use Rattle.nest.specs.View.{nest_of};
 ghost use Rattle.subscripts.specs.declared.affine.Dirs.{Dirs};
 ghost use Rattle.listing.specs.programs.Listed.{IsListedAs};
 ghost use Rattle.listing.specs.programs.Passed.{IsAnewOf, IsArrangedAs, IsExpandedOf, IsPassed, IsSubstitutedOf};
-ghost use Rattle.listing.specs.programs.Passed.{IsUnexpanded};
+ghost use Rattle.listing.specs.programs.Passed.{IsSplitOf, IsUnexpanded};
 ghost use Rattle.listing.specs.programs.Sources.{IsNestOfSource, IsNormalOfSource};
-ghost use Rattle.listing.specs.programs.Testable.{AreTestsOf, MayBeListed};
+ghost use Rattle.listing.specs.programs.Stages.{IsSplitBy, with_copies};
+ghost use Rattle.listing.specs.programs.Testable.{AreTestsOf, MayBeListed, MayBeSplitReady};
 
 use crate::graphs::lines;
-use crate::programs::counts::check_counts;
+use crate::programs::counts::{Counts, check_counts};
 use array_form::holds::all_holds;
 use dependence_graph::dep_graph::graph;
 use dependence_graph::graphs::{Graph, Hold};
@@ -27,6 +28,7 @@ use if_convert::convert;
 use inductions::substitute_inductions;
 use interchange::{arrange, vectors_of};
 use nest::Nest;
+use node_splitting::split_nodes;
 use normal_loops::normalise;
 use scalar_expand::expand;
 use scalar_rename::rename;
@@ -132,6 +134,69 @@ fn expanded_nest(alloc: Global, normal: &Nest, masks: u32) -> Result<Nest, Memor
     expand(alloc, nest)
 }
 
+// ---- splitting
+
+/// A nest with a graph of it.
+#[derive(Drop)]
+struct Graphed {
+    nest: Box<Nest>,
+    graph: Graph,
+}
+
+fn with_graph(alloc: Global, nest: Box<Nest>) -> Result<Graphed, Memory>
+    requires { IsReady (nest_of nest.value) }
+    ensures nest { IfOk result (λ r. nest_of r.nest.value ≡ nest_of nest.value) }
+    ensures graph { IfOk result (λ r. IsGraphOf (nest_of nest.value) r.graph) }
+{
+    let read: &Nest = &nest;
+    let graph = graph(alloc, read)?;
+    Ok(Graphed { nest, graph })
+}
+
+// So many copies were made before the nest.
+fn counted_from(nest: Nest, copies: u32) -> Nest
+    ensures { nest_of result ≡ with_copies copies (nest_of nest) }
+{
+    let mut nest = nest;
+    nest.copies = copies;
+    nest
+}
+
+// The nest with its nodes split by the graph, and a graph of that one. Where nothing is copied, both stay.
+fn split(alloc: Global, whole: Graphed) -> Result<Graphed, Memory>
+    requires graph { IsGraphOf (nest_of whole.nest.value) whole.graph }
+    requires split { MayBeSplitReady (nest_of whole.nest.value) }
+    ensures { IfOk result (λ r. IsSplitBy (nest_of whole.nest.value) whole.graph (nest_of r.nest.value) r.graph) }
+{
+    let before: &Nest = &whole.nest;
+    match split_nodes(alloc, before, &whole.graph)? {
+        Some(made) => {
+            let nest = Box::new(alloc, made)?;
+            let read: &Nest = &nest;
+            // read so that its size is known
+            let _copies = read.copies;
+            with_graph(alloc, nest)
+        }
+        None => Ok(whole),
+    }
+}
+
+// The nest that passes make of one whose loops go from 1 by 1, up to copies of what is overwritten.
+fn split_nest(alloc: Global, normal: &Nest, counts: Counts) -> Result<Graphed, Memory>
+    requires { IsNormalOfSource (nest_of normal.now) }
+    ensures { IfOk result (λ r. IsSplitOf counts (nest_of normal.now) (nest_of r.nest.value) r.graph) }
+{
+    let made = expanded_nest(alloc, normal, counts.masks)?;
+    let nest = Box::new(alloc, counted_from(made, counts.copies))?;
+    let before: &Nest = &nest;
+    // read so that its size is known
+    let _masks = before.masks;
+    let whole = with_graph(alloc, nest)?;
+    split(alloc, whole)
+}
+
+// ---- loops that move
+
 // The nest with its loops moved by the vectors of its graph, where one moves.
 fn moved(alloc: Global, nest: &Nest, graph: &Graph) -> Result<Option<Box<Nest>>, Memory>
     requires { IsReady (nest_of nest.now) }
@@ -145,15 +210,15 @@ fn moved(alloc: Global, nest: &Nest, graph: &Graph) -> Result<Option<Box<Nest>>,
     }
 }
 
-// The nest with its loops moved by its graph, and the tests of that one. Where no loop moves, the nest stays, and its
+// The nest with its loops moved by this graph, and the tests of that one. Where no loop moves, the nest stays, and the
 // graph is the one that is listed.
-fn arranged(alloc: Global, number: u32, nest: Box<Nest>) -> Result<Passed, Memory>
+fn arranged(alloc: Global, number: u32, nest: Box<Nest>, graph: Graph) -> Result<Passed, Memory>
     requires given { MayBeListed (nest_of nest.value) }
+    requires graph { IsGraphOf (nest_of nest.value) graph }
     requires moved { (vectors : List Dirs) → MayBeListed (arranged (nest_of nest.value) vectors) }
-    ensures { IfOk result (IsArrangedAs number (nest_of nest.value)) }
+    ensures { IfOk result (IsArrangedAs number (nest_of nest.value) graph) }
 {
     let before: &Nest = &nest;
-    let graph = graph(alloc, before)?;
     match moved(alloc, before, &graph)? {
         Some(made) => {
             let last: &Nest = &made;
@@ -168,51 +233,55 @@ fn arranged(alloc: Global, number: u32, nest: Box<Nest>) -> Result<Passed, Memor
 }
 
 // By the nest whose loops go from 1 by 1.
-fn from_normal(alloc: Global, found: &Nest, normal: &Nest, masks: u32) -> Result<Passed, Memory>
+fn from_normal(alloc: Global, found: &Nest, normal: &Nest, counts: Counts) -> Result<Passed, Memory>
     requires source { IsNestOfSource (nest_of found.now) }
     requires made { normalised (nest_of found.now) ≡ Some (nest_of normal.now) }
-    ensures { IfOk result (IsPassed masks (nest_of found.now)) }
+    ensures { IfOk result (IsPassed counts (nest_of found.now)) }
 {
-    let made = expanded_nest(alloc, normal, masks)?;
-    let nest = Box::new(alloc, made)?;
-    let before: &Nest = &nest;
-    // read so that its size is known
+    let whole = split_nest(alloc, normal, counts)?;
+    let before: &Nest = &whole.nest;
+    // read so that their sizes are known
     let _masks = before.masks;
-    let passed = arranged(alloc, found.number, nest)?;
+    let _copies = before.copies;
+    let passed = arranged(alloc, found.number, whole.nest, whole.graph)?;
     let last: &Nest = &passed.nest;
     check_counts(alloc, last)?;
     Ok(passed)
 }
 
-/// What the passes make of a nest that was found, where so many masks were made before in the program. The only caller
-/// of passes, so that what is listed is what is translated.
-pub fn passes(alloc: Global, found: &Nest, masks: u32) -> Result<Passed, Memory>
+/// What the passes make of a nest that was found, where so many masks and copies were made before in the program. The
+/// only caller of passes, so that what is listed is what is translated.
+pub fn passes(alloc: Global, found: &Nest, counts: Counts) -> Result<Passed, Memory>
     requires { IsNestOfSource (nest_of found.now) }
-    ensures { IfOk result (IsPassed masks (nest_of found.now)) }
+    ensures { IfOk result (IsPassed counts (nest_of found.now)) }
 {
     match normalise(alloc, found)? {
-        Some(normal) => from_normal(alloc, found, &normal, masks),
+        Some(normal) => from_normal(alloc, found, &normal, counts),
         None => unreachable!(),
     }
 }
 
-/// Lines of a nest or of a kept loop, and how many masks are made in the program up to its end.
+/// Lines of a nest or of a kept loop, and what is made in the program up to its end.
 #[derive(Drop)]
 pub(crate) struct Listed {
     pub lines: Seq<Line>,
-    pub masks: u32,
+    pub counts: Counts,
 }
 
 /// The lines of a nest that was found.
-pub(crate) fn nest_lines(alloc: Global, found: &Nest, masks: u32) -> Result<Listed, Memory>
+pub(crate) fn nest_lines(alloc: Global, found: &Nest, counts: Counts) -> Result<Listed, Memory>
     requires { IsNestOfSource (nest_of found.now) }
-    ensures { IfOk result (IsListedAs masks (InNest (nest_of found.now))) }
+    ensures { IfOk result (IsListedAs counts (InNest (nest_of found.now))) }
 {
-    let passed = passes(alloc, found, masks)?;
-    let masks = passed.nest.masks;
+    let passed = passes(alloc, found, counts)?;
+    let last: &Nest = &passed.nest;
+    let counts = Counts {
+        masks: last.masks,
+        copies: last.copies,
+    };
     let tests = passed.tests;
     Ok(Listed {
         lines: tests.lines,
-        masks,
+        counts,
     })
 }

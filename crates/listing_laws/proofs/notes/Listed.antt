@@ -1,5 +1,5 @@
 -- The lines of the listing of a program of FORTRAN 77 are notes.
-use Rattle.std.proofs.Common.{refl, sym, subst, ℕ, List, [], ◌∷◌, codes, Contains}
+use Rattle.std.proofs.Common.{refl, sym, subst, List, [], ◌∷◌, codes, Contains}
 use Rattle.find_nests.specs.Found.{Found, InNest, Kept, found_in}
 use Rattle.find_nests.specs.declared.reasons.Reason.{Reason}
 use Rattle.find_nests.specs.declared.reasons.Reason.TheVariants.{Exit, InnerIf, Bound, Step, Deep, Large}
@@ -9,12 +9,13 @@ use Rattle.tree.specs.Plain.{Block, Program}
 use Rattle.listing.proofs.programs.Arranging.{last_depth}
 use Rattle.listing.proofs.programs.Sources.{declared_for, prepared_for}
 use Rattle.listing.proofs.programs.Stages.{listed_is_made}
+use Rattle.listing.specs.declared.programs.counts.Counts.{Counts}
 use Rattle.listing.specs.graphs.Lines.{Entry}
 use Rattle.listing.specs.programs.Stages.{IsListedFrom}
 use Rattle.nest.specs.Plain.{Nest}
 use Rattle.meaning_laws.proofs.profiles.Lists.{here, there}
 use Rattle.array_form.specs.holds.Holds.{all_holds}
-use Rattle.listing.specs.programs.Listing.{reason_word, HasNestEntries, HasEntries, HaveEntries, masks_behind}
+use Rattle.listing.specs.programs.Listing.{reason_word, HasNestEntries, HasEntries, HaveEntries, counts_behind, no_counts}
 use Rattle.listing_laws.specs.notes.Laws.{ListingLinesAreNotes}
 use Rattle.listing_laws.proofs.notes.Arrays.{graph_named}
 use Rattle.listing_laws.proofs.notes.Entries.{ArePrintableEntries, kept, nest_printable}
@@ -38,37 +39,37 @@ printable_beside : (m : Nest) (after : Block) → IsPrintableNest m → IsPrinta
 printable_beside m after h = record { statements = h.statements; loops = h.loops }
 
 module _ (p : Program) (is : IsProgram77 fortran77 p) where
-  nest_is_printable : (masks : ℕ) (n m : Nest) → Contains (found_in p) (InNest n) → IsListedFrom masks n m → IsPrintableNest m
-  nest_is_printable masks n m c listed =
-      let w = listed_is_made masks n m listed in
-      let d = declared_for p masks n w.nest is c w.made in
+  nest_is_printable : (counts : Counts) (n m : Nest) → Contains (found_in p) (InNest n) → IsListedFrom counts n m → IsPrintableNest m
+  nest_is_printable counts n m c listed =
+      let w = listed_is_made counts n m listed in
+      let d = declared_for p counts n w.nest is c w.made in
       subst IsPrintableNest (sym w.same)
       (printable_beside w.nest m.after
-      (is_printable d.declarations d.around last_depth w.nest d.are (prepared_for p masks n w.nest is c w.made)))
+      (is_printable d.declarations d.around last_depth w.nest d.are (prepared_for p counts n w.nest is c w.made)))
 
-  nest_entries : (masks : ℕ) (n : Nest) (es : List Entry) → Contains (found_in p) (InNest n) → HasNestEntries masks n es
+  nest_entries : (counts : Counts) (n : Nest) (es : List Entry) → Contains (found_in p) (InNest n) → HasNestEntries counts n es
       → ArePrintableEntries es
-  nest_entries masks n es c h =
+  nest_entries counts n es c h =
       let m = h.0 in
-      let printable = nest_is_printable masks n m c h.1 in
+      let printable = nest_is_printable counts n m c h.1 in
       subst ArePrintableEntries (sym h.2.2.entries_are)
       (nest_printable m n.number h.2.0 (all_holds m) h.2.2.cycles printable (graph_named m h.2.0 printable.statements h.2.1))
 
   -- ---- a program
 
-  entries : (masks : ℕ) (f : Found) (es : List Entry) → Contains (found_in p) f → HasEntries masks f es
+  entries : (counts : Counts) (f : Found) (es : List Entry) → Contains (found_in p) f → HasEntries counts f es
       → ArePrintableEntries es
-  entries masks (InNest n) es c h = nest_entries masks n es c h
-  entries masks (Kept line r) es c h = subst ArePrintableEntries (sym h) (kept line (reason_word r) (reason r), tt)
+  entries counts (InNest n) es c h = nest_entries counts n es c h
+  entries counts (Kept line r) es c h = subst ArePrintableEntries (sym h) (kept line (reason_word r) (reason r), tt)
 
-  all_entries : (masks : ℕ) (fs : List Found) (es : List Entry) → ((f : Found) → Contains fs f → Contains (found_in p) f)
-      → HaveEntries masks fs es → ArePrintableEntries es
-  all_entries masks [] es c h = subst ArePrintableEntries (sym h) tt
-  all_entries masks (f ∷ fs) es c h =
+  all_entries : (counts : Counts) (fs : List Found) (es : List Entry) → ((f : Found) → Contains fs f → Contains (found_in p) f)
+      → HaveEntries counts fs es → ArePrintableEntries es
+  all_entries counts [] es c h = subst ArePrintableEntries (sym h) tt
+  all_entries counts (f ∷ fs) es c h =
       subst ArePrintableEntries (sym h.2)
-      (joined IsPrintableEntry h.0 h.1 (entries masks f h.0 (c f (here f fs)) h.3)
-      (all_entries (masks_behind masks f h.0 h.3) fs h.1 (λ g i. c g (there f fs g i)) h.4))
+      (joined IsPrintableEntry h.0 h.1 (entries counts f h.0 (c f (here f fs)) h.3)
+      (all_entries (counts_behind counts f h.0 h.3) fs h.1 (λ g i. c g (there f fs g i)) h.4))
 
 pub listing_lines_are_notes : ListingLinesAreNotes
 listing_lines_are_notes p lines is h =
-    subst AreNotes (sym h.lines_are) (entry_notes h.entries (all_entries p is 0 (found_in p) h.entries (λ f c. c) h.are))
+    subst AreNotes (sym h.lines_are) (entry_notes h.entries (all_entries p is no_counts (found_in p) h.entries (λ f c. c) h.are))

@@ -11,6 +11,7 @@ use Rattle.meaning.specs.Blocks.{outermost}
 use Rattle.meaning.specs.Dialect.{fortran77}
 use Rattle.meaning.specs.Profile77.{IsProgram77}
 use Rattle.tree.specs.Plain.{Block, Program}
+use Rattle.listing.specs.declared.programs.counts.Counts.{Counts}
 use Rattle.listing.specs.graphs.Lines.{Entry}
 use Rattle.listing_laws.proofs.notes.Printable.{joined}
 use Rattle.listing_laws.proofs.prepared.Listed.{is_tidy}
@@ -22,7 +23,7 @@ use Rattle.listing.proofs.programs.Arranging.{last_depth}
 use Rattle.listing.proofs.programs.Sources.{declared_for, listed_nest_is_testable, prepared_for}
 use Rattle.listing.proofs.programs.Stages.{listed_is_made}
 use Rattle.listing.specs.programs.Counted as listing
-use Rattle.listing.specs.programs.Listing.{HasNestEntries, HasEntries, HaveEntries, masks_behind}
+use Rattle.listing.specs.programs.Listing.{HasNestEntries, HasEntries, HaveEntries, counts_behind, no_counts}
 use Rattle.listing.specs.programs.Stages.{IsListedFrom}
 use Rattle.nest.specs.Bodies.{Standing, nest_statements}
 use Rattle.nest.specs.Plain.{Nest}
@@ -58,11 +59,11 @@ module _ (p : Program) (is : IsProgram77 fortran77 p) where
     tidy : IsTidyNest m
     few : length (nest_statements m) ≤ 2 ^ 40
 
-  readable : (masks : ℕ) (n m : Nest) → Contains (found_in p) (InNest n) → IsListedFrom masks n m → IsReadable m
-  readable masks n m c listed =
-      let w = listed_is_made masks n m listed in
-      let d = declared_for p masks n w.nest is c w.made in
-      let prepared = prepared_for p masks n w.nest is c w.made in
+  readable : (counts : Counts) (n m : Nest) → Contains (found_in p) (InNest n) → IsListedFrom counts n m → IsReadable m
+  readable counts n m c listed =
+      let w = listed_is_made counts n m listed in
+      let d = declared_for p counts n w.nest is c w.made in
+      let prepared = prepared_for p counts n w.nest is c w.made in
       let numbers = counted w.nest w.made.numbered in
       subst IsReadable (sym w.same)
       (record {
@@ -71,16 +72,16 @@ module _ (p : Program) (is : IsProgram77 fortran77 p) where
         few = numbers.statements;
       })
 
-  nest_entries : (masks : ℕ) (n : Nest) (es : List Entry) → Contains (found_in p) (InNest n) → HasNestEntries masks n es
+  nest_entries : (counts : Counts) (n : Nest) (es : List Entry) → Contains (found_in p) (InNest n) → HasNestEntries counts n es
       → AreListable es
-  nest_entries masks n es c h =
+  nest_entries counts n es c h =
       let m = h.0 in
-      let r = readable masks n m c h.1 in
+      let r = readable counts n m c h.1 in
       let line = r.line in
       let number = nest_number p 0 (looked_at p.declarations p.body) n (omega arith) c in
       subst AreListable (sym h.2.2.entries_are)
       (nest_listable m n.number h.2.0 h.2.2.cycles (omega (arith, number)) (omega (arith, line))
-      (listed_nest_is_testable p masks n m is c h.1) r.tidy r.few h.2.1 h.2.2.cycles_are)
+      (listed_nest_is_testable p counts n m is c h.1) r.tidy r.few h.2.1 h.2.2.cycles_are)
 
   -- ---- a program
 
@@ -90,19 +91,19 @@ module _ (p : Program) (is : IsProgram77 fortran77 p) where
       let s = loop_stands p.declarations p.body 0 [] outermost f.loop is.statements f.stands in
       subst (λ (l : ℕ). l < 2 ^ 32) (sym f.at) s.is.0.1
 
-  entries : (masks : ℕ) (f : Found) (es : List Entry) → Contains (found_in p) f → HasEntries masks f es → AreListable es
-  entries masks (InNest n) es c h = nest_entries masks n es c h
-  entries masks (Kept line r) es c h =
+  entries : (counts : Counts) (f : Found) (es : List Entry) → Contains (found_in p) f → HasEntries counts f es → AreListable es
+  entries counts (InNest n) es c h = nest_entries counts n es c h
+  entries counts (Kept line r) es c h =
       let small : line < 4294967296 = kept_line line r c in subst AreListable (sym h) (omega (arith, small), tt)
 
-  all_entries : (masks : ℕ) (fs : List Found) (es : List Entry) → ((f : Found) → Contains fs f → Contains (found_in p) f)
-      → HaveEntries masks fs es → AreListable es
-  all_entries masks [] es c h = subst AreListable (sym h) tt
-  all_entries masks (f ∷ fs) es c h =
+  all_entries : (counts : Counts) (fs : List Found) (es : List Entry) → ((f : Found) → Contains fs f → Contains (found_in p) f)
+      → HaveEntries counts fs es → AreListable es
+  all_entries counts [] es c h = subst AreListable (sym h) tt
+  all_entries counts (f ∷ fs) es c h =
       subst AreListable (sym h.2)
-      (joined IsListable h.0 h.1 (entries masks f h.0 (c f (here f fs)) h.3)
-      (all_entries (masks_behind masks f h.0 h.3) fs h.1 (λ g i. c g (there f fs g i)) h.4))
+      (joined IsListable h.0 h.1 (entries counts f h.0 (c f (here f fs)) h.3)
+      (all_entries (counts_behind counts f h.0 h.3) fs h.1 (λ g i. c g (there f fs g i)) h.4))
 
 pub program_listing_is_read : ProgramListingIsRead
 program_listing_is_read p lines is h =
-    ap read_listing h.lines_are ∙ listing-is-read h.entries (all_entries p is 0 (found_in p) h.entries (λ f c. c) h.are)
+    ap read_listing h.lines_are ∙ listing-is-read h.entries (all_entries p is no_counts (found_in p) h.entries (λ f c. c) h.are)

@@ -1,14 +1,16 @@
 -- The entries of a listing tell its nests.
-use Rattle.std.proofs.Common.{◌≡◌, refl, sym, ap, ap₂, ◌∙◌, subst, ℕ, List, [], ◌∷◌, ◌++◌, map, flat_map}
+use Rattle.std.proofs.Common.{◌≡◌, refl, sym, ap, ap₂, ◌∙◌, subst, List, [], ◌∷◌, ◌++◌, map, flat_map}
 use Rattle.std.specs.List.{AllByRecursion}
 use Rattle.array_form.specs.holds.Holds.{all_holds}
 use Rattle.dependence_graph.specs.declared.graphs.Graph.{Graph}
 use Rattle.dependence_graph.specs.nest_graph.Graph.{IsGraphOf}
 use Rattle.find_nests.specs.Found.{Found, InNest, Kept, found_in}
 use Rattle.listing.proofs.programs.ListedParts.{holds_listed}
+use Rattle.listing.specs.declared.programs.counts.Counts.{Counts}
 use Rattle.listing.specs.graphs.Lines.{DropEntry, Entry}
 use Rattle.listing.specs.programs.Causes.{listed_holds}
-use Rattle.listing.specs.programs.Listing.{HasCycleEntries, HasEntries, HaveEntries, ListedNest, listed_nests, masks_behind}
+use Rattle.listing.specs.programs.Listing.{HasCycleEntries, HasEntries, HaveEntries, ListedNest, counts_behind, counts_of, listed_nests}
+use Rattle.listing.specs.programs.Listing.{no_counts}
 use Rattle.listing_laws.proofs.told_nests.Graphs.{IsSound, are_part, are_sound, graph_is}
 use Rattle.listing_laws.specs.told_nests.Graphs.{graph_told}
 use Rattle.listing_laws.specs.told_nests.Laws.{LinesTellNests, NestsAreTold}
@@ -41,43 +43,43 @@ module _ (n m : Nest) (g : Graph) (es : List Entry) (is : IsGraphOf m g) (h : Ha
 
 -- ---- one after the other
 
-part : (masks : ℕ) (f : Found) (es : List Entry) → HasEntries masks f es → IsPart es
-part masks (InNest n) es h = one_part n h.0 h.2.0 es h.2.1 h.2.2
-part masks (Kept line r) es h = subst IsPart (sym h) (refl, tt)
+part : (counts : Counts) (f : Found) (es : List Entry) → HasEntries counts f es → IsPart es
+part counts (InNest n) es h = one_part n h.0 h.2.0 es h.2.1 h.2.2
+part counts (Kept line r) es h = subst IsPart (sym h) (refl, tt)
 
-parts : (masks : ℕ) (fs : List Found) (es : List Entry) (h : HaveEntries masks fs es) → AllByRecursion IsPart (parts_told masks fs es h)
-parts masks [] es h = tt
-parts masks (f ∷ fs) es h = (part masks f h.0 h.3, parts (masks_behind masks f h.0 h.3) fs h.1 h.4)
+parts : (counts : Counts) (fs : List Found) (es : List Entry) (h : HaveEntries counts fs es) → AllByRecursion IsPart (parts_told counts fs es h)
+parts counts [] es h = tt
+parts counts (f ∷ fs) es h = (part counts f h.0 h.3, parts (counts_behind counts f h.0 h.3) fs h.1 h.4)
 
-joined : (masks : ℕ) (fs : List Found) (es : List Entry) (h : HaveEntries masks fs es)
-    → es ≡ flat_map (λ (xs : List Entry). xs) (parts_told masks fs es h)
-joined masks [] es h = h
-joined masks (f ∷ fs) es h = h.2 ∙ ap (λ xs. h.0 ++ xs) (joined (masks_behind masks f h.0 h.3) fs h.1 h.4)
+joined : (counts : Counts) (fs : List Found) (es : List Entry) (h : HaveEntries counts fs es)
+    → es ≡ flat_map (λ (xs : List Entry). xs) (parts_told counts fs es h)
+joined counts [] es h = h
+joined counts (f ∷ fs) es h = h.2 ∙ ap (λ xs. h.0 ++ xs) (joined (counts_behind counts f h.0 h.3) fs h.1 h.4)
 
-all_told : (masks : ℕ) (fs : List Found) (es : List Entry) (h : HaveEntries masks fs es) → AllByRecursion IsTold (nests_told masks fs es h)
-all_told masks [] es h = tt
-all_told masks (InNest n ∷ fs) es h = (told n h.3.0 h.3.2.0 h.0 h.3.2.1 h.3.2.2, all_told h.3.0.masks fs h.1 h.4)
-all_told masks (Kept line r ∷ fs) es h = all_told masks fs h.1 h.4
+all_told : (counts : Counts) (fs : List Found) (es : List Entry) (h : HaveEntries counts fs es) → AllByRecursion IsTold (nests_told counts fs es h)
+all_told counts [] es h = tt
+all_told counts (InNest n ∷ fs) es h = (told n h.3.0 h.3.2.0 h.0 h.3.2.1 h.3.2.2, all_told (counts_of h.3.0) fs h.1 h.4)
+all_told counts (Kept line r ∷ fs) es h = all_told counts fs h.1 h.4
 
-same_nests : (masks : ℕ) (fs : List Found) (es : List Entry) (h : HaveEntries masks fs es)
-    → map by_entries (nests_told masks fs es h) ≡ listed_nests masks fs es h
-same_nests masks [] es h = refl
-same_nests masks (InNest n ∷ fs) es h =
+same_nests : (counts : Counts) (fs : List Found) (es : List Entry) (h : HaveEntries counts fs es)
+    → map by_entries (nests_told counts fs es h) ≡ listed_nests counts fs es h
+same_nests counts [] es h = refl
+same_nests counts (InNest n ∷ fs) es h =
     ap₂ (λ (g : Graph) (ts : List ListedNest). record { found = n; normal = h.3.0; graph = g } ∷ ts)
-    (told_graph n h.3.0 h.3.2.0 h.0 h.3.2.1 h.3.2.2) (same_nests h.3.0.masks fs h.1 h.4)
-same_nests masks (Kept line r ∷ fs) es h = same_nests masks fs h.1 h.4
+    (told_graph n h.3.0 h.3.2.0 h.0 h.3.2.1 h.3.2.2) (same_nests (counts_of h.3.0) fs h.1 h.4)
+same_nests counts (Kept line r ∷ fs) es h = same_nests counts fs h.1 h.4
 
 pub nests_are_told : NestsAreTold
-nests_are_told p lines l = same_nests 0 (found_in p) l.entries l.are
+nests_are_told p lines l = same_nests no_counts (found_in p) l.entries l.are
 
 pub lines_tell_nests : LinesTellNests
 lines_tell_nests p lines l =
     let es = l.listing.entries in
     let h = l.listing.are in
-    let ts = nests_told 0 (found_in p) es h in
-    let all : AllByRecursion IsTold ts = all_told 0 (found_in p) es h in
+    let ts = nests_told no_counts (found_in p) es h in
+    let all : AllByRecursion IsTold ts = all_told no_counts (found_in p) es h in
     record {
-      cut = record { joined = joined 0 (found_in p) es h; each = parts 0 (found_in p) es h };
+      cut = record { joined = joined no_counts (found_in p) es h; each = parts no_counts (found_in p) es h };
       graphs = λ t c. (all_at IsTold ts t all c).graph;
       holds = λ t c. (all_at IsTold ts t all c).holds;
       dropped = λ t d w v c i stands pair.

@@ -9,7 +9,7 @@ use Rattle.tree.specs.Plain.{Program}
 use Rattle.listing_laws.specs.reader.Lists.{Lists}
 use Rattle.listing_laws.specs.reader.Reader.{read_listing}
 use Rattle.find_nests.specs.Found.{found_in}
-use Rattle.listing.specs.programs.Listing.{IsListing, IsListingText}
+use Rattle.listing.specs.programs.Listing.{IsListing, IsListingText, no_counts}
 use Rattle.listing.specs.programs.Causes.{AreCaused}
 use Rattle.listing.specs.programs.Inductions.{AreSubstituted}
 use Rattle.listing.specs.programs.Private.{AreExpanded}
@@ -37,17 +37,17 @@ SourceListingTextLists = (source : List ℕ) (p : Program) (text : List ℕ) →
 -- of the nests that it lists, no private scalar is left
 abbrev pub SourceListingIsExpanded : Type 0
 SourceListingIsExpanded = (source : List ℕ) (p : Program) (all : List (List ℕ)) → Reads77 fortran77 source p
-    → (l : IsListing p all) → AreExpanded 0 (found_in p) l.entries l.are
+    → (l : IsListing p all) → AreExpanded no_counts (found_in p) l.entries l.are
 
 -- and no induction is written
 abbrev pub SourceListingIsSubstituted : Type 0
 SourceListingIsSubstituted = (source : List ℕ) (p : Program) (all : List (List ℕ)) → Reads77 fortran77 source p
-    → (l : IsListing p all) → AreSubstituted 0 (found_in p) l.entries l.are
+    → (l : IsListing p all) → AreSubstituted no_counts (found_in p) l.entries l.are
 
 -- and each loop in which statements of them stand has its causes
 abbrev pub SourceListingIsCaused : Type 0
 SourceListingIsCaused = (source : List ℕ) (p : Program) (all : List (List ℕ)) → Reads77 fortran77 source p
-    → (l : IsListing p all) → AreCaused 0 (found_in p) l.entries l.are
+    → (l : IsListing p all) → AreCaused no_counts (found_in p) l.entries l.are
 
 -- and two listings with the same lines have the same entries
 abbrev pub SameLinesListTheSame : Type 0

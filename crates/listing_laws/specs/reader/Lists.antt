@@ -4,7 +4,7 @@ use Rattle.find_nests.specs.Found.{found_in}
 use Rattle.tree.specs.Plain.{Program}
 use Rattle.listing.specs.programs.Causes.{AreCaused}
 use Rattle.listing.specs.programs.Inductions.{AreSubstituted}
-use Rattle.listing.specs.programs.Listing.{IsListing}
+use Rattle.listing.specs.programs.Listing.{IsListing, no_counts}
 use Rattle.listing.specs.programs.Private.{AreExpanded}
 use Rattle.listing_laws.specs.reader.Reader.{read_listing}
 
@@ -14,6 +14,6 @@ use Rattle.listing_laws.specs.reader.Reader.{read_listing}
 pub record Lists (p : Program) (lines : List (List ℕ)) : Type 0 where
   pub listing : IsListing p lines
   pub read : read_listing lines ≡ map Some listing.entries
-  pub private_names : AreExpanded 0 (found_in p) listing.entries listing.are
-  pub inductions : AreSubstituted 0 (found_in p) listing.entries listing.are
-  pub causes : AreCaused 0 (found_in p) listing.entries listing.are
+  pub private_names : AreExpanded no_counts (found_in p) listing.entries listing.are
+  pub inductions : AreSubstituted no_counts (found_in p) listing.entries listing.are
+  pub causes : AreCaused no_counts (found_in p) listing.entries listing.are

@@ -8,7 +8,7 @@ use Rattle.dependence_graph.specs.nest_graph.Graph.{IsGraphOf}
 use Rattle.emission.specs.emission_pieces.Cycles.{AreCyclesOf}
 use Rattle.find_nests.specs.Found.{found_in}
 use Rattle.listing.specs.graphs.Listing.{entries_of}
-use Rattle.listing.specs.programs.Listing.{IsListing, listed_nests}
+use Rattle.listing.specs.programs.Listing.{IsListing, listed_nests, no_counts}
 use Rattle.listing_laws.specs.reader.Lists.{Lists}
 use Rattle.listing_laws.specs.told_nests.Graphs.{graph_told}
 use Rattle.listing_laws.specs.told_nests.Nests.{Tells, by_entries, nests_told}
@@ -23,7 +23,8 @@ GraphIsTold = (n : Nest) (number : ℕ) (g : Graph) (holds : List Hold) (cycles 
 -- so in a whole listing, nest by nest
 abbrev pub NestsAreTold : Type 0
 NestsAreTold = (p : Program) (lines : List (List ℕ)) (l : IsListing p lines)
-    → map by_entries (nests_told 0 (found_in p) l.entries l.are) ≡ listed_nests 0 (found_in p) l.entries l.are
+    → map by_entries (nests_told no_counts (found_in p) l.entries l.are)
+    ≡ listed_nests no_counts (found_in p) l.entries l.are
 
 -- and lines that list a program tell its nests
 abbrev pub LinesTellNests : Type 0

@@ -5,9 +5,10 @@ use Rattle.dependence_graph.specs.nest_graph.Graph.{IsGraphOf}
 use Rattle.dependence_graph.specs.nest_graph.Pair.{Candidate, HasPair}
 use Rattle.dependence_graph.specs.nest_graph.Vectors.{StandsFor}
 use Rattle.find_nests.specs.Found.{Found, InNest, Kept, found_in}
+use Rattle.listing.specs.declared.programs.counts.Counts.{Counts}
 use Rattle.listing.specs.graphs.Lines.{Dependence, DropEntry, Entry}
 use Rattle.listing.specs.programs.Causes.{listed_holds}
-use Rattle.listing.specs.programs.Listing.{HaveEntries, ListedNest, masks_behind}
+use Rattle.listing.specs.programs.Listing.{HaveEntries, ListedNest, counts_behind, counts_of, no_counts}
 use Rattle.listing_laws.specs.reader.Lists.{Lists}
 use Rattle.listing_laws.specs.told_nests.Graphs.{graph_told}
 use Rattle.listing_laws.specs.told_nests.Parts.{AreCutInto}
@@ -29,25 +30,25 @@ by_entries t = record { found = t.found; normal = t.last; graph = graph_told t.e
 -- ---- of a listing
 
 -- the entries of each nest and kept loop
-abbrev pub parts_told : (masks : ℕ) (fs : List Found) (entries : List Entry) → HaveEntries masks fs entries
+abbrev pub parts_told : (counts : Counts) (fs : List Found) (entries : List Entry) → HaveEntries counts fs entries
     → List (List Entry)
-parts_told masks [] entries h = []
-parts_told masks (f ∷ fs) entries h = h.0 ∷ parts_told (masks_behind masks f h.0 h.3) fs h.1 h.4
+parts_told counts [] entries h = []
+parts_told counts (f ∷ fs) entries h = h.0 ∷ parts_told (counts_behind counts f h.0 h.3) fs h.1 h.4
 
 -- the nests among them
-abbrev pub nests_told : (masks : ℕ) (fs : List Found) (entries : List Entry) → HaveEntries masks fs entries
+abbrev pub nests_told : (counts : Counts) (fs : List Found) (entries : List Entry) → HaveEntries counts fs entries
     → List ToldNest
-nests_told masks [] entries h = []
-nests_told masks (InNest n ∷ fs) entries h =
-    record { found = n; last = h.3.0; entries = h.0 } ∷ nests_told h.3.0.masks fs h.1 h.4
-nests_told masks (Kept line r ∷ fs) entries h = nests_told masks fs h.1 h.4
+nests_told counts [] entries h = []
+nests_told counts (InNest n ∷ fs) entries h =
+    record { found = n; last = h.3.0; entries = h.0 } ∷ nests_told (counts_of h.3.0) fs h.1 h.4
+nests_told counts (Kept line r ∷ fs) entries h = nests_told counts fs h.1 h.4
 
 module _ (p : Program) (lines : List (List ℕ)) (l : Lists p lines) where
   abbrev pub parts_of : List (List Entry)
-  parts_of = parts_told 0 (found_in p) l.listing.entries l.listing.are
+  parts_of = parts_told no_counts (found_in p) l.listing.entries l.listing.are
 
   abbrev pub nests_of : List ToldNest
-  nests_of = nests_told 0 (found_in p) l.listing.entries l.listing.are
+  nests_of = nests_told no_counts (found_in p) l.listing.entries l.listing.are
 
 -- ---- what they tell
 

@@ -40,41 +40,41 @@ use Rattle.prepared_passes.proofs.ArrangedNests.Trips.{sized}
 
 -- ---- moments that agree
 
-agree_on : (p : Program) (s t u : Store) → Agree p s t → Agree p t u → Agree p s u
+pub agree_on : (p : Program) (s t u : Store) → Agree p s t → Agree p t u → Agree p s u
 agree_on p s t u a b = record {
   bounds = λ x n. a.bounds x n ∙ b.bounds x n;
   held = λ c n here. a.held c n here ∙ b.held c n (ap (λ b. cell_in b c.name c.subscripts) (sym (a.bounds c.name n)) ∙ here);
   kinds = λ c n. a.kinds c n ∙ b.kinds c n;
 }
 
-joined : (p : Program) (s t r : State) → GoOnAlike p s t → GoOnAlike p t r → GoOnAlike p s r
+pub joined : (p : Program) (s t r : State) → GoOnAlike p s t → GoOnAlike p t r → GoOnAlike p s r
 joined p s t r a b = record {
   going = a.going;
   agree = agree_on p s.store t.store r.store a.agree b.agree;
   rest = b.rest ∙ ap (λ (x : State). record x { store = r.store; steps = r.steps }) a.rest;
 }
 
-fewer : (p r : Program) (s t : Store) → ((x : List ℕ) → Contains (names_of p) x → Contains (names_of r) x) → Agree r s t → Agree p s t
+pub fewer : (p r : Program) (s t : Store) → ((x : List ℕ) → Contains (names_of p) x → Contains (names_of r) x) → Agree r s t → Agree p s t
 fewer p r s t f a = record { bounds = λ x n. a.bounds x (f x n); held = λ c n here. a.held c (f c.name n) here; kinds = λ c n. a.kinds c (f c.name n) }
 
 -- ---- a store in which names that aren't declared hold 0
 
-abbrev kept_if : Option Declaration → Value → Value
+abbrev pub kept_if : Option Declaration → Value → Value
 kept_if None v = Int (pos 0)
 kept_if (Some d) v = v
 
 module _ (r : Program) (t : Store) (holds : HoldsProgram fortran77 r t) where
-  abbrev clean : Store
+  abbrev pub clean : Store
   clean = record { bounds = t.bounds; held = λ c. kept_if (declared r.declarations c.name) (t.held c) }
 
-  clean_holds : HoldsProgram fortran77 r clean
+  pub clean_holds : HoldsProgram fortran77 r clean
   clean_holds = record { bounds = holds.bounds; kinds = λ c. by (declared r.declarations c.name) (t.held c) (holds.kinds c) }
     where
       by : (o : Option Declaration) (v : Value) → IfSome o (λ (d : Declaration). IsStorable fortran77 d.kind v) → IfSome o (λ (d : Declaration). IsStorable fortran77 d.kind (kept_if o v))
       by None v h = h
       by (Some d) v h = h
 
-  clean_sized : HoldsSized clean
+  pub clean_sized : HoldsSized clean
   clean_sized c z e = by (declared r.declarations c.name) (t.held c) (holds.kinds c) e
     where
       least : 0 ≤ 2 ^ 63
@@ -90,10 +90,10 @@ module _ (r : Program) (t : Store) (holds : HoldsProgram fortran77 r t) where
   same_held : (c : Cell) → Contains (names_of r) c.name → t.held c ≡ clean.held c
   same_held c i = let d = is_declared r.declarations c.name i in ap (λ (o : Option Declaration). kept_if o (t.held c)) (sym d.1)
 
-  clean_agrees : Agree r t clean
+  pub clean_agrees : Agree r t clean
   clean_agrees = record { bounds = λ x i. refl; held = λ c i here. same_held c i; kinds = λ c i. ap nought_like (same_held c i) }
 
-  clean_back : Agree r clean t
+  pub clean_back : Agree r clean t
   clean_back = record { bounds = λ x i. refl; held = λ c i here. sym (same_held c i); kinds = λ c i. ap nought_like (sym (same_held c i)) }
 
 -- ---- both runs

@@ -65,11 +65,11 @@ map_onto : {A B : Type 0} (f : A → B) (xs ys : List A) → map f (reverse_aux 
 map_onto f [] ys = refl
 map_onto f (x ∷ xs) ys = map_onto f xs (x ∷ ys)
 
-map_reverse : {A B : Type 0} (f : A → B) (xs : List A) → map f (reverse xs) ≡ reverse (map f xs)
+pub map_reverse : {A B : Type 0} (f : A → B) (xs : List A) → map f (reverse xs) ≡ reverse (map f xs)
 map_reverse f xs = map_onto f xs []
 
 module _ (u : Store) where
-  tell_onto : (es : List Expression) (zs : List ℤ) (fs : List Expression) (ys : List ℤ) → Tell fortran77 u es zs → Tell fortran77 u fs ys
+  pub tell_onto : (es : List Expression) (zs : List ℤ) (fs : List Expression) (ys : List ℤ) → Tell fortran77 u es zs → Tell fortran77 u fs ys
       → Tell fortran77 u (reverse_aux es fs) (reverse_aux zs ys)
   tell_onto [] [] fs ys h k = k
   tell_onto [] (z ∷ zs) fs ys h k = absurd h
@@ -85,7 +85,7 @@ module _ (u : Store) where
       same g = sym (ok_same {F = Fault} z y g)
 
   -- bounds from 1 to numbers are those to the numbers that the texts have
-  bounds_said : (symbols : List (List ℕ)) (values : ℕ → ℤ) → HaveValues symbols u (facts.values_from values 0 symbols)
+  pub bounds_said : (symbols : List (List ℕ)) (values : ℕ → ℤ) → HaveValues symbols u (facts.values_from values 0 symbols)
       → (n : ℕ) (v : ℕ → ℤ) (es : List Expression) (zs : List ℤ) (bs : List (ℤ × ℤ))
       → AreBoundsBy symbols values es bs → Tell fortran77 u es zs → bs ≡ map (from_place n v (pos 1)) zs
   bounds_said symbols values have n v [] [] [] h k = refl
@@ -100,12 +100,12 @@ module _ (u : Store) where
 
 -- ---- places of symbols
 
-place_of : (xs : List (List ℕ)) (k : ℕ) (y : List ℕ) → slice_get xs k ≡ Some y → nth_of xs k ≡ Some y
+pub place_of : (xs : List (List ℕ)) (k : ℕ) (y : List ℕ) → slice_get xs k ≡ Some y → nth_of xs k ≡ Some y
 place_of [] k y e = cc
 place_of (x ∷ xs) zero y e = e
 place_of (x ∷ xs) (suc k) y e = place_of xs k y e
 
-some_there : (xs : List (List ℕ)) (k : ℕ) → k < length xs → ◌≡◌ {A = Option (List ℕ)} (slice_get xs k) None → ⊥
+pub some_there : (xs : List (List ℕ)) (k : ℕ) → k < length xs → ◌≡◌ {A = Option (List ℕ)} (slice_get xs k) None → ⊥
 some_there [] k h e = omega (arith, h)
 some_there (x ∷ xs) zero h e = cc
 some_there (x ∷ xs) (suc k) h e = some_there xs k (omega (arith, h)) e

@@ -50,7 +50,7 @@ trip_small n ts a t h s = subst (λ z. IsSmallTrip (trip_of a z)) (sym s.by) (by
     }
     by false z = record { top = sum_small n ts a h; sized = z; divisor = s.divisor; by = refl; positive = s.positive; small = s.small }
 
-extents_small : (n : ℕ) (ts us fin : List Trip) → AllSmall us → extents_under n ts us ≡ Some fin → AllSmall ts → AllSmall fin
+pub extents_small : (n : ℕ) (ts us fin : List Trip) → AllSmall us → extents_under n ts us ≡ Some fin → AllSmall ts → AllSmall fin
 unfolding extent_under
 extents_small n ts [] fin d h k = let same : ts ≡ fin = cc in subst AllSmall same k
 extents_small n ts (t ∷ us) fin d h k =

@@ -41,7 +41,7 @@ either f g (inl x) = f x
 either f g (inr y) = g y
 
 mutual
-  name_in : (e : Expression) → IsPlain e → (r : Reference) → In r (references_in e) → In r.name (names_in e)
+  pub name_in : (e : Expression) → IsPlain e → (r : Reference) → In r (references_in e) → In r.name (names_in e)
   name_in (Number n) plain r i = absurd i
   name_in (Logic b) plain r i = absurd i
   name_in (Named x qs) plain r (inl e) = inl (ap (λ (q : Reference). q.name) e)
@@ -57,13 +57,13 @@ mutual
   name_in (Reshape a es) plain r i = absurd plain
   name_in (Reduce o a) plain r i = absurd plain
 
-  name_in_each : (es : Expressions) → EachIsPlain es → (r : Reference) → In r (references_in_each es) → In r.name (names_in_each es)
+  pub name_in_each : (es : Expressions) → EachIsPlain es → (r : Reference) → In r (references_in_each es) → In r.name (names_in_each es)
   name_in_each no_expressions plain r i = absurd i
   name_in_each (expression e es) plain r i =
       either (λ j. In-left r.name (names_in e) (names_in_each es) (name_in e plain.0 r j)) (λ j. In-right r.name (names_in e) (names_in_each es) (name_in_each es plain.1 r j))
       (In-append r (references_in e) (references_in_each es) i)
 
-  name_in_subscripts : (qs : Subscripts) → ArePlain qs → (r : Reference) → In r (references_in_subscripts qs) → In r.name (names_in_subscripts qs)
+  pub name_in_subscripts : (qs : Subscripts) → ArePlain qs → (r : Reference) → In r (references_in_subscripts qs) → In r.name (names_in_subscripts qs)
   name_in_subscripts no_subscripts plain r i = absurd i
   name_in_subscripts (subscript (Only e) qs) plain r i =
       either (λ j. In-left r.name (names_in e) (names_in_subscripts qs) (name_in e plain.0 r j)) (λ j. In-right r.name (names_in e) (names_in_subscripts qs) (name_in_subscripts qs plain.1 r j))

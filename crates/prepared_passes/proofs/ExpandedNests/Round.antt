@@ -70,7 +70,7 @@ round_numbers (l ∷ ls) = ap (λ ks. l.number ∷ ks) (round_numbers ls)
 
 -- ---- extents
 
-as_many_extents : (n : ℕ) (ts us es : List Trip) → extents_under n ts us ≡ Some es → length es ≡ length ts + length us
+pub as_many_extents : (n : ℕ) (ts us es : List Trip) → extents_under n ts us ≡ Some es → length es ≡ length ts + length us
 unfolding extent_under
 as_many_extents n ts [] es e = let same : ts ≡ es = cc in let many : length ts ≡ length es = ap (λ (xs : List Trip). length xs) same in omega (arith, many)
 as_many_extents n ts (t ∷ us) es e = by (extent_under n ts t) e (λ x f. as_many_extents n (ts ++ x ∷ []) us es f)

@@ -416,12 +416,19 @@ pick symbols v (t ∷ texts) (z ∷ zs) e l (inr i) = let r = pick symbols v tex
 as_number : (lang : Dialect) (e : Expression) (u : Store) (z : ℤ) → value_of lang e u ≡ Ok (Int z) → number_of lang e u ≡ Ok z
 as_number lang e u z h = ap numbered h
 
+-- the texts of extents have numbers, where the trips are small
+pub texts_have_numbers : (symbols : List (List ℕ)) (us es : List Trip) → extents_of (length symbols) us ≡ Some es → AllSmall us → (v : ℕ → ℤ) → AreOf64Bits v → (e : Expression)
+    → In e (extent_texts symbols es) → (z : ℤ) × HasNumberBy symbols v e z
+texts_have_numbers symbols us es e small v sized a j =
+    let kept = kept_of (length symbols) us es e in
+    let far = run symbols v sized us [] es [] kept.sizes [] small (record { sizes = tt; many = refl; stand = λ F G bound small. tt }) (let few = kept.few in omega (arith, few)) tt refl refl
+    (λ lang u have. tt) kept.extents_are kept.sizes_are in
+    let r = pick symbols v (extent_texts symbols es) (numbers_under (length symbols) v [] es) a far.many j in
+    (r.number, λ lang u have. as_number lang a u r.number (r.value lang u (far.values lang u have)))
+
 pub extent_has_value : (es : List Declaration) (around : List (List ℕ)) (deepest : ℕ) (m : Nest) (h : IsPrepared es around deepest m) (may : MayBeExpanded es m) (p : Private) → In p (private_scalars m)
     → (v : ℕ → ℤ) → AreOf64Bits v → (e : Expression) → In e (extent_texts m.symbols p.extents) → (z : ℤ) × HasNumberBy m.symbols v e z
 extent_has_value es around deepest m h may p i v sized e j =
     let b = begins es around deepest m h may p i in
-    let kept = kept_of (length m.symbols) (trips_of p.loops) p.extents (ap (λ (ls : List RoundLoop). extents_of (length m.symbols) (trips_of ls)) b.2.loops ∙ b.2.extents) in
-    let far = run m.symbols v sized (trips_of p.loops) [] p.extents [] kept.sizes [] (trips_small es around deepest m h may p i) (record { sizes = tt; many = refl; stand = λ F G bound small. tt }) (let few = kept.few in omega (arith, few)) tt refl refl
-    (λ lang u have. tt) kept.extents_are kept.sizes_are in
-    let r = pick m.symbols v (extent_texts m.symbols p.extents) (numbers_under (length m.symbols) v [] p.extents) e far.many j in
-    (r.number, λ lang u have. as_number lang e u r.number (r.value lang u (far.values lang u have)))
+    texts_have_numbers m.symbols (trips_of p.loops) p.extents (ap (λ (ls : List RoundLoop). extents_of (length m.symbols) (trips_of ls)) b.2.loops ∙ b.2.extents)
+    (trips_small es around deepest m h may p i) v sized e j

@@ -54,7 +54,7 @@ module _ (es : List Declaration) where
   over_first y ys h k x (inl e) = subst IsDeclared (sym e) h
   over_first y ys h k x (inr i) = k x i
 
-  over_both : (xs ys : List (List ℕ)) → Over xs → Over ys → Over (xs ++ ys)
+  pub over_both : (xs ys : List (List ℕ)) → Over xs → Over ys → Over (xs ++ ys)
   over_both xs ys h k x i = by (In-append x xs ys i)
     where
       by : In x xs ⊎ In x ys → IsDeclared x
@@ -64,7 +64,7 @@ module _ (es : List Declaration) where
   -- ---- expressions
 
   mutual
-    in_kind : (e : Expression) (k : Kind) → HasKind es e k → Over (names_in e)
+    pub in_kind : (e : Expression) (k : Kind) → HasKind es e k → Over (names_in e)
     in_kind (Number n) k h = over_none
     in_kind (Logic b) k h = over_none
     in_kind (Named y ss) k h = over_first y (names_in_subscripts ss) (is_there (declared es y) _ h.0) (in_selectors ss h.1)

@@ -65,7 +65,7 @@ module _ (Asked : List Loop → Loop → Type 0) (each : List Loop → ℕ → G
     mapped_in_has ls k (part p ps) h =
         joined_in ls (mapped each ls k p) (mapped_in each ls (k + count_of p) ps) (mapped_has ls k p h.0) (mapped_in_has ls (k + count_of p) ps h.1)
 
-  body_has : (p : Part) → IsLoop p → EachLoop Asked [] p → EachLoop Asked [] (mapped_body each p)
+  pub body_has : (p : Part) → IsLoop p → EachLoop Asked [] p → EachLoop Asked [] (mapped_body each p)
   body_has (Turns l ps) loop h = (h.0, mapped_in_has (l ∷ []) 0 ps h.1)
   body_has (Run g) loop h = absurd loop
   body_has (Choice bs ps) loop h = absurd loop

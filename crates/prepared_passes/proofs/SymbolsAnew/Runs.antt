@@ -158,7 +158,7 @@ same_runs n m b s =
     ∙ (ap (λ (c : Block). run_of n.line m.body c s) b.after
     ∙ ap (λ (c : Statement). does_all fortran77 None (statement c n.after) s) (b.runs n.line))
 
-texts_run_alike : (m : Nest) (s : State) → IsPlain m.body → HoldsSized s.store
+pub texts_run_alike : (m : Nest) (s : State) → IsPlain m.body → HoldsSized s.store
     → IsSound (run_of m.line m.body m.after s).way
     → run_of (with_texts m).line (with_texts m).body (with_texts m).after s ≡ run_of m.line m.body m.after s
 texts_run_alike m s h z e =

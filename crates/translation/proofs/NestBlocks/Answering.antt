@@ -18,34 +18,34 @@ use Rattle.dependence_graph.specs.nest_graph.Graph.{IsGraphOf}
 use Rattle.nest.specs.Plain.{Nest}
 use Rattle.listing.proofs.programs.Sources.{prepared_for, ready}
 use Rattle.listing.proofs.programs.Stages.{made_by}
-use Rattle.listing.specs.programs.Listing.{kept}
+use Rattle.listing.specs.programs.Listing.{counts_of, kept}
+use Rattle.listing.specs.declared.programs.counts.Counts.{Counts}
 use Rattle.listing.specs.programs.Passed.{IsPassed, IsPassedAs}
 use Rattle.listing.specs.declared.programs.nests.Passed.{Passed}
 use Rattle.listing.specs.programs.Sources.{IsNestOfSource}
 use Rattle.listing.specs.programs.Stages.{IsLastGraph}
 use Rattle.listing.specs.programs.Testable.{AreTestsOf}
-use Rattle.scalar_expand.specs.Expanded.{expanded}
 use Rattle.translation.specs.made_declarations.Declaring.{declaration_of_made, declaration_of_name}
 use Rattle.translation.specs.declared.nest_blocks.loop_answers.Answer.{Answer as Answer'}
 use Rattle.translation.specs.nest_blocks.LoopAnswers.{IsAnswerTo, Kept, Translated}
 
 -- ---- a nest that passes made
 
-pub may_be_emitted : (masks : ℕ) (n m : Nest) (g : Graph) → IsNestOfSource n → IsPassedAs masks n m → IsGraphOf m g
+pub may_be_emitted : (counts : Counts) (n m : Nest) (g : Graph) → IsNestOfSource n → IsPassedAs counts n m → IsGraphOf m g
     → MayBeEmitted m g
-may_be_emitted masks n m g h passed graph =
-    let made = made_by masks n m passed in
-    let least : length m.symbols ≤ 1000 = (prepared_for h.program masks n m h.profile h.among made).parts.few in
+may_be_emitted counts n m g h passed graph =
+    let made = made_by counts n m passed in
+    let least : length m.symbols ≤ 1000 = (prepared_for h.program counts n m h.profile h.among made).parts.few in
     let few : length m.symbols < 2 ^ 16 = omega (arith, least) in
-    ready_nests_may_be_emitted m g (ready masks n m h made) few graph
+    ready_nests_may_be_emitted m g (ready counts n m h made) few graph
 
 -- ---- answers
 
-pub translated : (masks : ℕ) (n m : Nest) (g : Graph) (holds : List Hold) (lines : List (List ℕ)) (b : Block)
-    (ds : List Declaration) (next : ℕ) (passed : IsPassedAs masks n m) → IsLastGraph (expanded passed.named) passed.graph g
+pub translated : (counts : Counts) (n m : Nest) (g : Graph) (holds : List Hold) (lines : List (List ℕ)) (b : Block)
+    (ds : List Declaration) (next : Counts) (passed : IsPassedAs counts n m) → IsLastGraph passed.split passed.graph g
     → AreTestsOf n.number m g holds lines → IsEmission m g holds b
-    → ds ≡ map declaration_of_made m.made → next ≡ m.masks → IsAnswerTo masks (InNest n) lines (Some b) ds next
-translated masks n m g holds lines b ds next passed kept tests e declared count =
+    → ds ≡ map declaration_of_made m.made → next ≡ counts_of m → IsAnswerTo counts (InNest n) lines (Some b) ds next
+translated counts n m g holds lines b ds next passed kept tests e declared count =
     let same = subst (λ (hs : List Hold). IsEmission m g hs b) tests.holds_are e in
     record {
       answer = Translated n m g same.pieces;
@@ -56,13 +56,13 @@ translated masks n m g holds lines b ds next passed kept tests e declared count 
       lines_are = tests.lines_are;
       block_is = ap Some same.block;
       made_are = declared;
-      masks_are = count;
+      counts_are = count;
     }
 
-pub kept_as : (masks line : ℕ) (r : Reason) (lines : List (List ℕ)) (block : Option Block) (ds : List Declaration)
+pub kept_as : (counts : Counts) (line : ℕ) (r : Reason) (lines : List (List ℕ)) (block : Option Block) (ds : List Declaration)
     → lines ≡ lines_of_entries (kept line r) → block ≡ None → ds ≡ []
-    → IsAnswerTo masks (found.Kept line r) lines block ds masks
-kept_as masks line r lines block ds is none declared = record {
+    → IsAnswerTo counts (found.Kept line r) lines block ds counts
+kept_as counts line r lines block ds is none declared = record {
   answer = Kept line r;
   right = tt;
   found = refl;
@@ -71,14 +71,14 @@ kept_as masks line r lines block ds is none declared = record {
   lines_are = is;
   block_is = none;
   made_are = declared;
-  masks_are = refl;
+  counts_are = refl;
 }
 
--- what is answered by each count of masks is so by one
-pub answered : {E : Type 0} (r : Result Answer' E) (masks : ℕ) (n : Nest) (p : Passed) → IsPassed masks n p
-    → IfOk r (λ a. (k : ℕ) (m : Nest) → IsPassed k m p
-    → IsAnswerTo k (InNest m) (map text_of a.lines) (option_map block_of a.block) (map declaration_of_name a.made) a.masks)
-    → IfOk r (λ a. IsAnswerTo masks (InNest n) (map text_of a.lines) (option_map block_of a.block)
-    (map declaration_of_name a.made) a.masks)
-answered (Ok a) masks n p is h = h masks n is
-answered (Err e) masks n p is h = tt
+-- what is answered by all counts is so by one
+pub answered : {E : Type 0} (r : Result Answer' E) (counts : Counts) (n : Nest) (p : Passed) → IsPassed counts n p
+    → IfOk r (λ a. (k : Counts) (m : Nest) → IsPassed k m p
+    → IsAnswerTo k (InNest m) (map text_of a.lines) (option_map block_of a.block) (map declaration_of_name a.made) a.counts)
+    → IfOk r (λ a. IsAnswerTo counts (InNest n) (map text_of a.lines) (option_map block_of a.block)
+    (map declaration_of_name a.made) a.counts)
+answered (Ok a) counts n p is h = h counts n is
+answered (Err e) counts n p is h = tt

@@ -19,8 +19,10 @@ use Rattle.tree.specs.View.{block_of}
 use Rattle.tree.specs.declared.programs.Line.{Line}
 use Rattle.tree.specs.declared.stmts.Block.{Block as Tree}
 use Rattle.listing.proofs.graphs.LoopLines.{entries-append}
+use Rattle.listing.specs.declared.programs.counts.Counts.{Counts}
 use Rattle.listing.specs.graphs.Lines.{Entry}
 use Rattle.listing.specs.graphs.Listing.{lines_of_entries}
+use Rattle.listing.specs.programs.Listing.{no_counts}
 use Rattle.translation.proofs.LoopNumbers.Nests.{loop_numbers_count, nests_are_numbered}
 use Rattle.translation.specs.loop_numbers.Numbers.{ComesBefore, nests_among}
 use Rattle.translation.specs.loop_placing.Placing.{blocks_of}
@@ -32,24 +34,24 @@ use Rattle.translation.proofs.NestBlocks.Placed.{IsBehind, placed_more, placed_n
 use Rattle.translation.specs.made_declarations.Declaring.{declaration_of_name}
 use Rattle.translation.specs.declared.made_declarations.names.MadeName.{MadeName}
 use Rattle.translation.specs.nest_blocks.LoopAnswers.{Answer, AreEntriesBy, IsAnswerTo, IsRight, found_by, made_by}
-use Rattle.translation.specs.nest_blocks.LoopAnswers.{masks_by}
+use Rattle.translation.specs.nest_blocks.LoopAnswers.{counts_by}
 
--- ---- masks
+-- ---- counts
 
--- how many masks are made behind these answers
-abbrev masks_after : ℕ → List Answer → ℕ
-masks_after masks [] = masks
-masks_after masks (a ∷ answers) = masks_after (masks_by masks a) answers
+-- what is made behind these answers
+abbrev counts_after : Counts → List Answer → Counts
+counts_after counts [] = counts
+counts_after counts (a ∷ answers) = counts_after (counts_by counts a) answers
 
-right_too : (masks : ℕ) (answers : List Answer) (a : Answer) → AreRight masks answers → IsRight (masks_after masks answers) a
-    → AreRight masks (answers ++ a ∷ [])
-right_too masks [] a h own = (own, tt)
-right_too masks (x ∷ answers) a h own = (h.0, right_too (masks_by masks x) answers a h.1 own)
+right_too : (counts : Counts) (answers : List Answer) (a : Answer) → AreRight counts answers → IsRight (counts_after counts answers) a
+    → AreRight counts (answers ++ a ∷ [])
+right_too counts [] a h own = (own, tt)
+right_too counts (x ∷ answers) a h own = (h.0, right_too (counts_by counts x) answers a h.1 own)
 
-masks_too : (masks : ℕ) (answers : List Answer) (a : Answer)
-    → masks_after masks (answers ++ a ∷ []) ≡ masks_by (masks_after masks answers) a
-masks_too masks [] a = refl
-masks_too masks (x ∷ answers) a = masks_too (masks_by masks x) answers a
+counts_too : (counts : Counts) (answers : List Answer) (a : Answer)
+    → counts_after counts (answers ++ a ∷ []) ≡ counts_by (counts_after counts answers) a
+counts_too counts [] a = refl
+counts_too counts (x ∷ answers) a = counts_too (counts_by counts x) answers a
 
 -- ---- entries
 
@@ -66,20 +68,20 @@ listed_too (x ∷ answers) a es last h own = (
 
 -- ---- answers
 
--- answers to these, what they list, what they put in the place of loops, what passes made, and how many masks
+-- answers to these, what they list, what they put in the place of loops, what passes made, and how much of it
 pub record AreAnswersTo (fs : List Found) (lines : List (List ℕ)) (blocks : List (Option Block)) (made : List Declaration)
-    (masks : ℕ) : Type 0 where
+    (counts : Counts) : Type 0 where
   pub answers : List Answer
-  pub right : AreRight 0 answers
+  pub right : AreRight no_counts answers
   pub found : map found_by answers ≡ fs
   pub entries : List Entry
   pub listed : AreAllEntriesBy answers entries
   pub lines_are : lines ≡ lines_of_entries entries
   pub placed : ArePlaced answers blocks
   pub made_are : made ≡ flat_map made_by answers
-  pub masks_are : masks ≡ masks_after 0 answers
+  pub counts_are : counts ≡ counts_after no_counts answers
 
-answers_none : AreAnswersTo [] [] [] [] 0
+answers_none : AreAnswersTo [] [] [] [] no_counts
 answers_none = record {
   answers = [];
   right = tt;
@@ -89,16 +91,16 @@ answers_none = record {
   lines_are = refl;
   placed = placed_none;
   made_are = refl;
-  masks_are = refl;
+  counts_are = refl;
 }
 
 answers_more : (fs : List Found) (f : Found) (old more new : List (List ℕ)) (block : Option Block)
-    (before after : List (Option Block)) (had own have : List Declaration) (masks next : ℕ)
-    → AreAnswersTo fs old before had masks → IsAnswerTo masks f more block own next → IsBehind fs f → new ≡ old ++ more
+    (before after : List (Option Block)) (had own have : List Declaration) (counts next : Counts)
+    → AreAnswersTo fs old before had counts → IsAnswerTo counts f more block own next → IsBehind fs f → new ≡ old ++ more
     → IsPutFor f block before after → have ≡ had ++ own → AreAnswersTo (fs ++ f ∷ []) new after have next
-answers_more fs f old more new block before after had own have masks next h a behind lines put made = record {
+answers_more fs f old more new block before after had own have counts next h a behind lines put made = record {
   answers = h.answers ++ a.answer ∷ [];
-  right = right_too 0 h.answers a.answer h.right (subst (λ (k : ℕ). IsRight k a.answer) h.masks_are a.right);
+  right = right_too no_counts h.answers a.answer h.right (subst (λ (k : Counts). IsRight k a.answer) h.counts_are a.right);
   found =
       map-append found_by h.answers (a.answer ∷ []) ∙ ap (λ gs. gs ++ found_by a.answer ∷ []) h.found
       ∙ ap (λ g. fs ++ g ∷ []) a.found;
@@ -114,8 +116,8 @@ answers_more fs f old more new block before after had own have masks next h a be
       made ∙ ap (λ ds. ds ++ own) h.made_are ∙ ap (λ ds. flat_map made_by h.answers ++ ds) a.made_are
       ∙ ap (λ ds. flat_map made_by h.answers ++ ds) (sym (append-nil (made_by a.answer)))
       ∙ sym (flat_map-append made_by h.answers (a.answer ∷ []));
-  masks_are =
-      a.masks_are ∙ ap (λ (k : ℕ). masks_by k a.answer) h.masks_are ∙ sym (masks_too 0 h.answers a.answer);
+  counts_are =
+      a.counts_are ∙ ap (λ (k : Counts). counts_by k a.answer) h.counts_are ∙ sym (counts_too no_counts h.answers a.answer);
 }
 
 -- ---- numbers of nests
@@ -168,26 +170,26 @@ declared_as made = map declaration_of_name made
 
 pub found_none : (items : List Found') (lines : List Line) (blocks : List (Option Tree)) (made : List MadeName)
     → lines ≡ [] → blocks ≡ [] → made ≡ []
-    → AreAnswersTo (map found_of (take 0 items)) (map text_of lines) (blocks_of blocks) (declared_as made) 0
+    → AreAnswersTo (map found_of (take 0 items)) (map text_of lines) (blocks_of blocks) (declared_as made) no_counts
 found_none items lines blocks made l b d =
-    subst (λ (ds : List MadeName). AreAnswersTo [] (map text_of lines) (blocks_of blocks) (declared_as ds) 0) (sym d)
-    (subst (λ (bs : List (Option Tree)). AreAnswersTo [] (map text_of lines) (blocks_of bs) [] 0) (sym b)
-    (subst (λ (ls : List Line). AreAnswersTo [] (map text_of ls) [] [] 0) (sym l) answers_none))
+    subst (λ (ds : List MadeName). AreAnswersTo [] (map text_of lines) (blocks_of blocks) (declared_as ds) no_counts) (sym d)
+    (subst (λ (bs : List (Option Tree)). AreAnswersTo [] (map text_of lines) (blocks_of bs) [] no_counts) (sym b)
+    (subst (λ (ls : List Line). AreAnswersTo [] (map text_of ls) [] [] no_counts) (sym l) answers_none))
 
 module _ (p : Program) (items : List Found') (is : map found_of items ≡ found_in p) where
   pub found_more : (i : ℕ) (x : Found') (old more new : List Line) (block : Option Tree)
-      (before after : List (Option Tree)) (had own have : List MadeName) (masks next : ℕ) → IsProgram77 fortran77 p
+      (before after : List (Option Tree)) (had own have : List MadeName) (counts next : Counts) → IsProgram77 fortran77 p
       → i < length items → x ≡ get_or items i x
-      → AreAnswersTo (map found_of (take i items)) (map text_of old) (blocks_of before) (declared_as had) masks
-      → IsAnswerTo masks (found_of x) (map text_of more) (option_map block_of block) (declared_as own) next
+      → AreAnswersTo (map found_of (take i items)) (map text_of old) (blocks_of before) (declared_as had) counts
+      → IsAnswerTo counts (found_of x) (map text_of more) (option_map block_of block) (declared_as own) next
       → new ≡ old ++ more
       → IsPutFor (found_of x) (option_map block_of block) (blocks_of before) (blocks_of after) → have ≡ had ++ own
       → AreAnswersTo (map found_of (take (i + 1) items)) (map text_of new) (blocks_of after) (declared_as have) next
-  found_more i x old more new block before after had own have masks next program within at h answer lines put made =
+  found_more i x old more new block before after had own have counts next program within at h answer lines put made =
       subst (λ (fs : List Found). AreAnswersTo fs (map text_of new) (blocks_of after) (declared_as have) next) (sym one)
       (answers_more (map found_of (take i items)) (found_of x) (map text_of old) (map text_of more) (map text_of new)
       (option_map block_of block) (blocks_of before) (blocks_of after) (declared_as had) (declared_as own)
-      (declared_as have) masks next h answer
+      (declared_as have) counts next h answer
       (behind p (map found_of (take i items)) (map found_of (drop (i + 1) items)) (found_of x) program whole)
       (ap (map text_of) lines ∙ map-append text_of old more) put
       (ap (map declaration_of_name) made ∙ map-append declaration_of_name had own))
@@ -206,11 +208,11 @@ module _ (p : Program) (items : List Found') (is : map found_of items ≡ found_
       whole = sym (map-append found_of (take i items) (x ∷ drop (i + 1) items)) ∙ ap (map found_of) parts ∙ is
 
   pub found_all : (i : ℕ) (lines given : List Line) (blocks stand : List (Option Tree)) (made have : List MadeName)
-      (masks : ℕ) → length items ≤ i
-      → AreAnswersTo (map found_of (take i items)) (map text_of lines) (blocks_of blocks) (declared_as made) masks
+      (counts : Counts) → length items ≤ i
+      → AreAnswersTo (map found_of (take i items)) (map text_of lines) (blocks_of blocks) (declared_as made) counts
       → given ≡ lines → stand ≡ blocks → have ≡ made
       → AreAnswersFor p (map text_of given) (blocks_of stand) (declared_as have)
-  found_all i lines given blocks stand made have masks h k l b d =
+  found_all i lines given blocks stand made have counts h k l b d =
       subst (λ (ds : List MadeName). AreAnswersFor p (map text_of given) (blocks_of stand) (declared_as ds)) (sym d)
       (subst (λ (bs : List (Option Tree)). AreAnswersFor p (map text_of given) (blocks_of bs) (declared_as made)) (sym b)
       (subst (λ (ls : List Line). AreAnswersFor p (map text_of ls) (blocks_of blocks) (declared_as made)) (sym l) (record {

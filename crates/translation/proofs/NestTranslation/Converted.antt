@@ -44,6 +44,7 @@ use Rattle.tree.specs.Plain.{Block, Declaration, Expression, Program, statement}
 use Rattle.tree.specs.declared.ops.Kind.TheVariants.{Logical}
 use Rattle.tree.specs.declared.ops.Value.{Value}
 use Rattle.tree.specs.declared.ops.Value.TheVariants.{Int, Truth}
+use Rattle.listing.specs.declared.programs.counts.Counts.{Counts}
 use Rattle.listing.specs.programs.Passed.{IsPassedAs}
 use Rattle.translation.proofs.NestTranslation.Cleaned.{agree_on, alike_then, same_agree}
 use Rattle.translation.proofs.Converting.{same_masks}
@@ -146,11 +147,11 @@ module _ (masks : ℕ) (n : Nest) (v : State) (branching : IsBranching n) (going
 
 -- ---- from the loop
 
-module _ (p b : Program) (masks : ℕ) (n m : Nest) (found : IsFoundNest p n) (program : IsProgram77 fortran77 p)
-    (is_nest : Contains (found_in p) (InNest n)) (passed : IsPassedAs masks n m)
+module _ (p b : Program) (counts : Counts) (n m : Nest) (found : IsFoundNest p n) (program : IsProgram77 fortran77 p)
+    (is_nest : Contains (found_in p) (InNest n)) (passed : IsPassedAs counts n m)
     (add : AddMadeNames p.declarations b.declarations)
     (counters : All (λ (l : Loop). IsSomeAnd (declared b.declarations l.variable) IsCounter) (nest_loops passed.normal))
-    (marks : AreMasksDeclared b masks passed.converted.masks) where
+    (marks : AreMasksDeclared b counts.masks passed.converted.masks) where
   abbrev k : Nest
   k = passed.converted
 
@@ -159,7 +160,7 @@ module _ (p b : Program) (masks : ℕ) (n m : Nest) (found : IsFoundNest p n) (p
 
   branching_and_prepared : IsBranching passed.normal × IsPrepared b.declarations stands.round.variables normal_depth k
   branching_and_prepared =
-      passed_nest_is_converted p masks n m stands.round found program is_nest passed stands.named stands.is b add
+      passed_nest_is_converted p counts n m stands.round found program is_nest passed stands.named stands.is b add
       counters marks
 
   branching : IsBranching passed.normal
@@ -187,11 +188,11 @@ module _ (p b : Program) (masks : ℕ) (n m : Nest) (found : IsFoundNest p n) (p
     second_goes : second.way ≡ Going
     second_goes = ap (λ (x : State). x.way) one.rest ∙ one.going
 
-    two : Led (AreBesideMasks masks passed.converted.masks) second third
+    two : Led (AreBesideMasks counts.masks passed.converted.masks) second third
     two =
-        masks_lead masks passed.normal v branching (ap (λ (x : State). x.way) start.rest ∙ start.going)
-        (subst IsSound (sym second_goes) tt) passed.converted passed.is_converted (few_converted masks n m passed)
-        (masks_beside b masks passed.converted.masks v marks holds)
+        masks_lead counts.masks passed.normal v branching (ap (λ (x : State). x.way) start.rest ∙ start.going)
+        (subst IsSound (sym second_goes) tt) passed.converted passed.is_converted (few_converted counts n m passed)
+        (masks_beside b counts.masks passed.converted.masks v marks holds)
 
     goes_on : GoOnAlike p first third
     goes_on = record {
@@ -233,16 +234,16 @@ module _ (p b : Program) (masks : ℕ) (n m : Nest) (found : IsFoundNest p n) (p
 
 -- from moments that agree on p, where b declares the counters, the masks and the names of ranges, and where the loop
 -- meets no fault
-pub unexpanded_nest_goes_on_as_loop : (p b : Program) (masks : ℕ) (n m : Nest) (found : IsFoundNest p n) (s v : State)
-    → IsProgram77 fortran77 p → Contains (found_in p) (InNest n) → (passed : IsPassedAs masks n m)
+pub unexpanded_nest_goes_on_as_loop : (p b : Program) (counts : Counts) (n m : Nest) (found : IsFoundNest p n) (s v : State)
+    → IsProgram77 fortran77 p → Contains (found_in p) (InNest n) → (passed : IsPassedAs counts n m)
     → AddMadeNames p.declarations b.declarations
     → All (λ (l : Loop). IsSomeAnd (declared b.declarations l.variable) IsCounter) (nest_loops passed.normal)
-    → AreMasksDeclared b masks passed.named.masks
+    → AreMasksDeclared b counts.masks passed.named.masks
     → GoesOnAs p b (with_symbols_found passed.normal passed.converted) passed.named → HoldsProgram fortran77 b v.store → HoldsSized v.store
     → GoOnAlike p s v
     → IsSound (does fortran77 None (as_statement found.loop.loop.loop) s).way
     → GoOnAlike p (does fortran77 None (as_statement found.loop.loop.loop) s)
     (does_all fortran77 None (loops_then_after passed.named) v)
-unexpanded_nest_goes_on_as_loop p b masks n m found s v program is_nest passed add counters marks on holds sized start sound =
-    goes_on_named p b masks n m found program is_nest passed add counters
-    (subst (AreMasksDeclared b masks) (same_masks masks n m passed) marks) s v holds sized start sound on
+unexpanded_nest_goes_on_as_loop p b counts n m found s v program is_nest passed add counters marks on holds sized start sound =
+    goes_on_named p b counts n m found program is_nest passed add counters
+    (subst (AreMasksDeclared b counts.masks) (same_masks counts n m passed) marks) s v holds sized start sound on

@@ -1,9 +1,10 @@
 -- What the passes make of a nest that was found is prepared.
-use Rattle.std.proofs.Common.{◌≡◌, ◌⊎◌, inl, inr, refl, sym, ap, ◌∙◌, subst, ℕ, ◌^◌, ◌<◌, ◌≤◌, Bool, true, false, cond}
+use Rattle.std.proofs.Common.{◌≡◌, ◌⊎◌, inl, inr, refl, sym, ap, ◌∙◌, subst, ℕ, ◌+◌, ◌^◌, ◌<◌, ◌≤◌, Bool, true, false, cond}
 use Rattle.std.proofs.Common.{List, [], ◌∷◌, Option, Some, None, get_or, Contains, arith}
 use Rattle.std.specs.Option.{IsSomeAnd, option_map}
-use Rattle.std.specs.Prelude.{All}
-use Rattle.std.proofs.lemmas.List.Elements.{All-from_recursion, Contains-get_or}
+use Rattle.std.specs.Prelude.{All, unwrap_or}
+use Rattle.std.proofs.lemmas.List.Elements.{All-from_recursion, Contains-append_left, Contains-append_right}
+use Rattle.std.proofs.lemmas.List.Elements.{Contains-get_or}
 use Rattle.prepared_passes.proofs.ArrangedNests.Again.{arranged_nest_is_prepared}
 use Rattle.prepared_passes.proofs.ConvertedNests.Flat.{mask_counter}
 use Rattle.prepared_passes.proofs.ConvertedNests.FoundConverted.{found_nest_is_converted}
@@ -36,13 +37,23 @@ use Rattle.pass_laws.specs.prepared_nests.Laws.{normal_depth}
 use Rattle.pass_laws.specs.prepared_nests.Nests.{IsPrepared}
 use Rattle.tree.specs.Names.{IsSourceName}
 use Rattle.tree.specs.Plain.{Block, Declaration, Program}
-use Rattle.interchange.specs.Arranged.{vectors_of}
 use Rattle.listing.proofs.programs.Arranging.{last_depth}
 use Rattle.listing.proofs.programs.Naming.{named_from}
 use Rattle.listing.proofs.programs.Stages.{few_so, made_by, named_so}
+use Rattle.listing.proofs.arrays.Counted.{nothing_deeper, prepared_counted}
+use Rattle.listing.proofs.programs.Declared.{may_be_split}
+use Rattle.listing.proofs.programs.Sources.{top_made}
+use Rattle.listing.specs.declared.programs.counts.Counts.{Counts}
 use Rattle.listing.specs.programs.Passed.{IsPassedAs}
+use Rattle.listing.specs.programs.Stages.{with_copies}
+use Rattle.node_splitting.specs.Split.{made_arrays, with_nodes_split}
+use Rattle.pass_laws.proofs.PreparedNests.Lists.{In-Contains}
+use Rattle.prepared_passes.proofs.ExpandedNests.Sameness.{few_before}
+use Rattle.prepared_passes.proofs.SplitNests.Prepared.{split_nest_is_prepared}
+use Rattle.prepared_passes.specs.splitting.Laws.{split_rise}
+use Rattle.prepared_passes.specs.splitting.Splits.{MayBeSplit, nodes_split}
 use Rattle.scalar_expand.specs.Expanded.{expanded}
-use Rattle.translation.proofs.Converting.{anew_from, converted_from, passed_from, same_masks}
+use Rattle.translation.proofs.Converting.{anew_from, converted_from, may_of, passed_from, same_masks}
 use Rattle.translation.proofs.LoopNumbers.Nests.{nest_number}
 use Rattle.translation.proofs.MadeDeclarations.Made.{made_names}
 use Rattle.translation.proofs.ProgramTranslation.Counted.{IsNumbered, counter_declarations, each_of, of_counter}
@@ -69,14 +80,14 @@ abbrev pub AreMasksDeclared : Program → ℕ → ℕ → Type 0
 AreMasksDeclared r k e = (i : ℕ) → k ≤ i → i < e → IsSomeAnd (declared r.declarations (mask_name i)) IsMask
 
 -- as many as passes have made by then
-pub few_masks : (masks : ℕ) (n m : Nest) (passed : IsPassedAs masks n m) → passed.named.masks ≤ 2 ^ 32
-few_masks masks n m passed =
-    subst (λ (i : ℕ). i ≤ 2 ^ 32) (passed_from masks n m passed).masks
+pub few_masks : (counts : Counts) (n m : Nest) (passed : IsPassedAs counts n m) → passed.named.masks ≤ 2 ^ 32
+few_masks counts n m passed =
+    subst (λ (i : ℕ). i ≤ 2 ^ 32) (passed_from counts n m passed).masks
     (at_most m.masks passed.counted)
 
-pub few_converted : (masks : ℕ) (n m : Nest) (passed : IsPassedAs masks n m) → passed.converted.masks ≤ 2 ^ 32
-few_converted masks n m passed =
-    subst (λ (i : ℕ). i ≤ 2 ^ 32) (same_masks masks n m passed) (few_masks masks n m passed)
+pub few_converted : (counts : Counts) (n m : Nest) (passed : IsPassedAs counts n m) → passed.converted.masks ≤ 2 ^ 32
+few_converted counts n m passed =
+    subst (λ (i : ℕ). i ≤ 2 ^ 32) (same_masks counts n m passed) (few_masks counts n m passed)
 
 -- ---- the names of p and all counters: no mask is among them
 
@@ -142,19 +153,19 @@ module _ (n m : Nest) where
       by true g = from_loops g
       by false g = let no : ⊥ = cc in absurd no
 
-pub same_declarations : (p : Program) (masks : ℕ) (n m : Nest) → IsFoundNest p n → IsPassedAs masks n m
+pub same_declarations : (p : Program) (counts : Counts) (n m : Nest) → IsFoundNest p n → IsPassedAs counts n m
     → m.declarations ≡ p.declarations
-same_declarations p masks n m found passed =
-    (passed_from masks n m passed).declarations
+same_declarations p counts n m found passed =
+    (passed_from counts n m passed).declarations
     ∙ (named_from passed.anew passed.substituted passed.named passed.is_substituted passed.is_named).declarations
     ∙ (anew_from passed.normal passed.converted passed.anew passed.is_anew).declarations
-    ∙ (converted_from masks passed.normal passed.converted passed.is_converted).declarations
+    ∙ (converted_from counts.masks passed.normal passed.converted passed.is_converted).declarations
     ∙ (normal_declarations n passed.normal passed.made ∙ ap (λ (k : Nest). k.declarations) found.is)
 
 -- ---- the nest
 
-module _ (p : Program) (masks : ℕ) (n m : Nest) (w : Surroundings) (found : IsFoundNest p n)
-    (program : IsProgram77 fortran77 p) (is_nest : Contains (found_in p) (InNest n)) (passed : IsPassedAs masks n m)
+module _ (p : Program) (counts : Counts) (n m : Nest) (w : Surroundings) (found : IsFoundNest p n)
+    (program : IsProgram77 fortran77 p) (is_nest : Contains (found_in p) (InNest n)) (passed : IsPassedAs counts n m)
     (named : AreSourceNames w.variables) (is : IsStatement p.declarations (as_statement found.loop.loop.loop) w) where
   small : n.number < 2 ^ 32
   small =
@@ -166,11 +177,11 @@ module _ (p : Program) (masks : ℕ) (n m : Nest) (w : Surroundings) (found : Is
   -- with masks is prepared
   pub passed_nest_is_converted : (b : Program) → AddMadeNames p.declarations b.declarations
       → All (λ (l : Loop). IsSomeAnd (declared b.declarations l.variable) IsCounter) (nest_loops passed.normal)
-      → AreMasksDeclared b masks passed.converted.masks
+      → AreMasksDeclared b counts.masks passed.converted.masks
       → IsBranching passed.normal × IsPrepared b.declarations w.variables normal_depth passed.converted
   passed_nest_is_converted b add counters marks =
-      found_nest_is_converted p n passed.normal passed.converted (bare p program) b.declarations masks w found program
-      is_nest passed.made passed.is_converted (few_converted masks n m passed) (with_counters p program).more
+      found_nest_is_converted p n passed.normal passed.converted (bare p program) b.declarations counts.masks w found program
+      is_nest passed.made passed.is_converted (few_converted counts n m passed) (with_counters p program).more
       (no_masks p program) (counted p program n passed.normal is_nest passed.made) add marks counters small
       (all_source w.variables named) is
 
@@ -178,14 +189,55 @@ module _ (p : Program) (masks : ℕ) (n m : Nest) (w : Surroundings) (found : Is
   module _ (r : Program) (add : AddMadeNames p.declarations r.declarations)
       (counters : All (λ (l : Loop). IsSomeAnd (declared r.declarations l.variable) IsCounter) (nest_loops passed.normal))
       (made : AreMadeDeclared r m) where
-    pub passed_nest_is_in_places : IsFoundInPlaces p r passed.normal passed.converted passed.named masks w.variables
+    abbrev with_arrays : Nest
+    with_arrays = with_copies counts.copies (expanded passed.named)
+
+    pub passed_nest_is_in_places : IsFoundInPlaces p r passed.normal passed.converted passed.named counts.masks w.variables
     passed_nest_is_in_places =
-        found_nest_is_expanded_in_places p r n passed.normal passed.converted passed.named masks w found program is_nest
-        passed.made passed.is_converted (named_so masks n m (made_by masks n m passed)) (few_so masks n m (made_by masks n m passed)) (few_masks masks n m passed) add counters
-        (λ a c. made a (subst (λ (ms : List Made). Contains ms a) (sym (passed_from masks n m passed).made) c)) small (all_source w.variables named) is
+        found_nest_is_expanded_in_places p r n passed.normal passed.converted passed.named counts.masks w found program
+        is_nest passed.made passed.is_converted (named_so counts n m (made_by counts n m passed))
+        (few_so counts n m (made_by counts n m passed)) (few_masks counts n m passed) add counters
+        (λ a c. made a (subst (λ (ms : List Made). Contains ms a) (sym (passed_from counts n m passed).made)
+        (Contains-append_left (expanded passed.named).made
+        (made_arrays (may_of counts n m passed) (with_copies counts.copies (expanded passed.named))) a c)))
+        small (all_source w.variables named) is
+
+    -- reads of it may be copied
+    pub passed_nest_may_be_split : MayBeSplit r.declarations (may_of counts n m passed) (with_copies counts.copies (expanded passed.named))
+    passed_nest_may_be_split =
+        may_be_split p n passed.normal passed.converted passed.named counts.masks counts.copies (may_of counts n m passed)
+        program is_nest passed.made passed.is_converted
+        (few_before passed.normal passed.converted passed.named (named_so counts n m (made_by counts n m passed))
+        (few_masks counts n m passed))
+        (named_so counts n m (made_by counts n m passed)) (few_so counts n m (made_by counts n m passed))
+        (top_made p counts n m program is_nest (made_by counts n m passed)) r.declarations add
+        (λ a i. made a (subst (λ (ms : List Made). Contains ms a) (sym (passed_from counts n m passed).made)
+        (Contains-append_right (expanded passed.named).made
+        (made_arrays (may_of counts n m passed) (with_copies counts.copies (expanded passed.named))) a
+        (In-Contains a (made_arrays (may_of counts n m passed) (with_copies counts.copies (expanded passed.named))) i))))
+
+    pub counted_nest_is_prepared : IsPrepared r.declarations w.variables expanded_depth (with_copies counts.copies (expanded passed.named))
+    counted_nest_is_prepared =
+        prepared_counted r.declarations w.variables expanded_depth (expanded passed.named) counts.copies
+        passed_nest_is_in_places.places.behind
+
+    pub split_nest_is_prepared_there : IsPrepared r.declarations w.variables (expanded_depth + split_rise)
+        (nodes_split (may_of counts n m passed) (with_copies counts.copies (expanded passed.named)))
+    split_nest_is_prepared_there = by (with_nodes_split (may_of counts n m passed) with_arrays) refl
+      where
+        by : (o : Option Nest)
+            → with_nodes_split (may_of counts n m passed) (with_copies counts.copies (expanded passed.named)) ≡ o
+            → IsPrepared r.declarations w.variables (expanded_depth + split_rise)
+            (unwrap_or o (with_copies counts.copies (expanded passed.named)))
+        by None f =
+            nothing_deeper r.declarations w.variables expanded_depth split_rise with_arrays counted_nest_is_prepared
+        by (Some s) f =
+            split_nest_is_prepared r.declarations w.variables expanded_depth (may_of counts n m passed) with_arrays s
+            counted_nest_is_prepared passed_nest_may_be_split (omega arith) f
 
     pub passed_nest_is_prepared : IsPrepared r.declarations w.variables last_depth m
     passed_nest_is_prepared =
-        subst (IsPrepared r.declarations w.variables last_depth) (sym passed.is_arranged)
-        (arranged_nest_is_prepared r.declarations w.variables expanded_depth (expanded passed.named)
-        (vectors_of passed.graph.edges) passed_nest_is_in_places.places.behind)
+        let by_passes = made_by counts n m passed in
+        subst (IsPrepared r.declarations w.variables last_depth) (sym by_passes.is_arranged)
+        (arranged_nest_is_prepared r.declarations w.variables (expanded_depth + split_rise)
+        (nodes_split (may_of counts n m passed) with_arrays) by_passes.vectors split_nest_is_prepared_there)

@@ -1,9 +1,10 @@
 -- What stands in the place of a nest does what the nest's loop does: its arrays come to be, what was emitted goes on as
 -- the last nest does, which goes on as the loop, and the arrays go. The nests before the last one are looked at in a
 -- program in which masks are scalars, at a moment that goes with that at which the arrays are there.
-use Rattle.std.proofs.Common.{◌≡◌, refl, sym, ap, ◌∙◌, subst, ℕ, ℤ, false, List, [], ◌∷◌, Option, Some, None, Contains}
+use Rattle.std.proofs.Common.{◌≡◌, refl, sym, ap, ◌∙◌, subst, ℕ, ◌+◌, ℤ, Bool, false, List, [], ◌∷◌, ◌++◌}
+use Rattle.std.proofs.Common.{Option, Some, None, Contains, arith}
 use Rattle.std.specs.Option.{IsSomeAnd}
-use Rattle.std.specs.Prelude.{All}
+use Rattle.std.specs.Prelude.{All, unwrap_or}
 use Rattle.listing.proofs.arrays.GuardedNames.{arranged_nest_has_guarded_names}
 use Rattle.prepared_passes.proofs.ArrangedNests.GoesOn.{arranged_nest_goes_on_as_nest}
 use Rattle.emission.specs.emission_forms.Written.{HaveGuardedNames}
@@ -20,6 +21,15 @@ use Rattle.find_nests.specs.Loops.{as_statement}
 use Rattle.interchange.specs.Arranged.{arranged, vectors_of}
 use Rattle.linear_forms.specs.Laws.{HoldsSized}
 use Rattle.listing.proofs.programs.Arranging.{arranged_rest, last_depth}
+use Rattle.listing.proofs.programs.Splitting.{split_so}
+use Rattle.listing.specs.programs.Stages.{with_copies}
+use Rattle.dependence_graph.specs.declared.graphs.Place.{Place}
+use Rattle.dependence_graph.specs.nest_graph.Graph.{IsGraphOf}
+use Rattle.node_splitting.specs.Split.{made_arrays as arrays_of_copies, with_nodes_split}
+use Rattle.prepared_passes.proofs.SplitNests.Runs.{split_nest_goes_on_as_nest}
+use Rattle.prepared_passes.proofs.SplitNests.Standing.{no_source}
+use Rattle.prepared_passes.specs.splitting.Laws.{split_rise}
+use Rattle.prepared_passes.specs.splitting.Splits.{IsCopyName, MayBeSplit, nodes_split}
 use Rattle.meaning.proofs.Agreeing.{statements_keep_agreement}
 use Rattle.meaning.specs.Agreement.{MomentsAgree}
 use Rattle.meaning.specs.Reads.{names_in_block}
@@ -47,9 +57,11 @@ use Rattle.nest_order.specs.runs.Nests.{is_variable}
 use Rattle.nest_order.specs.runs.Touched.{nth_of}
 use Rattle.nest_steps.specs.Keeping.{GoOnAlike}
 use Rattle.pass_laws.proofs.NormalFacts.MadeStatements.{counter_long}
-use Rattle.pass_laws.proofs.NormalFacts.Tables.{all_in}
+use Rattle.nest_order.proofs.orders.Lists.{In-left}
+use Rattle.pass_laws.proofs.NormalFacts.Tables.{all_in, each_from}
+use Rattle.pass_laws.proofs.ReadyNests.Lists.{Each-All}
 use Rattle.pass_laws.specs.normal_facts.Laws.{IsCounter}
-use Rattle.pass_laws.specs.prepared_nests.Made.{AreOf64Bits}
+use Rattle.pass_laws.specs.prepared_nests.Made.{AreBoundsBy, AreOf64Bits}
 use Rattle.pass_laws.specs.prepared_nests.Nests.{IsPrepared, IsPreparedSymbol}
 use Rattle.pass_laws.proofs.PreparedRuns.Allocations.{arrays_are_allocated, arrays_are_deallocated}
 use Rattle.pass_laws.proofs.PreparedRuns.Counters.{no_variable}
@@ -71,7 +83,10 @@ use Rattle.translation.proofs.NestTranslation.Bounds.{sequential_keeps_bounds}
 use Rattle.translation.proofs.NestTranslation.Cleaned.{add_both, agree_back, agree_fewer, agree_on, alike_then, cleaned, cleaned_agrees}
 use Rattle.translation.proofs.NestTranslation.Cleaned.{cleaned_holds, cleaned_sized, same_agree}
 use Rattle.translation.proofs.NestTranslation.Converted.{unexpanded_nest_goes_on_as_loop}
-use Rattle.translation.proofs.NestTranslation.Prepared.{passed_nest_is_in_places, passed_nest_is_prepared}
+use Rattle.translation.proofs.Converting.{last_is, may_of}
+use Rattle.translation.proofs.NestTranslation.Prepared.{counted_nest_is_prepared, passed_nest_is_in_places}
+use Rattle.translation.proofs.NestTranslation.Prepared.{passed_nest_is_prepared, passed_nest_may_be_split}
+use Rattle.translation.proofs.NestTranslation.Prepared.{split_nest_is_prepared_there}
 use Rattle.translation.proofs.PlacedProfile.SourceNames.{source_name}
 use Rattle.translation.proofs.ProgramTranslation.Standing.{Stands, loop_stands}
 use Rattle.translation.specs.nest_translation.Laws.{AreMadeDeclared, IsTranslatedNest, TranslationDoesAsLoop}
@@ -158,9 +173,9 @@ module _ (p q r : Program) (n m : Nest) (b : Block) (w : Surroundings) (found : 
   abbrev before : Program
   before = before_expansion r k
 
-  in_places : IsFoundInPlaces p r translated.passed.normal translated.passed.converted k translated.masks around
+  in_places : IsFoundInPlaces p r translated.passed.normal translated.passed.converted k translated.counts.masks around
   in_places =
-      passed_nest_is_in_places p translated.masks n m stands.round found program is_nest translated.passed stands.named
+      passed_nest_is_in_places p translated.counts n m stands.round found program is_nest translated.passed stands.named
       stands.is r all counters made
 
   -- and with arrays for these, before its loops are moved
@@ -170,9 +185,44 @@ module _ (p q r : Program) (n m : Nest) (b : Block) (w : Surroundings) (found : 
   prepared_before : IsPrepared r.declarations around expanded_depth x
   prepared_before = in_places.places.behind
 
+  -- in which reads are copied
+  abbrev may_copy : Place → Bool
+  may_copy = may_of translated.counts n m translated.passed
+
+  abbrev y : Nest
+  y = with_copies translated.counts.copies (expanded translated.passed.named)
+
+  abbrev copying : Nest
+  copying = nodes_split (may_of translated.counts n m translated.passed)
+      (with_copies translated.counts.copies (expanded translated.passed.named))
+
+  copying_is : translated.passed.split ≡ copying
+  copying_is =
+      split_so y translated.passed.split translated.passed.split_graph translated.passed.graph translated.passed.is_split
+
+  last_so : m ≡ arranged copying (vectors_of translated.passed.graph.edges)
+  last_so =
+      translated.passed.is_arranged
+      ∙ ap (λ (z : Nest). arranged z (vectors_of translated.passed.graph.edges)) copying_is
+
+  may_be_copied : MayBeSplit r.declarations may_copy y
+  may_be_copied =
+      passed_nest_may_be_split p translated.counts n m stands.round found program is_nest translated.passed stands.named
+      stands.is r all counters made
+
+  prepared_counted : IsPrepared r.declarations around expanded_depth y
+  prepared_counted =
+      counted_nest_is_prepared p translated.counts n m stands.round found program is_nest translated.passed stands.named
+      stands.is r all counters made
+
+  prepared_copying : IsPrepared r.declarations around (expanded_depth + split_rise) copying
+  prepared_copying =
+      split_nest_is_prepared_there p translated.counts n m stands.round found program is_nest translated.passed
+      stands.named stands.is r all counters made
+
   prepared : IsPrepared r.declarations around last_depth m
   prepared =
-      passed_nest_is_prepared p translated.masks n m stands.round found program is_nest translated.passed stands.named
+      passed_nest_is_prepared p translated.counts n m stands.round found program is_nest translated.passed stands.named
       stands.is r all counters made
 
   no_label : HasNoLabel b
@@ -199,20 +249,45 @@ module _ (p q r : Program) (n m : Nest) (b : Block) (w : Surroundings) (found : 
       no_variable r.declarations around last_depth m prepared d
       (λ k e. counter_long d.name k (short_name p program d.name i) e)
 
-  apart_before : (d : Cell) → Contains (names_of p) d.name → is_variable (run_nest x) d ≡ false
+  apart_before : (d : Cell) → Contains (names_of p) d.name → is_variable (run_nest copying) d ≡ false
   apart_before d i =
-      no_variable r.declarations around expanded_depth x prepared_before d
+      no_variable r.declarations around (expanded_depth + split_rise) copying prepared_copying d
       (λ k e. counter_long d.name k (short_name p program d.name i) e)
 
   -- what made the nest m of that one keeps symbols and arrays
   may_before : (u : State) → MayRun r m u → MayRun r (expanded k) u
-  may_before u h = of_body (subst (λ (z : Nest). MayRun r z u) same h)
+  may_before u h =
+      of_both (subst (λ (z : Nest). MayRun r z u)
+      (last_is may_copy translated.counts.copies k m (vectors_of translated.passed.graph.edges) last_so) h)
     where
-      same : m ≡ record (expanded k) { body = (arranged (expanded k) (vectors_of translated.passed.graph.edges)).body }
-      same = translated.passed.is_arranged ∙ arranged_rest (expanded k) (vectors_of translated.passed.graph.edges)
+      of_both : MayRun r (record (expanded k) {
+        body = m.body;
+        made = (expanded k).made ++ arrays_of_copies may_copy y;
+        copies = copying.copies;
+      }) u → MayRun r (expanded k) u
+      of_both i = record {
+        going = i.going;
+        holds = i.holds;
+        values = i.values;
+        valued = i.valued;
+        made = Each-All (λ (a : Made). IsSomeAnd (u.store.bounds a.name) (AreBoundsBy (expanded k).symbols i.values a.extents))
+            (expanded k).made
+            (each_from (λ (a : Made). IsSomeAnd (u.store.bounds a.name) (AreBoundsBy (expanded k).symbols i.values a.extents))
+            (expanded k).made
+            (λ a at. all_in (λ (a : Made). IsSomeAnd (u.store.bounds a.name) (AreBoundsBy (expanded k).symbols i.values a.extents))
+            ((expanded k).made ++ arrays_of_copies may_copy y) i.made a
+            (In-left a (expanded k).made (arrays_of_copies may_copy y) at)));
+      }
 
-      of_body : MayRun r (record (expanded k) { body = (arranged (expanded k) (vectors_of translated.passed.graph.edges)).body }) u
-          → MayRun r (expanded k) u
+  -- moving loops alone keeps all but the body
+  may_copying : (u : State) → MayRun r m u → MayRun r copying u
+  may_copying u h = of_body (subst (λ (z : Nest). MayRun r z u) same h)
+    where
+      same : m ≡ record copying { body = (arranged copying (vectors_of translated.passed.graph.edges)).body }
+      same = last_so ∙ arranged_rest copying (vectors_of translated.passed.graph.edges)
+
+      of_body : MayRun r (record copying { body = (arranged copying (vectors_of translated.passed.graph.edges)).body }) u
+          → MayRun r copying u
       of_body i = record { going = i.going; holds = i.holds; values = i.values; valued = i.valued; made = i.made }
 
   module _ (s t : State) (going : s.way ≡ Going) (beside : AreBeside p q s t) (sound : IsSound (does fortran77 None c s).way) where
@@ -303,7 +378,7 @@ module _ (p q r : Program) (n m : Nest) (b : Block) (w : Surroundings) (found : 
 
     from_loop : GoOnAlike p (does fortran77 None c s) earlier
     from_loop =
-        unexpanded_nest_goes_on_as_loop p before translated.masks n m found s begun.state program is_nest translated.passed
+        unexpanded_nest_goes_on_as_loop p before translated.counts n m found s begun.state program is_nest translated.passed
         in_places.places.places.before in_places.counters in_places.masks in_places.goes_on begun.holds begun.sized
         (alike_beside p s begun.state u start begun.alike) sound
 
@@ -321,19 +396,53 @@ module _ (p q r : Program) (n m : Nest) (b : Block) (w : Surroundings) (found : 
     arrays_go : with_arrays.way ≡ Going
     arrays_go = ap (λ (x : State). x.way) to_arrays.rest ∙ earlier_goes
 
+    -- ---- to the nest in which reads are copied
+
+    abbrev with_reads : State
+    with_reads = does_all fortran77 None (loops_then_after copying) u
+
+    -- no name of p is that of a copy
+    no_copy : (x : List ℕ) → Contains (names_of p) x → ¬ IsCopyName may_copy y x
+    no_copy x i = no_source may_copy y may_be_copied.few x (own_source x i)
+
+    to_reads : GoOnAlike p with_arrays with_reads
+    to_reads = by (with_nodes_split may_copy y) refl (may_copying u may)
+      where
+        by : (o : Option Nest) → with_nodes_split may_copy y ≡ o → MayRun r (unwrap_or o y) u
+            → GoOnAlike p with_arrays (does_all fortran77 None (loops_then_after (unwrap_or o y)) u)
+        by None e run = record {
+          going = arrays_go;
+          agree = same_agree p with_arrays.store with_arrays.store (λ x i. refl) (λ d i. refl);
+          rest = with_rest with_arrays with_arrays refl refl refl refl;
+        }
+        by (Some z) e run =
+            let h = split_nest_goes_on_as_nest r around expanded_depth may_copy y z u prepared_counted may_be_copied e run
+            u_sized (subst IsSound (sym arrays_go) tt) in
+            record {
+              going = h.going;
+              agree = same_agree p with_arrays.store (does_all fortran77 None (loops_then_after z) u).store
+                  (λ x i. sym (h.bounds x)) (λ d i. sym (h.held d (no_copy d.name i)));
+              rest = h.rest;
+            }
+
+    reads_go : with_reads.way ≡ Going
+    reads_go = ap (λ (x : State). x.way) to_reads.rest ∙ arrays_go
+
     -- ---- to the last nest that the passes make, whose loops are moved
 
     abbrev second : State
     second = does_all fortran77 None (loops_then_after m) u
 
-    together : GoOnTogether (expanded k) u with_arrays second
+    together : GoOnTogether copying u with_reads second
     together =
-        subst (λ (z : Nest). GoOnTogether (expanded k) u with_arrays (does_all fortran77 None (loops_then_after z) u))
-        (sym translated.passed.is_arranged)
-        (arranged_nest_goes_on_as_nest r around expanded_depth (expanded k) translated.passed.graph u all.are prepared_before
-        translated.passed.is_graph may_there u_sized (subst IsSound (sym arrays_go) tt))
+        subst (λ (z : Nest). GoOnTogether copying u with_reads (does_all fortran77 None (loops_then_after z) u))
+        (sym last_so)
+        (arranged_nest_goes_on_as_nest r around (expanded_depth + split_rise) copying translated.passed.graph u all.are
+        prepared_copying
+        (subst (λ (z : Nest). IsGraphOf z translated.passed.graph) copying_is translated.passed.is_split.graph)
+        (may_copying u may) u_sized (subst IsSound (sym reads_go) tt))
 
-    to_last : GoOnAlike p with_arrays second
+    to_last : GoOnAlike p with_reads second
     to_last = record {
       going = together.going;
       agree = record {
@@ -342,14 +451,15 @@ module _ (p q r : Program) (n m : Nest) (b : Block) (w : Surroundings) (found : 
         kinds = λ d i. ap nought_like (together.beside.near.held d (apart_before d i));
       };
       rest =
-          with_rest second with_arrays (together.lines_beside.written ∙ sym together.lines.written)
+          with_rest second with_reads (together.lines_beside.written ∙ sym together.lines.written)
           (together.lines_beside.input ∙ sym together.lines.input)
           (together.lines_beside.had_value ∙ sym together.lines.had_value) (together.beside.way ∙ sym together.going);
     }
 
     one : GoOnAlike p (does fortran77 None c s) second
     one =
-        alike_then p (does fortran77 None c s) earlier second from_loop (alike_then p earlier with_arrays second to_arrays to_last)
+        alike_then p (does fortran77 None c s) earlier second from_loop
+        (alike_then p earlier with_arrays second to_arrays (alike_then p with_arrays with_reads second to_reads to_last))
 
     second_goes : second.way ≡ Going
     second_goes = ap (λ (x : State). x.way) one.rest ∙ one.going
@@ -362,8 +472,9 @@ module _ (p q r : Program) (n m : Nest) (b : Block) (w : Surroundings) (found : 
     guarded : HaveGuardedNames m (setting_at may)
     guarded =
         subst (λ (z : Nest). (h : MayRun r z u) → HaveGuardedNames z (setting_at h)) (sym translated.passed.is_arranged)
-        (λ h. arranged_nest_has_guarded_names p before r around unexpanded_depth expanded_depth k
-        (vectors_of translated.passed.graph.edges) u in_places.places h u_sized) may
+        (λ h. arranged_nest_has_guarded_names p before r around unexpanded_depth expanded_depth translated.counts.copies k
+        translated.passed.split may_copy (vectors_of translated.passed.graph.edges) u in_places.places (omega arith)
+        may_be_copied copying_is h u_sized) may
 
     two : GoOnTogether m u second third
     two =

@@ -27,7 +27,7 @@ use Rattle.translation.specs.nest_blocks.Answers.{AreAnswers, ArePlaced, Puts, n
 use Rattle.find_nests.specs.nest_parts.Numbers.{next}
 use Rattle.nest.specs.Bodies.{nest_statements}
 use Rattle.nest.specs.Plain.{Nest}
-use Rattle.listing.specs.programs.Listing.{ListedNest}
+use Rattle.listing.specs.programs.Listing.{ListedNest, no_counts}
 use Rattle.meaning_laws.proofs.profiles.Lists.{nowhere}
 use Rattle.translation.specs.nest_blocks.LoopAnswers.{Answer, Kept, Translated, found_by}
 use Rattle.translation.specs.program_translation.Translated.{IsPlacedBy}
@@ -53,7 +53,7 @@ module _ (p : Program) (answers : List Answer) (blocks : List (Option Block)) (p
   marked_nest : (n m : Nest) (g : Graph) (ps : Pieces) → Contains answers (Translated n m g ps)
       → IsMarkedByGraph (record { found = n; normal = m; graph = g }) (translation m ps)
   marked_nest n m g ps c =
-      let right = each_right 0 answers (Translated n m g ps) are.right c in
+      let right = each_right no_counts answers (Translated n m g ps) are.right c in
       marked_by_graph p right.0 n m g ps program (found n m g ps c) right.1 emission_is_marked emission_keeps_together
 
   -- what stands in the place of the loop with this number

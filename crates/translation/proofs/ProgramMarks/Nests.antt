@@ -1,5 +1,5 @@
 -- What stands in the place of a nest is marked as its graph has it.
-use Rattle.std.proofs.Common.{◌≡◌, ◌⊎◌, inl, inr, refl, sym, ap, subst, ◌∙◌, ℕ, ◌<◌, ◌≤◌, Bool, true, false, cond, None}
+use Rattle.std.proofs.Common.{◌≡◌, ◌⊎◌, inl, inr, refl, sym, ap, subst, ◌∙◌, ◌<◌, ◌≤◌, Bool, true, false, cond, None}
 use Rattle.std.proofs.Common.{Some, List, [], ◌∷◌, length, Contains, arith}
 use Rattle.std.proofs.lemmas.Bool.{cases_lt}
 use Rattle.std.proofs.lemmas.List.{get_or_past}
@@ -21,6 +21,7 @@ use Rattle.scalar_expand.specs.Laws.{own_of}
 use Rattle.listing.proofs.programs.Naming.{IsNamedFrom, named_from}
 use Rattle.listing.proofs.programs.Sources as sources
 use Rattle.listing.proofs.programs.Stages.{made_by}
+use Rattle.listing.specs.declared.programs.counts.Counts.{Counts}
 use Rattle.listing.specs.programs.Passed.{IsPassedAs}
 use Rattle.nest_order.specs.shapes.Shapes.{IsPlain}
 use Rattle.normal_loops.specs.Bodies.{normal_part}
@@ -35,7 +36,7 @@ use Rattle.pass_laws.proofs.NormalMeaning.Made.{behind, made_of}
 use Rattle.array_form.specs.holds.Holds.{all_holds}
 use Rattle.array_form.specs.holds.Statements.{no_statement}
 use Rattle.std.specs.Option.{option_map}
-use Rattle.translation.proofs.Converting.{IsAnewFrom, IsConvertedFrom, IsLastFrom, anew_from, converted_from, passed_from}
+use Rattle.translation.proofs.Converting.{IsAnewFrom, IsConvertedFrom, IsLastFrom, anew_from, converted_from, may_of, passed_from}
 use Rattle.translation.specs.nest_blocks.LoopAnswers.{IsTranslation}
 use Rattle.translation.specs.program_marks.Marks.{IsMarkedByGraph}
 use Rattle.translation.proofs.ProgramMarks.Endings.{last_values_unmarked, substituted_unmarked, then_unmarked}
@@ -76,16 +77,16 @@ module _ (n m : Nest) where
       by true g = of_loops (nested_loops n.symbols [] n.body) g
       by false g = let no : ⊥ = cc in absurd no
 
-module _ (p : Program) (masks : ℕ) (n m : Nest) (g : Graph) (ps : Pieces) (program : IsProgram77 fortran77 p)
-    (found : Contains (found_in p) (InNest n)) (translated : IsTranslation masks n m g ps) where
-  abbrev passed : IsPassedAs masks n m
+module _ (p : Program) (counts : Counts) (n m : Nest) (g : Graph) (ps : Pieces) (program : IsProgram77 fortran77 p)
+    (found : Contains (found_in p) (InNest n)) (translated : IsTranslation counts n m g ps) where
+  abbrev passed : IsPassedAs counts n m
   passed = translated.passed
 
   abbrev k : Nest
   k = passed.named
 
-  converted : IsConvertedFrom masks passed.normal passed.converted
-  converted = converted_from masks passed.normal passed.converted passed.is_converted
+  converted : IsConvertedFrom counts.masks passed.normal passed.converted
+  converted = converted_from counts.masks passed.normal passed.converted passed.is_converted
 
   anew_so : IsAnewFrom passed.converted passed.anew
   anew_so = anew_from passed.normal passed.converted passed.anew passed.is_anew
@@ -93,11 +94,11 @@ module _ (p : Program) (masks : ℕ) (n m : Nest) (g : Graph) (ps : Pieces) (pro
   named_so : IsNamedFrom passed.anew k
   named_so = named_from passed.anew passed.substituted k passed.is_substituted passed.is_named
 
-  last_so : IsLastFrom k m
-  last_so = passed_from masks n m passed
+  last_so : IsLastFrom (may_of counts n m passed) counts.copies k m
+  last_so = passed_from counts n m passed
 
   ready : IsReady m
-  ready = sources.ready masks n m (record { program = p; profile = program; among = found }) (made_by masks n m passed)
+  ready = sources.ready counts n m (record { program = p; profile = program; among = found }) (made_by counts n m passed)
 
   after_is : passed.anew.after ≡ behind n
   after_is =
@@ -105,7 +106,7 @@ module _ (p : Program) (masks : ℕ) (n m : Nest) (g : Graph) (ps : Pieces) (pro
       ∙ ap (λ (z : Nest). block_then z.after (behind n)) (found_nest_is_loop p n found).is
 
   plain : IsPlain m.body
-  plain = (sources.prepared_for p masks n m program found (made_by masks n m passed)).plain
+  plain = (sources.prepared_for p counts n m program found (made_by counts n m passed)).plain
 
   may_be : MayBeMarked m g.edges
   may_be = record {

@@ -171,7 +171,7 @@ module _ (within : WithMadeNames) (profile : TranslationIsOfProfile) (p q : Prog
 
     prepared : IsPrepared rs (stands.round.variables) last_depth is_block.normal
     prepared =
-        passed_nest_is_prepared p is_block.translated.masks is_block.nest is_block.normal stands.round found_nest program
+        passed_nest_is_prepared p is_block.translated.counts is_block.nest is_block.normal stands.round found_nest program
         is_block.among is_block.translated.passed stands.named stands.is r with_others.more counters made_declared
 
     block_unlabelled : IsWithoutLabels b

@@ -3,14 +3,15 @@ use Rattle.std.specs.Prelude.{◌≡◌, ◌≤◌, ⊤, ℕ, Option, Some, List
 use Rattle.std.specs.List.{flat_map}
 use Rattle.tree.specs.Plain.{Block, Declaration, Program}
 use Rattle.find_nests.specs.Found.{InNest, found_in}
+use Rattle.listing.specs.declared.programs.counts.Counts.{Counts}
 use Rattle.listing.specs.graphs.Lines.{Entry}
 use Rattle.listing.specs.graphs.Listing.{lines_of_entries}
 use Rattle.translation.specs.loop_numbers.Numbers.{loop_number}
 use Rattle.translation.specs.loop_placing.Placing.{block_at}
 use Rattle.nest.specs.Plain.{Nest}
-use Rattle.listing.specs.programs.Listing.{ListedNest}
+use Rattle.listing.specs.programs.Listing.{ListedNest, no_counts}
 use Rattle.translation.specs.nest_blocks.LoopAnswers.{Answer, AreEntriesBy, IsRight, block_by, found_by, made_by}
-use Rattle.translation.specs.nest_blocks.LoopAnswers.{masks_by, nest_by}
+use Rattle.translation.specs.nest_blocks.LoopAnswers.{counts_by, nest_by}
 
 -- the answer is for a nest whose outermost loop has this number, and puts the block in the loop's place
 pub record Puts (a : Answer) (k : ℕ) (b : Block) : Type 0 where
@@ -25,14 +26,14 @@ pub record ArePlaced (answers : List Answer) (blocks : List (Option Block)) : Ty
       → (a : Answer) × Contains answers a × Puts a k b
   pub each : (a : Answer) (k : ℕ) (b : Block) → Contains answers a → Puts a k b → block_at blocks k ≡ Some b
 
--- each is right behind those before it; masks are numbered through the program
-abbrev pub AreRight : ℕ → List Answer → Type 0
-AreRight masks [] = ⊤
-AreRight masks (a ∷ answers) = IsRight masks a × AreRight (masks_by masks a) answers
+-- each is right behind those before it; masks and copies are numbered through the program
+abbrev pub AreRight : Counts → List Answer → Type 0
+AreRight counts [] = ⊤
+AreRight counts (a ∷ answers) = IsRight counts a × AreRight (counts_by counts a) answers
 
 -- one answer to each loop that stands in no nest, in the order of the text
 pub record AreAnswers (p : Program) (answers : List Answer) : Type 0 where
-  pub right : AreRight 0 answers
+  pub right : AreRight no_counts answers
   pub found : map found_by answers ≡ found_in p
 
 -- what they list, one after the other

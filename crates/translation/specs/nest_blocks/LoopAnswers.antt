@@ -8,16 +8,16 @@ use Rattle.emission.specs.emission_pieces.Pieces.{Pieces, translation}
 use Rattle.find_nests.specs.Found as found
 use Rattle.find_nests.specs.Found.{Found, InNest}
 use Rattle.find_nests.specs.declared.reasons.Reason.{Reason}
+use Rattle.listing.specs.declared.programs.counts.Counts.{Counts}
 use Rattle.listing.specs.graphs.Lines.{Entry}
 use Rattle.listing.specs.graphs.Listing.{lines_of_entries}
 use Rattle.dependence_graph.specs.nest_graph.Graph.{IsGraphOf}
 use Rattle.nest.specs.Bodies.{nest_statements}
 use Rattle.nest.specs.Plain.{Nest}
 use Rattle.array_form.specs.holds.Holds.{all_holds}
-use Rattle.listing.specs.programs.Listing.{HasCycleEntries, ListedNest, kept}
+use Rattle.listing.specs.programs.Listing.{HasCycleEntries, ListedNest, counts_of, kept}
 use Rattle.listing.specs.programs.Passed.{IsPassedAs}
 use Rattle.listing.specs.programs.Stages.{IsLastGraph}
-use Rattle.scalar_expand.specs.Expanded.{expanded}
 use Rattle.translation.specs.made_declarations.Declaring.{declaration_of_made}
 
 pub data Answer : Type 0 where
@@ -51,33 +51,33 @@ abbrev pub made_by : Answer → List Declaration
 made_by (Translated n m g ps) = map declaration_of_made m.made
 made_by (Kept line r) = []
 
--- how many masks are made in the program with those that are made for it
-abbrev pub masks_by : ℕ → Answer → ℕ
-masks_by masks (Translated n m g ps) = m.masks
-masks_by masks (Kept line r) = masks
+-- what is made in the program with what is made for it
+abbrev pub counts_by : Counts → Answer → Counts
+counts_by counts (Translated n m g ps) = counts_of m
+counts_by counts (Kept line r) = counts
 
 -- One graph of the nest is listed, and by it and all holds of the nest the pieces are emitted. Where the last pass
 -- moves no loop, it is the graph by which none was moved
-pub record IsTranslation (masks : ℕ) (n m : Nest) (g : Graph) (ps : Pieces) : Type 0 where
-  pub passed : IsPassedAs masks n m
+pub record IsTranslation (counts : Counts) (n m : Nest) (g : Graph) (ps : Pieces) : Type 0 where
+  pub passed : IsPassedAs counts n m
   pub graph : IsGraphOf m g
-  pub kept : IsLastGraph (expanded passed.named) passed.graph g
+  pub kept : IsLastGraph passed.split passed.graph g
   pub emitted : AreEmitted m g.edges (all_holds m) 1 (range_with_len 0 (length (nest_statements m))) ps
 
--- each nest is translated as what passes make of it, after so many masks
-abbrev pub IsRight : ℕ → Answer → Type 0
-IsRight masks (Translated n m g ps) = IsTranslation masks n m g ps
-IsRight masks (Kept line r) = ⊤
+-- each nest is translated as what passes make of it, after so much
+abbrev pub IsRight : Counts → Answer → Type 0
+IsRight counts (Translated n m g ps) = IsTranslation counts n m g ps
+IsRight counts (Kept line r) = ⊤
 
--- lines of a listing, a block, if there is one, the declarations of made names, and how many masks are made by then
-pub record IsAnswerTo (masks : ℕ) (f : Found) (lines : List (List ℕ)) (block : Option Block) (made : List Declaration)
-    (next : ℕ) : Type 0 where
+-- lines of a listing, a block, if there is one, the declarations of made names, and what is made by then
+pub record IsAnswerTo (counts : Counts) (f : Found) (lines : List (List ℕ)) (block : Option Block)
+    (made : List Declaration) (next : Counts) : Type 0 where
   pub answer : Answer
-  pub right : IsRight masks answer
+  pub right : IsRight counts answer
   pub found : found_by answer ≡ f
   pub entries : List Entry
   pub listed : AreEntriesBy answer entries
   pub lines_are : lines ≡ lines_of_entries entries
   pub block_is : block ≡ block_by answer
   pub made_are : made ≡ made_by answer
-  pub masks_are : next ≡ masks_by masks answer
+  pub counts_are : next ≡ counts_by counts answer

@@ -1,5 +1,5 @@
 -- The meaning of what stands in the place of a nest.
-use Rattle.std.specs.Prelude.{◌≡◌, ℕ, Some, All, IsSomeAnd, Contains}
+use Rattle.std.specs.Prelude.{◌≡◌, Some, All, IsSomeAnd, Contains}
 use Rattle.tree.specs.Plain.{Block, Program}
 use Rattle.emission.specs.emission_pieces.Pieces.{Pieces, translation}
 use Rattle.find_nests.specs.Found.{InNest, found_in}
@@ -17,15 +17,16 @@ use Rattle.nest.specs.Plain.{Loop, Made, Nest}
 use Rattle.pass_laws.specs.normal_facts.Laws.{IsCounter}
 use Rattle.pass_laws.specs.prepared_runs.Running.{ArePiecesOf}
 use Rattle.pass_laws.specs.prepared_runs.Unlabelled.{HasNoLabel}
+use Rattle.listing.specs.declared.programs.counts.Counts.{Counts}
 use Rattle.listing.specs.programs.Passed.{IsPassedAs}
 use Rattle.translation.specs.made_declarations.Declaring.{declaration_of_made}
 use Rattle.translation.specs.placed_loops.Beside.{DoesAs}
 use Rattle.meaning_laws.specs.profiles.Profiles.{AddMadeNames}
 
--- b is what is emitted, by a graph and all holds, for the nest m that the passes make of n, after so many masks
+-- b is what is emitted, by a graph and all holds, for the nest m that the passes make of n, after so much
 pub record IsTranslatedNest (n m : Nest) (b : Block) : Type 0 where
-  pub masks : ℕ
-  pub passed : IsPassedAs masks n m
+  pub counts : Counts
+  pub passed : IsPassedAs counts n m
   pub pieces : Pieces
   pub are : ArePiecesOf m pieces
   pub block : b ≡ translation m pieces

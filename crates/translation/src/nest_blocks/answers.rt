@@ -15,6 +15,7 @@ use crate::made_declarations::MadeName;
 use crate::nest_blocks::loop_answers::answer_to;
 use crate::nest_blocks::places::{loop_number, put};
 use find_nests::{Found, find_nests};
+use listing::programs::Counts;
 use std::alloc::Global;
 use tree::{Block, Line, Memory, Program77, Seq};
 
@@ -57,10 +58,13 @@ pub fn program_answers(alloc: Global, program: &Program77) -> Result<Answers, Me
     let mut lines = Vec::new(alloc);
     let mut blocks = Vec::new(alloc);
     let mut made = Vec::new(alloc);
-    let mut masks = 0;
+    let mut counts = Counts {
+        masks: 0,
+        copies: 0,
+    };
     for found in find_nests(alloc, program)?.as_slice() {
-        let answer = answer_to(alloc, found, masks)?;
-        masks = answer.masks;
+        let answer = answer_to(alloc, found, counts)?;
+        counts = answer.counts;
         lines.append(&mut answer.lines.into_vec())?;
         made.append(&mut answer.made.into_vec())?;
         put_found(&mut blocks, found, answer.block)?;

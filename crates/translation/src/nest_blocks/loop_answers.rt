@@ -1,10 +1,11 @@
 //! What is said of a loop, and what stands in its place.
-ghost use Rattle.std.specs.Prelude.{ℕ, IfOk, map};
+ghost use Rattle.std.specs.Prelude.{IfOk, map};
 ghost use Rattle.std.specs.Option.{option_map};
 ghost use Rattle.emission.specs.nest_emission.Given.{MayBeEmitted};
 ghost use Rattle.f90_print.specs.Notes.{text_of};
 ghost use Rattle.find_nests.specs.Found.{InNest};
 ghost use Rattle.find_nests.specs.View.{found_of};
+ghost use Rattle.listing.specs.declared.programs.counts.Counts.{Counts};
 ghost use Rattle.listing.specs.programs.Passed.{IsPassed};
 ghost use Rattle.listing.specs.programs.Sources.{IsFoundInSource, IsNestOfSource};
 ghost use Rattle.tree.specs.View.{block_of};
@@ -16,27 +17,27 @@ ghost use Rattle.translation.specs.nest_blocks.LoopAnswers.{IsAnswerTo};
 use crate::made_declarations::{MadeName, names_made};
 use emission::nest_emission::emit;
 use find_nests::Found;
-use listing::programs::{Passed, kept_loop, passes};
+use listing::programs::{Counts, Passed, kept_loop, passes};
 use nest::Nest;
 use std::alloc::Global;
 use tree::{Block, Line, Memory, Seq};
 
 /// The lines of a loop that was found, in the listing, the block that stands in its place, if it is translated, the
-/// names that passes made for it, and how many masks are made in the program with those among them.
+/// names that passes made for it, and how many of them are made in the program with these.
 #[derive(Drop)]
 pub struct Answer {
     pub lines: Seq<Line>,
     pub block: Option<Block>,
     pub made: Seq<MadeName>,
-    pub masks: u32,
+    pub counts: Counts,
 }
 
 // For a nest of which passes made this one.
 fn translated(alloc: Global, passed: Passed) -> Result<Answer, Memory>
     requires { MayBeEmitted (nest_of passed.nest.value) passed.tests.graph }
-    ensures { IfOk result (λ a. (masks : ℕ) (n : plain.Nest) → IsPassed masks n passed
-        → IsAnswerTo masks (InNest n) (map text_of a.lines) (option_map block_of a.block)
-        (map declaration_of_name a.made) a.masks) }
+    ensures { IfOk result (λ a. (counts : Counts) (n : plain.Nest) → IsPassed counts n passed
+        → IsAnswerTo counts (InNest n) (map text_of a.lines) (option_map block_of a.block)
+        (map declaration_of_name a.made) a.counts) }
 {
     let tests = passed.tests;
     let nest: &Nest = &passed.nest;
@@ -46,35 +47,38 @@ fn translated(alloc: Global, passed: Passed) -> Result<Answer, Memory>
         lines: tests.lines,
         block: Some(block),
         made,
-        masks: nest.masks,
+        counts: Counts {
+            masks: nest.masks,
+            copies: nest.copies,
+        },
     })
 }
 
 // For a nest.
-fn nest_answer(alloc: Global, found: &Nest, masks: u32) -> Result<Answer, Memory>
+fn nest_answer(alloc: Global, found: &Nest, counts: Counts) -> Result<Answer, Memory>
     requires { IsNestOfSource (nest_of found.now) }
     ensures { IfOk result (λ a.
-        IsAnswerTo masks (InNest (nest_of found.now)) (map text_of a.lines) (option_map block_of a.block)
-        (map declaration_of_name a.made) a.masks) }
+        IsAnswerTo counts (InNest (nest_of found.now)) (map text_of a.lines) (option_map block_of a.block)
+        (map declaration_of_name a.made) a.counts) }
 {
-    translated(alloc, passes(alloc, found, masks)?)
+    translated(alloc, passes(alloc, found, counts)?)
 }
 
-/// The answer to what was found in a program of FORTRAN 77, where so many masks were made before in the program: a kept
-/// loop stays as it is; a nest is listed and translated by one graph.
-pub fn answer_to(alloc: Global, found: &Found, masks: u32) -> Result<Answer, Memory>
+/// The answer to what was found in a program of FORTRAN 77, where so much was made before in the program: a kept loop
+/// stays as it is; a nest is listed and translated by one graph.
+pub fn answer_to(alloc: Global, found: &Found, counts: Counts) -> Result<Answer, Memory>
     requires { IsFoundInSource (found_of found.now) }
     ensures { IfOk result (λ a.
-        IsAnswerTo masks (found_of found.now) (map text_of a.lines) (option_map block_of a.block)
-        (map declaration_of_name a.made) a.masks) }
+        IsAnswerTo counts (found_of found.now) (map text_of a.lines) (option_map block_of a.block)
+        (map declaration_of_name a.made) a.counts) }
 {
     match found {
-        Found::Nest(nest) => nest_answer(alloc, nest, masks),
+        Found::Nest(nest) => nest_answer(alloc, nest, counts),
         Found::Kept(line, reason) => Ok(Answer {
             lines: kept_loop(alloc, *line, *reason)?,
             block: None,
             made: Seq::new(alloc),
-            masks,
+            counts,
         }),
     }
 }

@@ -1,4 +1,3 @@
-use Rattle.listing.specs.programs.Listing.{reason_word}
 use Rattle.listing.proofs.programs.Entries.{kept_texts}
 use Rattle.listing.proofs.programs.listed.kept_loop.Goals as goal
 

@@ -1,4 +1,4 @@
--- The lines of all so far, and the masks that are made by then.
+-- The lines of all so far, and what is made by then.
 use Rattle.std.proofs.Common.{map, take}
 use Rattle.f90_print.specs.Notes.{text_of}
 use Rattle.find_nests.specs.View.{found_of}
@@ -6,4 +6,4 @@ use Rattle.listing.proofs.programs.Entries.{AreListed}
 use Rattle.listing.proofs.programs.listed.list.Given as goal
 
 abbrev pub invariant-loop-found : goal.invariant-loop-found
-invariant-loop-found l = AreListed (map found_of (take l.found-index l.found-items)) (map text_of l.all.items) l.masks
+invariant-loop-found l = AreListed (map found_of (take l.found-index l.found-items)) (map text_of l.all.items) l.counts

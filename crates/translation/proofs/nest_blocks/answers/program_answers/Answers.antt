@@ -32,7 +32,7 @@ loop-found-preserved c =
     found_more (program_of c.args.program.now) c.as_slice-found-items.result.now found c.loop-found.found-index
     c.found-item.result c.loop-found.lines.items c.in_ok-answer.answer.lines c.append.new.self.items
     c.in_ok-answer.answer.block c.loop-found.blocks.items c.put_found.new.blocks.items c.loop-found.made.items
-    c.in_ok-answer.answer.made c.append-in-loop-found.new.self.items c.loop-found.masks c.in_ok-answer.answer.masks c.requires (omega arith) c.found-item.is c.loop-found.invariant
+    c.in_ok-answer.answer.made c.append-in-loop-found.new.self.items c.loop-found.counts c.in_ok-answer.answer.counts c.requires (omega arith) c.found-item.is c.loop-found.invariant
     c.in_ok-answer.ensures lines c.in_ok-put_found.ensures made
 
 pub returns : goal.returns
@@ -41,5 +41,5 @@ returns c =
     = ap (map found_of) c.as_slice-found-items.ensures ∙ c.in_ok-find_nests.ensures in
     found_all (program_of c.args.program.now) c.as_slice-found-items.result.now found c.loop-found.found-index
     c.loop-found.lines.items c.from_vec.result c.loop-found.blocks.items c.from_vec-2.result c.loop-found.made.items
-    c.from_vec-3.result c.loop-found.masks (omega arith) c.loop-found.invariant c.from_vec.ensures c.from_vec-2.ensures
+    c.from_vec-3.result c.loop-found.counts (omega arith) c.loop-found.invariant c.from_vec.ensures c.from_vec-2.ensures
     c.from_vec-3.ensures

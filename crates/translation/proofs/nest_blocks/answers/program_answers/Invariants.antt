@@ -10,4 +10,4 @@ use Rattle.translation.proofs.nest_blocks.answers.program_answers.Given as goal
 abbrev pub invariant-loop-found : goal.invariant-loop-found
 invariant-loop-found l =
     AreAnswersTo (map found_of (take l.found-index l.found-items)) (map text_of l.lines.items)
-    (blocks_of l.blocks.items) (map declaration_of_name l.made.items) l.masks
+    (blocks_of l.blocks.items) (map declaration_of_name l.made.items) l.counts

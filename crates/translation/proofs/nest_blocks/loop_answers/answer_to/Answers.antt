@@ -9,9 +9,9 @@ use Rattle.translation.proofs.nest_blocks.loop_answers.answer_to.Goals as goal
 
 pub returns-in_ok-kept_loop-in-Kept : goal.returns-in_ok-kept_loop-in-Kept
 returns-in_ok-kept_loop-in-Kept c =
-    subst (λ (f : Found). IsAnswerTo c.args.masks f (map text_of c.in_ok-kept_loop-in-Kept.field-0) None
-    (map declaration_of_name c.new.result) c.args.masks)
+    subst (λ (f : Found). IsAnswerTo c.args.counts f (map text_of c.in_ok-kept_loop-in-Kept.field-0) None
+    (map declaration_of_name c.new.result) c.args.counts)
     (sym (ap found_of c.in-Kept.is))
-    (kept_as c.args.masks c.in-Kept.line c.in-Kept.reason (map text_of c.in_ok-kept_loop-in-Kept.field-0) None
+    (kept_as c.args.counts c.in-Kept.line c.in-Kept.reason (map text_of c.in_ok-kept_loop-in-Kept.field-0) None
     (map declaration_of_name c.new.result) c.in_ok-kept_loop-in-Kept.ensures refl
     (ap (map declaration_of_name) c.new.ensures))

@@ -1,0 +1,4 @@
+pub mod Splits
+pub mod Kept
+pub mod Laws
+pub mod Elements
