@@ -1,0 +1,11 @@
+pub mod Symbols
+pub mod Trips
+pub mod Nests
+pub mod Bodies
+pub mod Cuts
+pub mod CutParts
+pub mod Same
+pub mod Texts
+pub mod Pieces
+pub mod SplitProfiles
+pub mod SplitRuns
