@@ -22,7 +22,7 @@ use listing::programs::kept_loop;
 use nest::Nest;
 use normal_loops::normalise;
 use std::alloc::Global;
-use tree::{Memory, Program77, Refused};
+use tree::{Memory, Program77, Refused, Width};
 
 /// The most names and symbols.
 const MOST_NAMES: usize = 1000;
@@ -114,7 +114,7 @@ fn push_deck_answer(
     words: &str,
     deck: &[u8],
 ) -> Result<(), Memory> {
-    match read77(alloc, deck) {
+    match read77(alloc, deck, Width::Plain) {
         Ok(program) => push_answer(out, alloc, words, &program),
         Err(Refused::Refusal(refusal)) => push_refusal(out, refusal),
         Err(Refused::Memory) => Err(Memory),

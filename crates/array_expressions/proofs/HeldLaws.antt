@@ -11,9 +11,9 @@ use Rattle.tree.specs.declared.ops.Value.{Value}
 use Rattle.tree.specs.declared.ops.Value.TheVariants.{Int}
 use Rattle.tree.specs.declared.ops.Fault.{Fault}
 use Rattle.tree.specs.declared.ops.Fault.TheVariants.{Allocated, Bounds}
-use Rattle.meaning.specs.ArrayValues.{Array, scalar}
+use Rattle.meaning.specs.ArrayValues.{Array, scalar_array}
 use Rattle.meaning.specs.Sections.{Axis, Selector, axis_on, axes_on, whole_axes, extents_of, numbers_of, Along}
-use Rattle.meaning.specs.Store.{Store, Cell, cell_at, cell_in, is_within, bounds_in, bounds_of, column_major, numbers_from, size_of}
+use Rattle.meaning.specs.Store.{Store, Cell, cell_at, cell_in, is_within, bounds_in, stored_bounds, column_major, numbers_from, size_of}
 use Rattle.meaning.specs.Value.{is_bare}
 use Rattle.array_values.specs.declared.storage.slots.Slot.{Slot}
 use Rattle.array_values.specs.declared.storage.slots.Place.{Place}
@@ -133,13 +133,13 @@ module _ (ls : List Local) (s : Store) (x : List ℕ) where
       ∙ whole_by (s.bounds x) n
 
   scalar_by : (b : Option (List (ℤ × ℤ))) (t : Store) → is_bare b ≡ true
-      → ◌≡◌ {A = Result Array Fault} (do bs ← bounds_in b; Ok (array_along x (whole_axes bs) t)) (do v ← (do c ← cell_in b x []; Ok (t.held c)); Ok (scalar v))
+      → ◌≡◌ {A = Result Array Fault} (do bs ← bounds_in b; Ok (array_along x (whole_axes bs) t)) (do v ← (do c ← cell_in b x []; Ok (t.held c)); Ok (scalar_array v))
   scalar_by None t n = cc
   scalar_by (Some []) t n = refl
   scalar_by (Some (b ∷ bs)) t n = cc
 
   -- a scalar has one value
-  pub scalar_whole : is_bare (s.bounds x) ≡ true → whole_array x (bound_all ls s) ≡ (do v ← held_at x [] (bound_all ls s); Ok (scalar v))
+  pub scalar_whole : is_bare (s.bounds x) ≡ true → whole_array x (bound_all ls s) ≡ (do v ← held_at x [] (bound_all ls s); Ok (scalar_array v))
   scalar_whole n = scalar_by ((bound_all ls s).bounds x) (bound_all ls s) (ap (λ (f : List ℕ → Option (List (ℤ × ℤ))). is_bare (f x)) (bounds_kept ls s) ∙ n)
 
 -- ---- whether there are subscripts

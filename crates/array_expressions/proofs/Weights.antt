@@ -7,7 +7,7 @@ use Rattle.tree.specs.Plain as P
 use Rattle.tree.specs.Plain.{Expression, Number, Logic, Named, Unary, Binary, Apply, Constructor, Spread, Transpose}
 use Rattle.tree.specs.Plain.{Reshape, Reduce, Expressions, no_expressions, expression, Subscript, Only, Section}
 use Rattle.tree.specs.Plain.{Subscripts, no_subscripts, subscript, Loops, no_loops, loop}
-use Rattle.tree.specs.View.{expression_of, subscript_of, reference_of, loop_of, loops, ConstructorLoop}
+use Rattle.tree.specs.View.{expression_of, subscript_of, reference_of, loop_of, constructor_loops, ConstructorLoop}
 use Rattle.tree.specs.declared.ops.Op.{Op}
 use Rattle.tree.specs.declared.functions.Fun.{Fun}
 use Rattle.tree.specs.declared.functions.Red.{Red}
@@ -63,7 +63,7 @@ abbrev pub weight_in_subs : List Sub → ℕ
 weight_in_subs ps = weight_of_subscripts (P.subscripts (map subscript_of ps))
 
 abbrev pub weight_in_turns : List Turn → ℕ
-weight_in_turns ls = weight_of_loops (loops (map loop_of ls))
+weight_in_turns ls = weight_of_loops (constructor_loops (map loop_of ls))
 
 -- ---- by the form of an expression
 

@@ -20,6 +20,9 @@
 //! with its last loop outermost, each variable with a value of its own, and a number that INTEGER can't hold is a fault
 //! when it is reached. No premise on kinds or depth. Neither time nor stack is proved.
 //!
+//! **The width of INTEGER is an argument**, since MAXVAL and MINVAL of nothing and the variables of constructors depend
+//! on it.
+//!
 //! **The variables of constructors' loops are a list beside the store, and each turn has its own.** Values of a
 //! constructor are put behind one list as they come, so no list is made for each turn.
 #![tactic(auto)]

@@ -14,7 +14,7 @@ use crate::locals::Local;
 use crate::numbers::call;
 use crate::scope::Scope;
 use array_values::Failure;
-use tree::{Expr, Fault, Seq, Sub, Value};
+use tree::{Expr, Fault, Seq, Sub, Value, Width};
 
 // The value, or its fault.
 fn answer(value: Result<Value, Fault>) -> Result<Value, Failure>
@@ -41,33 +41,33 @@ impl Scope<'_> {
     /// held against its bounds, and the first fault wins.
     #[cycle(evaluation)]
     #[tactic(auto, using(crate::proofs::ValueLaws::value_laws, crate::proofs::Weights::weight_laws))]
-    pub fn value(&self, expr: &Expr, locals: &[Local]) -> Result<Value, Failure>
+    pub fn value(&self, width: Width, expr: &Expr, locals: &[Local]) -> Result<Value, Failure>
         ensures { Answers (λ (v : Value'). v)
-            (value_of fortran90 (expression_of expr.now) (store_at self.now locals.now)) result }
+            (value_of (fortran90 width) (expression_of expr.now) (store_at self.now locals.now)) result }
     {
         match expr {
             Expr::Int(number) => Ok(Value::Int(*number)),
             Expr::Truth(truth) => Ok(Value::Truth(*truth)),
             Expr::Item(item) => {
-                let numbers = self.numbers(&item.subs, locals)?;
+                let numbers = self.numbers(width, &item.subs, locals)?;
                 answer(self.held(item.name, numbers.as_slice(), locals))
             }
             Expr::Un(op, a) => {
-                let x = self.value(a, locals)?;
+                let x = self.value(width, a, locals)?;
                 answer(op.apply(x, x))
             }
             Expr::Bin(op, a, b) => {
-                let x = self.value(a, locals)?;
-                let y = self.value(b, locals)?;
+                let x = self.value(width, a, locals)?;
+                let y = self.value(width, b, locals)?;
                 answer(op.apply(x, y))
             }
             Expr::Call(function, exprs) => {
-                let values = self.values(exprs, locals)?;
+                let values = self.values(width, exprs, locals)?;
                 answer(call(*function, values.as_slice()))
             }
             Expr::Reduce(reduction, a) => {
-                let array = self.in_whole(a, locals)?;
-                answer(array.reduce(*reduction, 31))
+                let array = self.in_whole(width, a, locals)?;
+                answer(array.reduce(*reduction, width))
             }
             Expr::List(..) => Err(Failure::Fault(Fault::Shape)),
             Expr::Spread(..) => Err(Failure::Fault(Fault::Shape)),
@@ -79,22 +79,28 @@ impl Scope<'_> {
     /// The number that a scalar expression is.
     #[cycle(evaluation)]
     #[tactic(auto, using(crate::proofs::Weights::weight_laws))]
-    pub fn number(&self, expr: &Expr, locals: &[Local]) -> Result<i128, Failure>
-        ensures { Answers (λ (z : ℤ). z) (number_at (expression_of expr.now) (store_at self.now locals.now)) result }
+    pub fn number(&self, width: Width, expr: &Expr, locals: &[Local]) -> Result<i128, Failure>
+        ensures { Answers (λ (z : ℤ). z) (number_at width (expression_of expr.now)
+            (store_at self.now locals.now)) result }
     {
-        let value = self.value(expr, locals)?;
+        let value = self.value(width, expr, locals)?;
         as_number(value)
     }
 
     /// The values of scalar expressions, from left to right.
     #[cycle(evaluation)]
     #[tactic(auto, using(crate::proofs::Weights::weight_laws))]
-    pub fn values(&self, exprs: &Seq<Expr>, locals: &[Local]) -> Result<Seq<Value>, Failure>
-        ensures { Answers (λ (vs : List Value'). vs) (values_of fortran90
+    pub fn values(
+        &self,
+        width: Width,
+        exprs: &Seq<Expr>,
+        locals: &[Local],
+    ) -> Result<Seq<Value>, Failure>
+        ensures { Answers (λ (vs : List Value'). vs) (values_of (fortran90 width)
             (expressions (map expression_of exprs.now)) (store_at self.now locals.now)) result }
     {
         let mut values = Seq::new(self.alloc);
-        self.push_values(exprs, locals, &mut values)?;
+        self.push_values(width, exprs, locals, &mut values)?;
         Ok(values)
     }
 
@@ -103,15 +109,16 @@ impl Scope<'_> {
     #[tactic(auto, using(crate::proofs::Weights::weight_laws))]
     pub(crate) fn push_values(
         &self,
+        width: Width,
         exprs: &Seq<Expr>,
         locals: &[Local],
         all: &mut Seq<Value>,
     ) -> Result<(), Failure>
-        ensures { Appends all.old all.new (values_of fortran90
+        ensures { Appends all.old all.new (values_of (fortran90 width)
             (expressions (map expression_of exprs.now)) (store_at self.now locals.now)) result }
     {
         for expr in exprs.as_slice() {
-            let value = self.value(expr, locals)?;
+            let value = self.value(width, expr, locals)?;
             all.push(value)?;
         }
         Ok(())
@@ -120,13 +127,18 @@ impl Scope<'_> {
     /// The numbers of an element's subscripts.
     #[cycle(evaluation)]
     #[tactic(auto, using(crate::proofs::Weights::weight_laws))]
-    pub fn numbers(&self, subs: &Seq<Sub>, locals: &[Local]) -> Result<Seq<i128>, Failure>
-        ensures { Answers (λ (zs : List ℤ). zs) (subscript_values fortran90
+    pub fn numbers(
+        &self,
+        width: Width,
+        subs: &Seq<Sub>,
+        locals: &[Local],
+    ) -> Result<Seq<i128>, Failure>
+        ensures { Answers (λ (zs : List ℤ). zs) (subscript_values (fortran90 width)
             (subscripts (map subscript_of subs.now)) (store_at self.now locals.now)) result }
     {
         let mut numbers = Seq::new(self.alloc);
         for sub in subs.as_slice() {
-            let number = self.subscript(sub, locals)?;
+            let number = self.subscript(width, sub, locals)?;
             numbers.push(number)?;
         }
         Ok(numbers)
@@ -134,12 +146,12 @@ impl Scope<'_> {
 
     #[cycle(evaluation)]
     #[tactic(auto, using(crate::proofs::Weights::weight_laws))]
-    fn subscript(&self, sub: &Sub, locals: &[Local]) -> Result<i128, Failure>
+    fn subscript(&self, width: Width, sub: &Sub, locals: &[Local]) -> Result<i128, Failure>
         ensures { Answers (λ (z : ℤ). z)
-            (subscript_value fortran90 (subscript_of sub.now) (store_at self.now locals.now)) result }
+            (subscript_value (fortran90 width) (subscript_of sub.now) (store_at self.now locals.now)) result }
     {
         match sub {
-            Sub::One(expr) => self.number(expr, locals),
+            Sub::One(expr) => self.number(width, expr, locals),
             Sub::Part(..) => Err(Failure::Fault(Fault::Shape)),
         }
     }

@@ -14,7 +14,7 @@ use Rattle.nest.specs.View.{loop_of}
 use Rattle.array_form.specs.forms.Loops as forms
 use Rattle.array_form.specs.forms.Statements.{array_form_of}
 use Rattle.array_form.specs.holds.Statements.{statement_at}
-use Rattle.array_form.specs.holds.Surroundings.{counted, known_trip, surroundings_of}
+use Rattle.array_form.specs.holds.Surroundings.{counted_loop, known_trip, surroundings_of}
 use Rattle.array_form.specs.holds.View.{surroundings_view}
 use Rattle.array_form.specs.declared.holds.loops.Surroundings.{Surroundings}
 use Rattle.array_form.proofs.holds.Asked.{as_many, standing_at}
@@ -38,19 +38,19 @@ module _ (n : Nest) (s level : ℕ) (all : List Standing) (x : Standing) (a : Su
   loops_same : map loop_of x.loops ≡ (statement_at n s).loops
   loops_same = ap (λ (y : bodies.Standing). y.loops) same
 
-  pub places_of : surroundings_view a ≡ surroundings_of n (map loop_of x.loops) → a.loops ≡ map counted (map loop_of x.loops) → HasPlaces a
+  pub places_of : surroundings_view a ≡ surroundings_of n (map loop_of x.loops) → a.loops ≡ map counted_loop (map loop_of x.loops) → HasPlaces a
   places_of v l =
       let few : length (map loop_of x.loops) ≤ 7 = subst (λ (ls : List Loop). length ls ≤ 7) (sym loops_same) h.statement.few_loops in
       has_places a n (map loop_of x.loops) v l few h.symbols
 
-  pub loops_of : a.loops ≡ map counted (map loop_of x.loops) → AreLoopsOf a a.loops
+  pub loops_of : a.loops ≡ map counted_loop (map loop_of x.loops) → AreLoopsOf a a.loops
   loops_of l =
       own_loops a (map loop_of x.loops) l
       (subst (λ (ls : List Loop). All (λ (m : Loop). IsForm (length ls) (known_trip m.trip).top) ls) (sym loops_same) h.trips)
 
-  pub from_within : a.loops ≡ map counted (map loop_of x.loops) → level - 1 ≤ length a.loops
+  pub from_within : a.loops ≡ map counted_loop (map loop_of x.loops) → level - 1 ≤ length a.loops
   from_within l =
-      let size : length a.loops ≡ length (statement_at n s).loops = ap length l ∙ length-map (map loop_of x.loops) counted ∙ ap length loops_same in
+      let size : length a.loops ≡ length (statement_at n s).loops = ap length l ∙ length-map (map loop_of x.loops) counted_loop ∙ ap length loops_same in
       let within = h.within in
       omega arith
 
@@ -61,7 +61,7 @@ module _ (n : Nest) (s level : ℕ) (all : List Standing) (x : Standing) (a : Su
   form_ok (Ok b) mark v m g =
       let one = h.from_one in
       let k : (level - 1) + 1 ≡ level = omega arith in
-      g ∙ ap (λ (w : forms.Surroundings). array_form_of w ((level - 1) + 1) x.stmt.line (Some mark) (option_map expression_of x.stmt.guard) (reference_of x.stmt.left) (expression_of x.stmt.right)) v
+      g ∙ ap (λ (w : forms.FormSurroundings). array_form_of w ((level - 1) + 1) x.stmt.line (Some mark) (option_map expression_of x.stmt.guard) (reference_of x.stmt.left) (expression_of x.stmt.right)) v
       ∙ ap (λ j. array_form_of (surroundings_of n (map loop_of x.loops)) j x.stmt.line (Some mark) (option_map expression_of x.stmt.guard) (reference_of x.stmt.left) (expression_of x.stmt.right)) k
       ∙ ap (λ (q : Mark). array_form_of (surroundings_of n (map loop_of x.loops)) level x.stmt.line (Some q) (option_map expression_of x.stmt.guard) (reference_of x.stmt.left) (expression_of x.stmt.right)) m
       ∙ ap (λ (y : bodies.Standing). array_form_of (surroundings_of n y.loops) level y.statement.line (Some (record { nest = n.number; stmt = s; level = level })) y.statement.guard y.statement.left y.statement.right) same

@@ -16,13 +16,13 @@ use Rattle.tree.specs.declared.exprs.Sub.TheVariants as subs
 use Rattle.tree.specs.declared.exprs.Turn.{Turn}
 use Rattle.tree.proofs.Equations.{expression_of-int, expression_of-truth, expression_of-item, expression_of-un, expression_of-bin, expression_of-call, expression_of-list, expression_of-spread, expression_of-transpose, expression_of-reshape, expression_of-reduce, reference_of-is, subscript_of-one, subscript_of-part}
 use Rattle.meaning.specs.Reads.{names_in}
-use Rattle.array_form.specs.forms.Forms.{constructed, form, forms, placed, subscript_form, subscript_forms}
+use Rattle.array_form.specs.forms.Forms.{constructed, form, forms, placed_expression, subscript_form, subscript_forms}
 use Rattle.array_form.specs.forms.Loops as loops
 use Rattle.array_form.specs.Subscripts.{form_of_subscript, item_form, variable_form}
 
 -- ---- expressions
 
-module _ (a : loops.Surroundings) (D : List loops.Loop) where
+module _ (a : loops.FormSurroundings) (D : List loops.FormLoop) where
   each_form : (es : List Expression) → forms a D (expressions es) ≡ expressions (map (form a D) es)
   each_form [] = refl
   each_form (e ∷ es) = ap (expression (form a D e)) (each_form es)
@@ -78,38 +78,38 @@ module _ (a : loops.Surroundings) (D : List loops.Loop) where
 
   -- ---- references
 
-  pub item_bare : (here : List loops.Loop) (r : Reference) → here ≡ [] → item_form a D here r ≡ Named r.name r.subscripts
+  pub item_bare : (here : List loops.FormLoop) (r : Reference) → here ≡ [] → item_form a D here r ≡ Named r.name r.subscripts
   item_bare here r h = ap (λ ls. item_form a D ls r) h
 
   whole : (r : Ref) → reference_of r ≡ record { name = (out-Ref r).name; subscripts = subscripts (map subscript_of (out-Ref r).subs) }
   whole r = reference_of-is r
 
-  pub item_variable : (here : List loops.Loop) (r : Ref) → (here ≡ [] → ⊥) → (out-Ref r).subs ≡ [] → item_form a D here (reference_of r) ≡ variable_form a D here (reference_of r)
+  pub item_variable : (here : List loops.FormLoop) (r : Ref) → (here ≡ [] → ⊥) → (out-Ref r).subs ≡ [] → item_form a D here (reference_of r) ≡ variable_form a D here (reference_of r)
   item_variable [] r h g = absurd (h refl)
   item_variable (l ∷ ls) r h g =
       let is : reference_of r ≡ record { name = (out-Ref r).name; subscripts = no_subscripts } =
       reference_of-is r ∙ ap (λ (ps : List Sub). let q : Reference = record { name = (out-Ref r).name; subscripts = subscripts (map subscript_of ps) } in q) g in
       ap (item_form a D (l ∷ ls)) is ∙ sym (ap (variable_form a D (l ∷ ls)) is)
 
-  pub item_element : (here : List loops.Loop) (r : Ref) → (here ≡ [] → ⊥) → ((out-Ref r).subs ≡ [] → ⊥)
+  pub item_element : (here : List loops.FormLoop) (r : Ref) → (here ≡ [] → ⊥) → ((out-Ref r).subs ≡ [] → ⊥)
       → item_form a D here (reference_of r)
       ≡ cond (loops.one_each D (subscripts (map subscript_of (out-Ref r).subs)))
-      (placed a D (loops.loops_in_order D (subscripts (map subscript_of (out-Ref r).subs))) (Named (out-Ref r).name (subscript_forms a D (subscripts (map subscript_of (out-Ref r).subs))))
+      (placed_expression a D (loops.loops_in_order D (subscripts (map subscript_of (out-Ref r).subs))) (Named (out-Ref r).name (subscript_forms a D (subscripts (map subscript_of (out-Ref r).subs))))
       (Named (reference_of r).name (reference_of r).subscripts))
-      (constructed (loops.names_of a) D (Named (reference_of r).name (reference_of r).subscripts))
+      (constructed (loops.form_names_of a) D (Named (reference_of r).name (reference_of r).subscripts))
   item_element [] r h g = absurd (h refl)
   item_element (l ∷ ls) r h g =
       let is = reference_of-is r in
       ap (item_form a D (l ∷ ls)) is ∙ by (out-Ref r).subs g
       ∙ ap (λ (q : Reference). cond (loops.one_each D (subscripts (map subscript_of (out-Ref r).subs)))
-      (placed a D (loops.loops_in_order D (subscripts (map subscript_of (out-Ref r).subs))) (Named (out-Ref r).name (subscript_forms a D (subscripts (map subscript_of (out-Ref r).subs)))) (Named q.name q.subscripts))
-      (constructed (loops.names_of a) D (Named q.name q.subscripts))) (sym is)
+      (placed_expression a D (loops.loops_in_order D (subscripts (map subscript_of (out-Ref r).subs))) (Named (out-Ref r).name (subscript_forms a D (subscripts (map subscript_of (out-Ref r).subs)))) (Named q.name q.subscripts))
+      (constructed (loops.form_names_of a) D (Named q.name q.subscripts))) (sym is)
     where
       by : (ps : List Sub) → (ps ≡ [] → ⊥)
           → item_form a D (l ∷ ls) (record { name = (out-Ref r).name; subscripts = subscripts (map subscript_of ps) })
           ≡ cond (loops.one_each D (subscripts (map subscript_of ps)))
-          (placed a D (loops.loops_in_order D (subscripts (map subscript_of ps))) (Named (out-Ref r).name (subscript_forms a D (subscripts (map subscript_of ps)))) (Named (out-Ref r).name (subscripts (map subscript_of ps))))
-          (constructed (loops.names_of a) D (Named (out-Ref r).name (subscripts (map subscript_of ps))))
+          (placed_expression a D (loops.loops_in_order D (subscripts (map subscript_of ps))) (Named (out-Ref r).name (subscript_forms a D (subscripts (map subscript_of ps)))) (Named (out-Ref r).name (subscripts (map subscript_of ps))))
+          (constructed (loops.form_names_of a) D (Named (out-Ref r).name (subscripts (map subscript_of ps))))
       by [] k = absurd (k refl)
       by (p ∷ ps) k = refl
 

@@ -20,10 +20,10 @@ use Rattle.linear_forms.specs.Affines.{IsAffineOf, IsFound}
 use Rattle.linear_forms.specs.Texts.{text_of}
 use Rattle.linear_forms.proofs.AffineTexts.{affine_has_text}
 use Rattle.linear_forms.proofs.Units.{symbol_found, unit_limited}
-use Rattle.array_form.specs.forms.Forms.{sum_text, trip_form}
+use Rattle.array_form.specs.forms.Forms.{sum_text, form_of_trip}
 use Rattle.array_form.specs.forms.Loops as forms
 use Rattle.nest.specs.declared.parts.Trip.{Trip}
-use Rattle.array_form.specs.holds.Surroundings.{form_of_affine, trip_of}
+use Rattle.array_form.specs.holds.Surroundings.{form_of_affine, form_trip_of}
 use Rattle.array_form.specs.holds.View.{loop_names, surroundings_view}
 use Rattle.array_form.specs.declared.holds.loops.Surroundings.{Surroundings}
 use Rattle.array_form.proofs.holds.TripLaws.{names_counted}
@@ -101,7 +101,7 @@ module _ (a : Surroundings) where
   counted = names_counted a.loops
 
   pub coefficient_is : (x : List ℕ) (f : Form) (g : Affine) → length a.loops ≤ 7 → forms.is_among (loop_names a.loops) x ≡ true → IsAffineOf (length a.loops) f g
-      → get_or g.loops (position_or_len (λ y. bytes_eq y x) (loop_names a.loops)) (pos 0) ≡ forms.coefficient (forms.names_of (surroundings_view a)) x f.coefficients
+      → get_or g.loops (position_or_len (λ y. bytes_eq y x) (loop_names a.loops)) (pos 0) ≡ forms.coefficient (forms.form_names_of (surroundings_view a)) x f.coefficients
   coefficient_is x f g few h is =
       let ns = loop_names a.loops in
       let k = place ns x in
@@ -115,7 +115,7 @@ module _ (a : Surroundings) where
       taken (c ∷ cs) (suc n) (suc k) h = taken cs n k (omega arith)
 
   pub without_affine : (x : List ℕ) (f : Form) (g : Affine) → length a.loops ≤ 7 → length g.loops ≡ 7 → forms.is_among (loop_names a.loops) x ≡ true → IsAffineOf (length a.loops) f g
-      → IsAffineOf (length a.loops) (forms.form_without (forms.names_of (surroundings_view a)) x f) (record g { loops = set g.loops (position_or_len (λ y. bytes_eq y x) (loop_names a.loops)) (pos 0) })
+      → IsAffineOf (length a.loops) (forms.form_without (forms.form_names_of (surroundings_view a)) x f) (record g { loops = set g.loops (position_or_len (λ y. bytes_eq y x) (loop_names a.loops)) (pos 0) })
   without_affine x f g few seven h is =
       let ns = loop_names a.loops in
       let e = names_counted a.loops in
@@ -130,25 +130,25 @@ module _ (a : Surroundings) where
 
   -- ---- trips
 
-  names_length : length (forms.names_of (surroundings_view a)) ≡ length a.loops + length a.symbols
+  names_length : length (forms.form_names_of (surroundings_view a)) ≡ length a.loops + length a.symbols
   names_length = ap length (names_are a) ∙ length-append (loop_names a.loops) a.symbols ∙ ap (λ n. n + length a.symbols) (names_counted a.loops)
 
   pub whole_trip : (t : Trip) → length a.loops ≤ 7 → length t.top.loops ≡ 7 → length t.top.syms ≡ 8 → IsForm (length a.loops) t.top → nat_abs t.by ≡ 1
-      → IsAffineOf (length a.loops) (trip_form (forms.names_of (surroundings_view a)) (trip_of (length a.loops) t)) t.top
+      → IsAffineOf (length a.loops) (form_of_trip (forms.form_names_of (surroundings_view a)) (form_trip_of (length a.loops) t)) t.top
   whole_trip t few seven eight h one =
-      subst (λ d. IsAffineOf (length a.loops) (cond (d == 1) (form_of_affine (length a.loops) t.top) (unit_form (length (forms.names_of (surroundings_view a))))) t.top) (sym one)
+      subst (λ d. IsAffineOf (length a.loops) (cond (d == 1) (form_of_affine (length a.loops) t.top) (unit_form (length (forms.form_names_of (surroundings_view a))))) t.top) (sym one)
       (affine_of_form (length a.loops) t.top few seven eight h)
 
   pub divided_trip : (t : Trip) (at : ℕ) → (nat_abs t.by ≡ 1 → ⊥) → at ≡ length a.symbols
-      → IsAffineOf (length a.loops) (trip_form (forms.names_of (surroundings_view a)) (trip_of (length a.loops) t))
+      → IsAffineOf (length a.loops) (form_of_trip (forms.form_names_of (surroundings_view a)) (form_trip_of (length a.loops) t))
       (record { loops = replicate 7 (pos 0); syms = set (replicate 8 (0, pos 0)) 0 (at, pos 1); constant = pos 0 })
   divided_trip t at many same =
       let n = length a.loops in
       let made : Affine = record { loops = replicate 7 (pos 0); syms = set (replicate 8 (0, pos 0)) 0 (at, pos 1); constant = pos 0 } in
       let found : IsFound n (Some (unit_form (n + at))) (Some made) =
       subst (λ b. IsFound n (cond b (Some (unit_form (n + at))) None) (Some made)) (unit_limited n (n + at)) (symbol_found n at) in
-      let place : n + at ≡ length (forms.names_of (surroundings_view a)) = ap (λ m. n + m) same ∙ sym names_length in
-      subst (λ b. IsAffineOf n (cond b (form_of_affine n t.top) (unit_form (length (forms.names_of (surroundings_view a))))) made) (sym (unequal (nat_abs t.by) many))
+      let place : n + at ≡ length (forms.form_names_of (surroundings_view a)) = ap (λ m. n + m) same ∙ sym names_length in
+      subst (λ b. IsAffineOf n (cond b (form_of_affine n t.top) (unit_form (length (forms.form_names_of (surroundings_view a))))) made) (sym (unequal (nat_abs t.by) many))
       (subst (λ m. IsAffineOf n (unit_form m) made) place found)
     where
       unequal : (d : ℕ) → (d ≡ 1 → ⊥) → (d == 1) ≡ false
@@ -164,29 +164,29 @@ module _ (a : Surroundings) where
   text trips g = text_of (loop_names a.loops) a.symbols trips g
 
   formed : (trips : List Expression) (f : Form) (g : Affine) → IsAffineOf (length a.loops) f g
-      → text_of (loop_names a.loops) a.symbols trips g ≡ expressed (variables (forms.names_of (surroundings_view a)) ++ trips) f
+      → text_of (loop_names a.loops) a.symbols trips g ≡ expressed (variables (forms.form_names_of (surroundings_view a)) ++ trips) f
   formed trips f g is =
       affine_has_text (loop_names a.loops) a.symbols trips f g (subst (λ n. IsAffineOf n f g) (sym (names_counted a.loops)) is)
       ∙ ap (λ xs. expressed (variables xs ++ trips) f) (sym (names_are a))
 
   pub sum_some : (trips : List Expression) (first : Expression) (f r : Form) (g : Affine) → IsFound (length a.loops) (limited (length a.loops) (Some (sum f r))) (Some g)
-      → text_of (loop_names a.loops) a.symbols trips g ≡ sum_text (length a.loops) (variables (forms.names_of (surroundings_view a)) ++ trips) first f r
+      → text_of (loop_names a.loops) a.symbols trips g ≡ sum_text (length a.loops) (variables (forms.form_names_of (surroundings_view a)) ++ trips) first f r
   sum_some trips first f r g h = by (is_limited (length a.loops) (sum f r)) h
     where
       by : (b : Bool) → IsFound (length a.loops) (cond b (Some (sum f r)) None) (Some g)
           → text_of (loop_names a.loops) a.symbols trips g
-          ≡ cond b (expressed (variables (forms.names_of (surroundings_view a)) ++ trips) (sum f r)) (Binary Add first (expressed (variables (forms.names_of (surroundings_view a)) ++ trips) r))
+          ≡ cond b (expressed (variables (forms.form_names_of (surroundings_view a)) ++ trips) (sum f r)) (Binary Add first (expressed (variables (forms.form_names_of (surroundings_view a)) ++ trips) r))
       by true h = formed trips (sum f r) g h
       by false h = absurd h
 
   pub sum_none : (trips : List Expression) (first rest : Expression) (f r : Form) (g : Affine) → IsFound (length a.loops) (limited (length a.loops) (Some (sum f r))) None
       → IsAffineOf (length a.loops) r g → rest ≡ text_of (loop_names a.loops) a.symbols trips g
-      → Binary Add first rest ≡ sum_text (length a.loops) (variables (forms.names_of (surroundings_view a)) ++ trips) first f r
+      → Binary Add first rest ≡ sum_text (length a.loops) (variables (forms.form_names_of (surroundings_view a)) ++ trips) first f r
   sum_none trips first rest f r g h is e = by (is_limited (length a.loops) (sum f r)) h
     where
       by : (b : Bool) → IsFound (length a.loops) (cond b (Some (sum f r)) None) None
           → Binary Add first rest
-          ≡ cond b (expressed (variables (forms.names_of (surroundings_view a)) ++ trips) (sum f r)) (Binary Add first (expressed (variables (forms.names_of (surroundings_view a)) ++ trips) r))
+          ≡ cond b (expressed (variables (forms.form_names_of (surroundings_view a)) ++ trips) (sum f r)) (Binary Add first (expressed (variables (forms.form_names_of (surroundings_view a)) ++ trips) r))
       by true h = absurd h
       by false h = ap (Binary Add first) (e ∙ formed trips r g is)
 
@@ -196,7 +196,7 @@ module _ (a : Surroundings) where
   pub some_ok : (trips : List Expr) (first : Expression) (f r : Form) (g : Affine) (names : List (List ℕ)) (given : List Expr) (o : Result Expr Memory)
       → names ≡ loop_names a.loops → given ≡ trips → IsFound (length a.loops) (limited (length a.loops) (Some (sum f r))) (Some g)
       → IfOk o (λ e. expression_of e ≡ text_of names a.symbols (map expression_of given) g)
-      → IfOk o (λ e. expression_of e ≡ sum_text (length a.loops) (variables (forms.names_of (surroundings_view a)) ++ map expression_of trips) first f r)
+      → IfOk o (λ e. expression_of e ≡ sum_text (length a.loops) (variables (forms.form_names_of (surroundings_view a)) ++ map expression_of trips) first f r)
   some_ok trips first f r g names given (Ok e) n t h is =
       is ∙ ap₂ (λ xs (ts : List Expr). text_of xs a.symbols (map expression_of ts) g) n t ∙ sum_some a (map expression_of trips) first f r g h
   some_ok trips first f r g names given (Err m) n t h is = is
@@ -205,7 +205,7 @@ module _ (a : Surroundings) where
       → names ≡ loop_names a.loops → given ≡ trips → IsFound (length a.loops) (limited (length a.loops) (Some (sum f r))) None
       → IsAffineOf (length a.loops) r g → expression_of rest ≡ text_of names a.symbols (map expression_of given) g
       → IfOk o (λ e. expression_of e ≡ Binary Add first (expression_of rest))
-      → IfOk o (λ e. expression_of e ≡ sum_text (length a.loops) (variables (forms.names_of (surroundings_view a)) ++ map expression_of trips) first f r)
+      → IfOk o (λ e. expression_of e ≡ sum_text (length a.loops) (variables (forms.form_names_of (surroundings_view a)) ++ map expression_of trips) first f r)
   none_ok trips first rest f r g names given (Ok e) n t h is w o =
       o ∙ sum_none a (map expression_of trips) first (expression_of rest) f r g h is (w ∙ ap₂ (λ xs (ts : List Expr). text_of xs a.symbols (map expression_of ts) g) n t)
   none_ok trips first rest f r g names given (Err m) n t h is w o = o

@@ -20,10 +20,10 @@ use Rattle.tree.specs.declared.stmts.Stmt.{Stmt}
 use Rattle.tree.proofs.Equations.{block_of-made}
 use Rattle.tree.specs.declared.stmts.Mark.{Mark}
 use Rattle.array_form.specs.forms.Loops as forms
-use Rattle.array_form.specs.forms.Statements.{and_all, array_form_of, guarded_by, guarded_form, loops_from, tests_of}
+use Rattle.array_form.specs.forms.Statements.{and_all, array_form_of, guarded_by, guarded_form, loops_from, form_tests_of}
 use Rattle.array_form.specs.holds.Surroundings.{counted_of}
 use Rattle.array_form.specs.holds.View.{surroundings_view}
-use Rattle.array_form.specs.declared.holds.loops.Counted.{Counted}
+use Rattle.array_form.specs.declared.holds.loops.CountedLoop.{CountedLoop}
 use Rattle.array_form.specs.declared.holds.loops.Surroundings.{Surroundings}
 use Rattle.array_form.specs.Loops.{viewed}
 use Rattle.array_form.specs.Statement.{block_of_one, under_condition}
@@ -56,18 +56,18 @@ module _ (a : Surroundings) where
       let e : (from + 1) - 1 ≡ from = omega arith in
       ap (λ n. drop n (map (counted_of (length a.loops)) a.loops)) e ∙ drop-map (counted_of (length a.loops)) from a.loops
 
-  pub statement_is : (from line : ℕ) (mark : Option Mark) (guard : Option Expression) (left : Reference) (right : Expression) (whole body : Block) (o : Option Expression) (part : List Counted)
+  pub statement_is : (from line : ℕ) (mark : Option Mark) (guard : Option Expression) (left : Reference) (right : Expression) (whole body : Block) (o : Option Expression) (part : List CountedLoop)
       → part ≡ drop from a.loops → whole ≡ under_condition line o body
-      → o ≡ with_tests None (tests_of (forms.names_of (surroundings_view a)) (viewed a part))
+      → o ≡ with_tests None (form_tests_of (forms.form_names_of (surroundings_view a)) (viewed a part))
       → body ≡ block_of_one (guarded_form (surroundings_view a) (from + 1) line mark guard left right)
       → whole ≡ array_form_of (surroundings_view a) (from + 1) line mark guard left right
   statement_is from line mark guard left right whole body o part p w tests b =
-      w ∙ ap₂ (under_condition line) (tests ∙ ap (λ ls. with_tests None (tests_of (forms.names_of (surroundings_view a)) (viewed a ls))) p ∙ ap (λ ls. with_tests None (tests_of (forms.names_of (surroundings_view a)) ls)) (sym (from_place from))) b
-      ∙ sym (guarded_is line (tests_of (forms.names_of (surroundings_view a)) (loops_from (surroundings_view a) (from + 1))) (block_of_one (guarded_form (surroundings_view a) (from + 1) line mark guard left right)))
+      w ∙ ap₂ (under_condition line) (tests ∙ ap (λ ls. with_tests None (form_tests_of (forms.form_names_of (surroundings_view a)) (viewed a ls))) p ∙ ap (λ ls. with_tests None (form_tests_of (forms.form_names_of (surroundings_view a)) ls)) (sym (from_place from))) b
+      ∙ sym (guarded_is line (form_tests_of (forms.form_names_of (surroundings_view a)) (loops_from (surroundings_view a) (from + 1))) (block_of_one (guarded_form (surroundings_view a) (from + 1) line mark guard left right)))
 
-pub statement_ok : (a : Surroundings) (from line : ℕ) (mark : Option Mark) (guard : Option Expression) (left : Reference) (right : Expression) (r : Result Block' Memory) (body : Block) (condition : Option Expr) (part : List Counted)
+pub statement_ok : (a : Surroundings) (from line : ℕ) (mark : Option Mark) (guard : Option Expression) (left : Reference) (right : Expression) (r : Result Block' Memory) (body : Block) (condition : Option Expr) (part : List CountedLoop)
     → part ≡ drop from a.loops → IfOk r (λ b. block_of b ≡ under_condition line (option_map expression_of condition) body)
-    → option_map expression_of condition ≡ with_tests None (tests_of (forms.names_of (surroundings_view a)) (viewed a part))
+    → option_map expression_of condition ≡ with_tests None (form_tests_of (forms.form_names_of (surroundings_view a)) (viewed a part))
     → body ≡ block_of_one (guarded_form (surroundings_view a) (from + 1) line mark guard left right)
     → IfOk r (λ b. block_of b ≡ array_form_of (surroundings_view a) (from + 1) line mark guard left right)
 statement_ok a from line mark guard left right (Ok b) body condition part p w tests e =

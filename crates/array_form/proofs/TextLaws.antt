@@ -30,12 +30,12 @@ use Rattle.array_form.proofs.AffineLaws.{affine_of_form}
 
 pub ruleset number_laws = (constant_alone, constant_negative, expression_of-un)
 
-pub names_are : (a : Surroundings) → forms.names_of (surroundings_view a) ≡ loop_names a.loops ++ a.symbols
+pub names_are : (a : Surroundings) → forms.form_names_of (surroundings_view a) ≡ loop_names a.loops ++ a.symbols
 names_are a = ap (λ xs. xs ++ a.symbols) (names_viewed (length a.loops) a.loops)
 
 -- the text of the trip's form
 pub whole_text : (a : Surroundings) (top : Affine) → length a.loops ≤ 7 → length top.loops ≡ 7 → length top.syms ≡ 8 → IsForm (length a.loops) top
-    → text_of (loop_names a.loops) a.symbols [] top ≡ expressed (variables (forms.names_of (surroundings_view a))) (form_of_affine (length a.loops) top)
+    → text_of (loop_names a.loops) a.symbols [] top ≡ expressed (variables (forms.form_names_of (surroundings_view a))) (form_of_affine (length a.loops) top)
 whole_text a top few seven eight h =
     let n = names_counted a.loops in
     let affine = affine_of_form (length a.loops) top few seven eight h in

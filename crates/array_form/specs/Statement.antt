@@ -1,12 +1,11 @@
 -- The array form of a statement of a nest.
 use Rattle.std.specs.Prelude.{ℕ, ◌≤◌, ◌<◌, ◌^◌, All, Option, Some, None, List, length}
-use Rattle.tree.specs.Plain.{Expression, Reference, Statement, Where, If, no_arms, arm, Block, no_statements}
-use Rattle.tree.specs.Plain.{statement}
+use Rattle.tree.specs.Plain.{Expression, Reference, Statement, Where, If, no_arms, arm, Block, no_statements, statement}
 use Rattle.tree.specs.declared.stmts.Mark.{Mark}
 use Rattle.subscripts.specs.Shapes.{IsForm}
 use Rattle.nest.specs.Plain.{Nest}
 use Rattle.array_form.specs.forms.Forms.{form, subscript_forms}
-use Rattle.array_form.specs.forms.Loops.{Loop, Surroundings}
+use Rattle.array_form.specs.forms.Loops.{FormLoop, FormSurroundings}
 use Rattle.array_form.specs.forms.Statements.{array_form_of}
 use Rattle.array_form.specs.holds.Statements.{statement_at, surroundings_at}
 use Rattle.array_form.specs.holds.Plain.{IsPlainStatement}
@@ -37,7 +36,8 @@ under_condition line None body = body
 under_condition line (Some e) body = block_of_one (If line (arm e body no_arms) no_statements)
 
 -- a WHERE over these loops
-abbrev pub masked_over : Surroundings → List Loop → ℕ → Option Mark → Expression → Reference → Expression → Statement
+abbrev pub masked_over : FormSurroundings → List FormLoop → ℕ → Option Mark → Expression → Reference → Expression
+    → Statement
 masked_over a D line mark guard left right =
     Where line mark (form a D guard)
     (record { name = left.name; subscripts = subscript_forms a D left.subscripts }) (form a D right)

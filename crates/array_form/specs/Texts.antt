@@ -4,33 +4,33 @@ use Rattle.tree.specs.Plain.{Expression, Number, Binary}
 use Rattle.tree.specs.View.{ConstructorLoop}
 use Rattle.tree.specs.declared.ops.Op.TheVariants.{And}
 use Rattle.linear_forms.specs.Linear.{Form}
-use Rattle.array_form.specs.forms.Forms.{trip_text, lower_text, upper_text}
-use Rattle.array_form.specs.forms.Loops.{names_of}
+use Rattle.array_form.specs.forms.Forms.{form_trip_text, lower_text, upper_text}
+use Rattle.array_form.specs.forms.Loops.{form_names_of}
 use Rattle.nest.specs.declared.parts.Trip.{Trip}
-use Rattle.array_form.specs.holds.Surroundings.{counted_of, trip_of}
+use Rattle.array_form.specs.holds.Surroundings.{counted_of, form_trip_of}
 use Rattle.array_form.specs.holds.View.{surroundings_view}
-use Rattle.array_form.specs.declared.holds.loops.Counted.{Counted}
+use Rattle.array_form.specs.declared.holds.loops.CountedLoop.{CountedLoop}
 use Rattle.array_form.specs.declared.holds.loops.Surroundings.{Surroundings}
 
 abbrev pub text_of_trip : Surroundings → Trip → Expression
-text_of_trip a t = trip_text (names_of (surroundings_view a)) (trip_of (length a.loops) t)
+text_of_trip a t = form_trip_text (form_names_of (surroundings_view a)) (form_trip_of (length a.loops) t)
 
 -- the loop of a constructor
-abbrev pub turn_over : Surroundings → Counted → ConstructorLoop
+abbrev pub turn_over : Surroundings → CountedLoop → ConstructorLoop
 turn_over a l = record { variable = l.var; first = Number (pos 1); last = text_of_trip a l.trip }
 
-abbrev pub extent_over : Surroundings → Counted → Expression
+abbrev pub extent_over : Surroundings → CountedLoop → Expression
 extent_over a l = text_of_trip a l.trip
 
 -- ---- bounds of a section
 
-abbrev pub lower_of : Surroundings → Counted → ℤ → Form → Expression
+abbrev pub lower_of : Surroundings → CountedLoop → ℤ → Form → Expression
 lower_of a l z r =
-    lower_text (length a.loops) (names_of (surroundings_view a)) (counted_of (length a.loops) l) z r
+    lower_text (length a.loops) (form_names_of (surroundings_view a)) (counted_of (length a.loops) l) z r
 
-abbrev pub upper_of : Surroundings → Counted → ℤ → Form → Expression
+abbrev pub upper_of : Surroundings → CountedLoop → ℤ → Form → Expression
 upper_of a l z r =
-    upper_text (length a.loops) (names_of (surroundings_view a)) (counted_of (length a.loops) l) z r
+    upper_text (length a.loops) (form_names_of (surroundings_view a)) (counted_of (length a.loops) l) z r
 
 -- ---- conditions
 

@@ -4,20 +4,20 @@ ghost use Rattle.std.specs.Option.{option_map};
 ghost use Rattle.tree.specs.Plain.{Binary, Number};
 ghost use Rattle.tree.specs.View.{expression_of};
 ghost use Rattle.tree.specs.declared.ops.Op.TheVariants.{Ge};
-ghost use Rattle.array_form.specs.forms.Loops.{names_of};
-ghost use Rattle.array_form.specs.forms.Statements.{tests_of};
+ghost use Rattle.array_form.specs.forms.Loops.{form_names_of};
+ghost use Rattle.array_form.specs.forms.Statements.{form_tests_of};
 ghost use Rattle.array_form.specs.holds.View.{surroundings_view};
 ghost use Rattle.array_form.specs.Loops.{AreLoopsOf, HasPlaces, IsLoopOf, viewed};
 ghost use Rattle.array_form.specs.Texts.{and_also, extent_over, with_tests};
 
-use crate::holds::{Counted, Surroundings};
+use crate::holds::{CountedLoop, Surroundings};
 use crate::trips::{is_positive_constant, trip_text, two};
 use std::alloc::Global;
 use tree::{Expr, Memory, Op};
 
 // The trip is at least 1.
 #[tactic(auto, using(tree::proofs::Equations::expression_equations))]
-fn test_of(alloc: Global, a: &Surroundings, turns: &Counted) -> Result<Expr, Memory>
+fn test_of(alloc: Global, a: &Surroundings, turns: &CountedLoop) -> Result<Expr, Memory>
     requires places { HasPlaces a.now }
     requires turns { IsLoopOf a.now turns.now }
     ensures { IfOk result (λ e. expression_of e ≡ Binary Ge (extent_over a.now turns.now) (Number (pos 1))) }
@@ -42,12 +42,12 @@ pub fn with_tests(
     alloc: Global,
     a: &Surroundings,
     so_far: Option<Expr>,
-    loops: &[Counted],
+    loops: &[CountedLoop],
 ) -> Result<Option<Expr>, Memory>
     requires places { HasPlaces a.now }
     requires loops { AreLoopsOf a.now loops.now }
     ensures { IfOk result (λ o. option_map expression_of o ≡ with_tests (option_map expression_of so_far)
-        (tests_of (names_of (surroundings_view a.now)) (viewed a.now loops.now))) }
+        (form_tests_of (form_names_of (surroundings_view a.now)) (viewed a.now loops.now))) }
 {
     let Some((first, rest)) = loops.split_first() else {
         return Ok(so_far);

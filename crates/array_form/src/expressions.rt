@@ -10,7 +10,7 @@ ghost use Rattle.array_form.specs.Loops.{AreLoopsOf, HasPlaces, viewed};
 ghost use Rattle.array_form.specs.Subscripts.{form_of_subscript, item_form, section_or, variable_form};
 
 use crate::constructors::constructed;
-use crate::holds::{Counted, Surroundings, loop_names};
+use crate::holds::{CountedLoop, Surroundings, loop_names};
 use crate::loops_in_text::{loops_in_order, one_each, standing_in};
 use crate::placing::placed;
 use crate::section_bounds::section;
@@ -34,7 +34,7 @@ fn form_of(alloc: Global, a: &Surroundings, expr: &Expr) -> Result<Option<Affine
 fn section_or(
     alloc: Global,
     a: &Surroundings,
-    here: &[Counted],
+    here: &[CountedLoop],
     expr: &Expr,
 ) -> Result<Option<Sub>, Memory>
     requires places { HasPlaces a.now }
@@ -55,8 +55,8 @@ fn section_or(
 fn variable_form(
     alloc: Global,
     a: &Surroundings,
-    over: &[Counted],
-    here: &[Counted],
+    over: &[CountedLoop],
+    here: &[CountedLoop],
     item: &Ref,
 ) -> Result<Expr, Memory>
     requires places { HasPlaces a.now }
@@ -71,7 +71,12 @@ fn variable_form(
 
 #[cycle(form)]
 #[tactic(auto, using(crate::proofs::FormLaws::form_laws))]
-pub fn form(alloc: Global, a: &Surroundings, over: &[Counted], expr: &Expr) -> Result<Expr, Memory>
+pub fn form(
+    alloc: Global,
+    a: &Surroundings,
+    over: &[CountedLoop],
+    expr: &Expr,
+) -> Result<Expr, Memory>
     requires places { HasPlaces a.now }
     requires over { AreLoopsOf a.now over.now }
     ensures { IfOk result (λ e. expression_of e
@@ -104,7 +109,7 @@ pub fn form(alloc: Global, a: &Surroundings, over: &[Counted], expr: &Expr) -> R
 fn boxed_form(
     alloc: Global,
     a: &Surroundings,
-    over: &[Counted],
+    over: &[CountedLoop],
     expr: &Expr,
 ) -> Result<Box<Expr>, Memory>
     requires places { HasPlaces a.now }
@@ -120,7 +125,7 @@ fn boxed_form(
 fn forms(
     alloc: Global,
     a: &Surroundings,
-    over: &[Counted],
+    over: &[CountedLoop],
     exprs: &Seq<Expr>,
 ) -> Result<Seq<Expr>, Memory>
     requires places { HasPlaces a.now }
@@ -141,8 +146,8 @@ fn forms(
 fn item_form(
     alloc: Global,
     a: &Surroundings,
-    over: &[Counted],
-    here: &[Counted],
+    over: &[CountedLoop],
+    here: &[CountedLoop],
     item: &Ref,
 ) -> Result<Expr, Memory>
     requires places { HasPlaces a.now }
@@ -174,7 +179,7 @@ fn item_form(
 pub fn subscript_forms(
     alloc: Global,
     a: &Surroundings,
-    over: &[Counted],
+    over: &[CountedLoop],
     subs: &Seq<Sub>,
 ) -> Result<Seq<Sub>, Memory>
     requires places { HasPlaces a.now }
@@ -194,7 +199,7 @@ pub fn subscript_forms(
 fn subscript_form(
     alloc: Global,
     a: &Surroundings,
-    over: &[Counted],
+    over: &[CountedLoop],
     sub: &Sub,
 ) -> Result<Sub, Memory>
     requires places { HasPlaces a.now }

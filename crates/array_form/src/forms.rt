@@ -41,6 +41,7 @@
 //! is no fault.
 ghost use Rattle.array_form.specs.forms.Guarded.{FormHasValuesOrFaults, GuardedFormStoresInstances};
 ghost use Rattle.array_form.specs.forms.Laws.{ArrayFormStoresInstances, FormHasInstanceValues, InstancesHaveOwnCells};
+ghost use Rattle.tree.specs.declared.width.Width.{Width};
 
 /// The form of a regular expression has at each position the value of the expression in the instance of that position.
 pub fn form_values()
@@ -50,7 +51,7 @@ pub fn form_values()
 /// The array form of an assignment with such a right side leaves the store that its instances leave one after another,
 /// where none of its instances reads a cell that an earlier one has written.
 pub fn array_form_stores()
-    ensures { ArrayFormStoresInstances }
+    ensures { (width : Width) → ArrayFormStoresInstances width }
 {}
 
 /// Different instances of an assignment whose array form no loop forbids store in different cells.
@@ -62,5 +63,5 @@ pub fn instances_apart()
 /// where the references name cells in all instances, whatever the guard is there, and else an assignment in an IF.
 pub fn guarded_form_stores()
     ensures values { FormHasValuesOrFaults }
-    ensures stores { GuardedFormStoresInstances }
+    ensures stores { (width : Width) → GuardedFormStoresInstances width }
 {}

@@ -37,6 +37,6 @@ mod plain;
 mod triangles;
 
 pub use levels::{all_holds, holds};
-pub use loops::{Counted, Surroundings, loop_names, surroundings_of};
+pub use loops::{CountedLoop, Surroundings, loop_names, surroundings_of};
 pub use loops_standing::{loops_in, loops_in_sub, stand_in};
 pub use plain::{is_plain_nest, is_plain_statement};

@@ -9,12 +9,12 @@ ghost use Rattle.tree.specs.View.{expression_of, subscript_of};
 ghost use Rattle.array_form.specs.holds.View.{loop_names};
 ghost use Rattle.array_form.specs.Loops.{has_one, has_parts, in_order, is_exchanged, standing_in};
 
-use crate::holds::Counted;
+use crate::holds::CountedLoop;
 use nest::statement_loops::{stands_in, stands_in_sub};
 use std::alloc::Global;
 use tree::{Expr, Memory, Name, Seq, Sub};
 
-fn push_if(those: &mut Seq<Counted>, turns: Counted, stands: bool) -> Result<(), Memory>
+fn push_if(those: &mut Seq<CountedLoop>, turns: CountedLoop, stands: bool) -> Result<(), Memory>
     ensures { OnOk result (those.new ≡ those.old ++ (if stands then turns ∷ [] else [])) }
 {
     if stands {
@@ -25,7 +25,11 @@ fn push_if(those: &mut Seq<Counted>, turns: Counted, stands: bool) -> Result<(),
 
 /// Those of the loops whose variables stand in the expression.
 #[tactic(auto, using(crate::proofs::LoopLaws::standing_laws))]
-pub fn standing_in(alloc: Global, loops: &[Counted], expr: &Expr) -> Result<Seq<Counted>, Memory>
+pub fn standing_in(
+    alloc: Global,
+    loops: &[CountedLoop],
+    expr: &Expr,
+) -> Result<Seq<CountedLoop>, Memory>
     ensures { IfOk result (λ those. those ≡ standing_in loops.now (names_in (expression_of expr.now))) }
 {
     let mut those = Seq::new(alloc);
@@ -36,7 +40,11 @@ pub fn standing_in(alloc: Global, loops: &[Counted], expr: &Expr) -> Result<Seq<
 }
 
 #[tactic(auto, using(crate::proofs::LoopLaws::standing_laws))]
-fn standing_in_sub(alloc: Global, loops: &[Counted], sub: &Sub) -> Result<Seq<Counted>, Memory>
+fn standing_in_sub(
+    alloc: Global,
+    loops: &[CountedLoop],
+    sub: &Sub,
+) -> Result<Seq<CountedLoop>, Memory>
     ensures { IfOk result (λ those. those ≡ standing_in loops.now (names_in_subscript (subscript_of sub.now))) }
 {
     let mut those = Seq::new(alloc);
@@ -46,7 +54,7 @@ fn standing_in_sub(alloc: Global, loops: &[Counted], sub: &Sub) -> Result<Seq<Co
     Ok(those)
 }
 
-fn push_all(those: &mut Seq<Counted>, more: &[Counted]) -> Result<(), Memory>
+fn push_all(those: &mut Seq<CountedLoop>, more: &[CountedLoop]) -> Result<(), Memory>
     ensures { OnOk result (those.new ≡ those.old ++ more.now) }
 {
     for turns in more {
@@ -58,9 +66,9 @@ fn push_all(those: &mut Seq<Counted>, more: &[Counted]) -> Result<(), Memory>
 /// The loops that stand in subscripts, in the order of these.
 pub fn loops_in_order(
     alloc: Global,
-    loops: &[Counted],
+    loops: &[CountedLoop],
     subs: &Seq<Sub>,
-) -> Result<Seq<Counted>, Memory>
+) -> Result<Seq<CountedLoop>, Memory>
     ensures { IfOk result (λ those. those ≡ in_order loops.now (map subscript_of subs.now)) }
 {
     let mut those = Seq::new(alloc);
@@ -72,7 +80,7 @@ pub fn loops_in_order(
 }
 
 /// Whether each subscript has one of the loops at most.
-pub fn one_each(alloc: Global, loops: &[Counted], subs: &Seq<Sub>) -> Result<bool, Memory>
+pub fn one_each(alloc: Global, loops: &[CountedLoop], subs: &Seq<Sub>) -> Result<bool, Memory>
     ensures { IfOk result (λ b. b ≡ list_all (has_one loops.now) (map subscript_of subs.now)) }
 {
     for sub in subs.as_slice() {
@@ -85,7 +93,7 @@ pub fn one_each(alloc: Global, loops: &[Counted], subs: &Seq<Sub>) -> Result<boo
 }
 
 /// Whether a loop with this variable is among them.
-pub fn has_loop(loops: &[Counted], name: Name) -> bool
+pub fn has_loop(loops: &[CountedLoop], name: Name) -> bool
     ensures { result ≡ is_among (loop_names loops.now) name }
 {
     let Some((first, rest)) = loops.split_first() else {
@@ -95,7 +103,7 @@ pub fn has_loop(loops: &[Counted], name: Name) -> bool
 }
 
 /// The place of the loop with this variable, or the number of loops where there is none.
-pub fn place_of(loops: &[Counted], name: Name) -> usize
+pub fn place_of(loops: &[CountedLoop], name: Name) -> usize
     ensures place { result ≡ position_or_len (λ x. bytes_eq x name) (loop_names loops.now) }
     ensures within { result ≤ length loops.now }
 {
@@ -109,7 +117,7 @@ pub fn place_of(loops: &[Counted], name: Name) -> usize
 }
 
 /// Whether these are the same loops in the same order.
-pub fn same_loops(loops: &[Counted], others: &[Counted]) -> bool
+pub fn same_loops(loops: &[CountedLoop], others: &[CountedLoop]) -> bool
     ensures { result ≡ pointwise bytes_eq (loop_names loops.now) (loop_names others.now) }
 {
     let Some((first, loops)) = loops.split_first() else {
@@ -121,7 +129,11 @@ pub fn same_loops(loops: &[Counted], others: &[Counted]) -> bool
     first.var == other.var && same_loops(loops, others)
 }
 
-fn those_among(alloc: Global, loops: &[Counted], here: &[Counted]) -> Result<Seq<Counted>, Memory>
+fn those_among(
+    alloc: Global,
+    loops: &[CountedLoop],
+    here: &[CountedLoop],
+) -> Result<Seq<CountedLoop>, Memory>
     ensures { IfOk result (λ those. those ≡ standing_in loops.now (loop_names here.now)) }
 {
     let mut those = Seq::new(alloc);
@@ -132,7 +144,7 @@ fn those_among(alloc: Global, loops: &[Counted], here: &[Counted]) -> Result<Seq
 }
 
 /// Whether these are the loops but for some that are left out, in the same order.
-pub fn are_part(alloc: Global, loops: &[Counted], here: &[Counted]) -> Result<bool, Memory>
+pub fn are_part(alloc: Global, loops: &[CountedLoop], here: &[CountedLoop]) -> Result<bool, Memory>
     ensures { IfOk result (λ b. b ≡ has_parts loops.now here.now) }
 {
     let those = those_among(alloc, loops, here)?;
@@ -140,7 +152,7 @@ pub fn are_part(alloc: Global, loops: &[Counted], here: &[Counted]) -> Result<bo
 }
 
 /// Whether these are two loops in the other order.
-pub fn are_exchanged(loops: &[Counted], here: &[Counted]) -> bool
+pub fn are_exchanged(loops: &[CountedLoop], here: &[CountedLoop]) -> bool
     ensures { result ≡ is_exchanged loops.now here.now }
 {
     let Some((first, rest)) = loops.split_first() else {

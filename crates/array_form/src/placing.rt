@@ -2,14 +2,14 @@
 ghost use Rattle.std.specs.Prelude.{◌≡◌, ◌+◌, ◌<◌, ◌^◌, ◌&&◌, if◌then◌else◌, IfOk, length};
 ghost use Rattle.tree.specs.Plain.{Named, Spread};
 ghost use Rattle.tree.specs.View.{expression_of, reference_of};
-ghost use Rattle.array_form.specs.forms.Forms.{placed, spread_over};
-ghost use Rattle.array_form.specs.forms.Loops.{is_among, names_of};
+ghost use Rattle.array_form.specs.forms.Forms.{placed_expression, spread_over};
+ghost use Rattle.array_form.specs.forms.Loops.{is_among, form_names_of};
 ghost use Rattle.array_form.specs.holds.View.{loop_names, surroundings_view};
 ghost use Rattle.array_form.specs.Loops.{AreLoopsOf, HasPlaces, IsLoopOf, has_parts, viewed};
 ghost use Rattle.array_form.specs.Texts.{extent_over};
 
 use crate::constructors::constructed;
-use crate::holds::{Counted, Surroundings};
+use crate::holds::{CountedLoop, Surroundings};
 use crate::loops_in_text::{are_exchanged, are_part, has_loop, same_loops};
 use crate::trips::trip_text;
 use nest::copy_ref;
@@ -21,9 +21,9 @@ use tree::{Expr, Memory, Ref};
 fn spread_one(
     alloc: Global,
     a: &Surroundings,
-    here: &[Counted],
+    here: &[CountedLoop],
     place: usize,
-    turns: &Counted,
+    turns: &CountedLoop,
     expr: Expr,
 ) -> Result<Expr, Memory>
     requires places { HasPlaces a.now }
@@ -44,15 +44,15 @@ fn spread_one(
 fn spread_over(
     alloc: Global,
     a: &Surroundings,
-    here: &[Counted],
+    here: &[CountedLoop],
     place: usize,
-    over: &[Counted],
+    over: &[CountedLoop],
     expr: Expr,
 ) -> Result<Expr, Memory>
     requires places { HasPlaces a.now }
     requires over { AreLoopsOf a.now over.now }
     requires room { place + length over.now < 2 ^ 64 }
-    ensures { IfOk result (λ e. expression_of e ≡ spread_over (names_of (surroundings_view a.now))
+    ensures { IfOk result (λ e. expression_of e ≡ spread_over (form_names_of (surroundings_view a.now))
         (viewed a.now here.now) place (viewed a.now over.now) (expression_of expr)) }
 {
     let Some((first, rest)) = over.split_first() else {
@@ -66,8 +66,8 @@ fn spread_over(
 fn may_widen(
     alloc: Global,
     a: &Surroundings,
-    over: &[Counted],
-    here: &[Counted],
+    over: &[CountedLoop],
+    here: &[CountedLoop],
 ) -> Result<bool, Memory>
     ensures { IfOk result (λ b. b ≡ (a.now.may_spread && has_parts over.now here.now)) }
 {
@@ -82,14 +82,14 @@ fn may_widen(
 pub fn placed(
     alloc: Global,
     a: &Surroundings,
-    over: &[Counted],
-    here: &[Counted],
+    over: &[CountedLoop],
+    here: &[CountedLoop],
     plain: Expr,
     item: &Ref,
 ) -> Result<Expr, Memory>
     requires places { HasPlaces a.now }
     requires over { AreLoopsOf a.now over.now }
-    ensures { IfOk result (λ e. expression_of e ≡ placed (surroundings_view a.now) (viewed a.now over.now)
+    ensures { IfOk result (λ e. expression_of e ≡ placed_expression (surroundings_view a.now) (viewed a.now over.now)
         (viewed a.now here.now) (expression_of plain)
         (Named (reference_of item.now).name (reference_of item.now).subscripts)) }
 {

@@ -5,14 +5,14 @@ ghost use Rattle.subscripts.specs.Shapes.{IsForm};
 ghost use Rattle.linear_forms.specs.Expressed.{variables};
 ghost use Rattle.linear_forms.specs.Linear.{Form, constant_form, limited, multiple, sum};
 ghost use Rattle.linear_forms.specs.Affines.{IsAffineOf, IsFound};
-ghost use Rattle.array_form.specs.forms.Forms.{section, sum_text, trip_form};
-ghost use Rattle.array_form.specs.forms.Loops.{names_of};
-ghost use Rattle.array_form.specs.holds.Surroundings.{counted_of, trip_of};
+ghost use Rattle.array_form.specs.forms.Forms.{section, sum_text, form_of_trip};
+ghost use Rattle.array_form.specs.forms.Loops.{form_names_of};
+ghost use Rattle.array_form.specs.holds.Surroundings.{counted_of, form_trip_of};
 ghost use Rattle.array_form.specs.holds.View.{surroundings_view};
 ghost use Rattle.array_form.specs.Loops.{HasPlaces, IsLoopOf};
 ghost use Rattle.array_form.specs.Texts.{lower_of, upper_of};
 
-use crate::holds::{Counted, Surroundings, loop_names};
+use crate::holds::{CountedLoop, Surroundings, loop_names};
 use crate::loops_in_text::place_of;
 use crate::trips::{number_text, trip_text, two};
 use linear_forms::{combined, express};
@@ -45,8 +45,8 @@ fn without(form: &Affine, place: usize) -> Affine
 fn trip_form(a: &Surroundings, trip: Trip) -> Affine
     requires places { HasPlaces a.now }
     requires trip { IsForm (length a.now.loops) trip.top }
-    ensures { IsAffineOf (length a.now.loops) (trip_form (names_of (surroundings_view a.now))
-        (trip_of (length a.now.loops) trip)) result }
+    ensures { IsAffineOf (length a.now.loops) (form_of_trip (form_names_of (surroundings_view a.now))
+        (form_trip_of (length a.now.loops) trip)) result }
 {
     if trip.by.unsigned_abs() == 1 {
         return trip.top;
@@ -73,7 +73,8 @@ fn sum_text(
     ensures { (f r : Form) → IsFound (length a.now.loops) (limited (length a.now.loops) (Some (sum f r))) whole
         → IsAffineOf (length a.now.loops) r rest.now
         → IfOk result (λ e. expression_of e ≡ sum_text (length a.now.loops)
-        (variables (names_of (surroundings_view a.now)) ++ map expression_of trips.now) (expression_of first) f r) }
+        (variables (form_names_of (surroundings_view a.now)) ++ map expression_of trips.now)
+        (expression_of first) f r) }
 {
     let names = loop_names(alloc, a.loops.as_slice())?;
     match whole {
@@ -89,7 +90,7 @@ fn sum_text(
 fn lower_text(
     alloc: Global,
     a: &Surroundings,
-    turns: &Counted,
+    turns: &CountedLoop,
     times: i64,
     rest: &Affine,
 ) -> Result<Expr, Memory>
@@ -108,7 +109,7 @@ fn lower_text(
 fn upper_text(
     alloc: Global,
     a: &Surroundings,
-    turns: &Counted,
+    turns: &CountedLoop,
     times: i64,
     rest: &Affine,
 ) -> Result<Expr, Memory>
@@ -129,7 +130,7 @@ fn upper_text(
 pub fn section(
     alloc: Global,
     a: &Surroundings,
-    turns: &Counted,
+    turns: &CountedLoop,
     form: &Affine,
 ) -> Result<Sub, Memory>
     requires places { HasPlaces a.now }

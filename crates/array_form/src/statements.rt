@@ -10,7 +10,7 @@ ghost use Rattle.array_form.specs.Statement.{HasArrayForm, array_form_at, block_
 
 use crate::conditions::with_tests;
 use crate::expressions::{form, subscript_forms};
-use crate::holds::{Counted, Surroundings, stand_in, surroundings_of};
+use crate::holds::{CountedLoop, Surroundings, stand_in, surroundings_of};
 use crate::loops_in_text::loops_in_order;
 use nest::statement_loops::statements_of;
 use nest::{GuardedStmt, Nest};
@@ -81,7 +81,7 @@ fn formed_assignment(
 fn masked_assignment(
     alloc: Global,
     a: &Surroundings,
-    over: &[Counted],
+    over: &[CountedLoop],
     mark: Mark,
     stmt: &GuardedStmt,
     guard: &Expr,

@@ -8,7 +8,7 @@ ghost use Rattle.subscripts.specs.Shapes.{IsForm};
 ghost use Rattle.linear_forms.specs.Linear.{not_zero};
 ghost use Rattle.array_form.specs.forms.Forms.{divided_text, number_text};
 ghost use Rattle.array_form.specs.forms.Loops.{is_positive_constant};
-ghost use Rattle.array_form.specs.holds.Surroundings.{coefficients_from, form_of_affine, trip_of};
+ghost use Rattle.array_form.specs.holds.Surroundings.{coefficients_from, form_of_affine, form_trip_of};
 ghost use Rattle.array_form.specs.Texts.{text_of_trip};
 
 use crate::holds::{Surroundings, loop_names};
@@ -95,7 +95,7 @@ fn is_constant(form: &Affine) -> bool
 
 /// Whether it is a constant of at least 1.
 pub fn is_positive_constant(trip: Trip) -> bool
-    ensures { (n : ℕ) → n ≤ 7 → IsForm n trip.top → result ≡ is_positive_constant (trip_of n trip) }
+    ensures { (n : ℕ) → n ≤ 7 → IsForm n trip.top → result ≡ is_positive_constant (form_trip_of n trip) }
 {
     trip.by.unsigned_abs() == 1 && is_constant(&trip.top) && trip.top.constant >= 1
 }

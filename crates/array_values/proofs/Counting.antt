@@ -8,7 +8,7 @@ use Rattle.std.proofs.lemmas.List.{at_drop_more, at_drop_all}
 use Rattle.tree.specs.declared.ops.Fault.{Fault}
 use Rattle.tree.specs.declared.ops.Fault.TheVariants.{Bounds}
 use Rattle.meaning.specs.Store.{size_of}
-use Rattle.meaning.specs.Sections.{Axis, Along, not_negative, steps_from, triplet_numbers, stands_in, all_stand_in, along}
+use Rattle.meaning.specs.Sections.{Axis, Along, not_negative, steps_from, triplet_numbers, is_within_bounds, all_stand_in, along}
 use Rattle.array_values.specs.Counts.{behind, strides, CountsAlong}
 use Rattle.array_values.specs.Selections.{goes_on}
 use Rattle.array_values.proofs.Triplets.{one_more, numbers_past}
@@ -40,13 +40,13 @@ numbers_are l u (negsuc n) h e = (let m : u ≤ℤ l = grind (arith, ints) in nu
 
 -- ---- where they stand
 
-inside : (b : ℤ × ℤ) (z : ℤ) → b.0 ≤ℤ z → z ≤ℤ b.1 → stands_in b z ≡ true
+inside : (b : ℤ × ℤ) (z : ℤ) → b.0 ≤ℤ z → z ≤ℤ b.1 → is_within_bounds b z ≡ true
 inside b z l m = grind (arith, ints)
 
-above : (b : ℤ × ℤ) (z : ℤ) → stands_in b z ≡ true → b.0 ≤ℤ z
+above : (b : ℤ × ℤ) (z : ℤ) → is_within_bounds b z ≡ true → b.0 ≤ℤ z
 above b z e = grind (arith, ints)
 
-below : (b : ℤ × ℤ) (z : ℤ) → stands_in b z ≡ true → z ≤ℤ b.1
+below : (b : ℤ × ℤ) (z : ℤ) → is_within_bounds b z ≡ true → z ≤ℤ b.1
 below b z e = grind (arith, ints)
 
 up_past : (z : ℤ) (n k : ℕ) → (z +ℤ pos k) ≤ℤ behind z (pos (suc n)) k
@@ -57,7 +57,7 @@ down_past : (z : ℤ) (n k : ℕ) → (behind z (negsuc n) k +ℤ pos k) ≤ℤ 
 down_past z n zero = omega (arith, ints)
 down_past z n (suc k) = (let r = down_past (z +ℤ negsuc n) n k in omega (arith, ints))
 
-next_stands : (b : ℤ × ℤ) (z s : ℤ) (k : ℕ) → (s ≡ pos 0 → ⊥) → stands_in b z ≡ true → stands_in b (behind z s (suc k)) ≡ true → stands_in b (z +ℤ s) ≡ true
+next_stands : (b : ℤ × ℤ) (z s : ℤ) (k : ℕ) → (s ≡ pos 0 → ⊥) → is_within_bounds b z ≡ true → is_within_bounds b (behind z s (suc k)) ≡ true → is_within_bounds b (z +ℤ s) ≡ true
 next_stands b z (pos zero) k h f l = absurd (h refl)
 next_stands b z (pos (suc n)) k h f l =
     let r = up_past (z +ℤ pos (suc n)) n k in
@@ -70,7 +70,7 @@ next_stands b z (negsuc n) k h f l =
     let q = above b (behind (z +ℤ negsuc n) (negsuc n) k) l in
     inside b (z +ℤ negsuc n) (omega (arith, ints)) (omega (arith, ints))
 
-both_stand : (b : ℤ × ℤ) (z s : ℤ) (k : ℕ) → (s ≡ pos 0 → ⊥) → stands_in b z ≡ true → stands_in b (behind z s k) ≡ true → all_stand_in b (steps_from z s (suc k)) ≡ true
+both_stand : (b : ℤ × ℤ) (z s : ℤ) (k : ℕ) → (s ≡ pos 0 → ⊥) → is_within_bounds b z ≡ true → is_within_bounds b (behind z s k) ≡ true → all_stand_in b (steps_from z s (suc k)) ≡ true
 both_stand b z s zero h f l = ap (λ t. t && true) f
 both_stand b z s (suc k) h f l = ap₂ (λ t u. t && u) f (both_stand b (z +ℤ s) s k h (next_stands b z s k h f l) l)
 
@@ -78,12 +78,12 @@ and_false : (t : Bool) → (t && false) ≡ false
 and_false true = refl
 and_false false = refl
 
-first_out : (b : ℤ × ℤ) (z s : ℤ) (k : ℕ) → stands_in b z ≡ false → all_stand_in b (steps_from z s (suc k)) ≡ false
+first_out : (b : ℤ × ℤ) (z s : ℤ) (k : ℕ) → is_within_bounds b z ≡ false → all_stand_in b (steps_from z s (suc k)) ≡ false
 first_out b z s k f = ap (λ t. t && all_stand_in b (steps_from (z +ℤ s) s k)) f
 
-last_out : (b : ℤ × ℤ) (z s : ℤ) (k : ℕ) → stands_in b (behind z s k) ≡ false → all_stand_in b (steps_from z s (suc k)) ≡ false
+last_out : (b : ℤ × ℤ) (z s : ℤ) (k : ℕ) → is_within_bounds b (behind z s k) ≡ false → all_stand_in b (steps_from z s (suc k)) ≡ false
 last_out b z s zero f = ap (λ t. t && true) f
-last_out b z s (suc k) f = ap (λ t. stands_in b z && t) (last_out b (z +ℤ s) s k f) ∙ and_false (stands_in b z)
+last_out b z s (suc k) f = ap (λ t. is_within_bounds b z && t) (last_out b (z +ℤ s) s k f) ∙ and_false (is_within_bounds b z)
 
 -- ---- what is counted
 
@@ -100,22 +100,22 @@ module _ (b : ℤ × ℤ) (l u s : ℤ) (h : s ≡ pos 0 → ⊥) where
     all_are : (t : Bool) → all_stand_in b (steps_from l s (suc (strides l u s))) ≡ t → all_stand_in b (triplet_numbers l u s) ≡ t
     all_are t e = ap (all_stand_in b) (numbers_are l u s h g) ∙ e
 
-    pub first_outside : stands_in b l ≡ false → CountsAlong b (triplet_numbers l u s) (Err Bounds)
+    pub first_outside : is_within_bounds b l ≡ false → CountsAlong b (triplet_numbers l u s) (Err Bounds)
     first_outside f = stand_along b (triplet_numbers l u s) false (all_are false (first_out b l s (strides l u s) f))
 
-    pub last_outside : (z : ℤ) → z ≡ behind l s (strides l u s) → stands_in b z ≡ false → CountsAlong b (triplet_numbers l u s) (Err Bounds)
+    pub last_outside : (z : ℤ) → z ≡ behind l s (strides l u s) → is_within_bounds b z ≡ false → CountsAlong b (triplet_numbers l u s) (Err Bounds)
     last_outside z e f =
-        stand_along b (triplet_numbers l u s) false (all_are false (last_out b l s (strides l u s) (ap (stands_in b) (sym e) ∙ f)))
+        stand_along b (triplet_numbers l u s) false (all_are false (last_out b l s (strides l u s) (ap (is_within_bounds b) (sym e) ∙ f)))
 
-    pub all_counted : (z : ℤ) (k n : ℕ) → z ≡ behind l s (strides l u s) → stands_in b l ≡ true → stands_in b z ≡ true → k ≡ strides l u s → n ≡ k + 1
+    pub all_counted : (z : ℤ) (k n : ℕ) → z ≡ behind l s (strides l u s) → is_within_bounds b l ≡ true → is_within_bounds b z ≡ true → k ≡ strides l u s → n ≡ k + 1
         → CountsAlong b (triplet_numbers l u s) (Ok n)
     all_counted z k n e f i j m = (
-      stand_along b (triplet_numbers l u s) true (all_are true (both_stand b l s (strides l u s) h f (ap (stands_in b) (sym e) ∙ i))),
+      stand_along b (triplet_numbers l u s) true (all_are true (both_stand b l s (strides l u s) h f (ap (is_within_bounds b) (sym e) ∙ i))),
       ap length (numbers_are l u s h g) ∙ (steps_length l s (suc (strides l u s)) ∙ (let c : suc (strides l u s) ≡ n = omega arith in c)),
     )
 
 -- strides from one number within 64 and 128 bits to another fit 128 bits
-pub few_strides : (b : ℤ × ℤ) (l s : ℤ) (k : ℕ) → (s ≡ pos 0 → ⊥) → negsuc (2 ^ 63) ≤ℤ b.0 → b.1 <ℤ pos (2 ^ 127) → stands_in b l ≡ true → stands_in b (behind l s k) ≡ true
+pub few_strides : (b : ℤ × ℤ) (l s : ℤ) (k : ℕ) → (s ≡ pos 0 → ⊥) → negsuc (2 ^ 63) ≤ℤ b.0 → b.1 <ℤ pos (2 ^ 127) → is_within_bounds b l ≡ true → is_within_bounds b (behind l s k) ≡ true
     → k + 1 < 2 ^ 128
 few_strides b l (pos zero) k h x y f g = absurd (h refl)
 few_strides b l (pos (suc n)) k h x y f g =
@@ -209,13 +209,13 @@ module _ (l u s l' u' s' : ℤ) (a : l' ≡ l) (b : u' ≡ u) (c : s' ≡ s) whe
 -- ---- a list of numbers
 
 module _ (b : ℤ × ℤ) (zs : List ℤ) (i : ℕ) (so_far : all_stand_in b zs ≡ all_stand_in b (drop i zs)) where
-  at_next : (t : Bool) → i < length zs → stands_in b (get_or zs i (pos 0)) ≡ t → all_stand_in b zs ≡ (t && all_stand_in b (drop (i + 1) zs))
+  at_next : (t : Bool) → i < length zs → is_within_bounds b (get_or zs i (pos 0)) ≡ t → all_stand_in b zs ≡ (t && all_stand_in b (drop (i + 1) zs))
   at_next t l e = so_far ∙ (at_drop_more (λ ys. all_stand_in b ys) zs i (pos 0) l ∙ ap (λ t. t && all_stand_in b (drop (i + 1) zs)) e)
 
-  pub vector_out : i < length zs → stands_in b (get_or zs i (pos 0)) ≡ false → CountsAlong b zs (Err Bounds)
+  pub vector_out : i < length zs → is_within_bounds b (get_or zs i (pos 0)) ≡ false → CountsAlong b zs (Err Bounds)
   vector_out l e = stand_along b zs false (at_next false l e)
 
-  pub vector_next : i < length zs → stands_in b (get_or zs i (pos 0)) ≡ true → all_stand_in b zs ≡ all_stand_in b (drop (i + 1) zs)
+  pub vector_next : i < length zs → is_within_bounds b (get_or zs i (pos 0)) ≡ true → all_stand_in b zs ≡ all_stand_in b (drop (i + 1) zs)
   vector_next l e = at_next true l e
 
   pub vector_all : length zs ≤ i → CountsAlong b zs (Ok (length zs))

@@ -7,7 +7,7 @@ use Rattle.std.proofs.lemmas.List.{append-nil}
 use Rattle.tree.specs.Steps.{◌>>=◌}
 use Rattle.tree.specs.declared.ops.Fault.{Fault}
 use Rattle.tree.specs.declared.ops.Fault.TheVariants.{Bounds, ZeroStep}
-use Rattle.meaning.specs.Sections.{Axis, Fixed, Along, Selector, Index, Triplet, Vector, along, axis_on, axes_on, extents_of, stands_in, triplet_numbers}
+use Rattle.meaning.specs.Sections.{Axis, Fixed, Along, Selector, Index, Triplet, Vector, along, axis_on, axes_on, extents_of, is_within_bounds, triplet_numbers}
 use Rattle.array_values.specs.Counts.{AddsExtent, AddsExtents, Counts, CountsAlong, range_in, ranges_in}
 use Rattle.array_values.specs.Selections.{selector_in}
 use Rattle.array_values.specs.declared.counts.Range.{Range}
@@ -17,10 +17,10 @@ use Rattle.array_values.specs.declared.failure.Failure.TheVariants as failure
 
 -- ---- one dimension
 
-pub index_out : (b : ℤ × ℤ) (z : ℤ) → stands_in b z ≡ false → Counts (axis_on b (Index z)) (Err Bounds)
+pub index_out : (b : ℤ × ℤ) (z : ℤ) → is_within_bounds b z ≡ false → Counts (axis_on b (Index z)) (Err Bounds)
 index_out b z e = ap (λ (t : Bool). let r : Result Axis Fault = cond t (Ok (Fixed z)) (Err Bounds) in r) e
 
-pub index_within : (b : ℤ × ℤ) (z : ℤ) → stands_in b z ≡ true → Counts (axis_on b (Index z)) (Ok None)
+pub index_within : (b : ℤ × ℤ) (z : ℤ) → is_within_bounds b z ≡ true → Counts (axis_on b (Index z)) (Ok None)
 index_within b z e = (z, ap (λ (t : Bool). let r : Result Axis Fault = cond t (Ok (Fixed z)) (Err Bounds) in r) e)
 
 triplet_by : (b : ℤ × ℤ) (l u s : ℤ) (t : Bool) → int_eq s (pos 0) ≡ t → axis_on b (Triplet l u s) ≡ cond t (Err ZeroStep) (along b (triplet_numbers l u s))

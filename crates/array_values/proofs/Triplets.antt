@@ -8,7 +8,7 @@ use Rattle.tree.specs.Steps.{◌>>=◌}
 use Rattle.tree.specs.declared.ops.Fault.{Fault}
 use Rattle.tree.specs.declared.ops.Fault.TheVariants.{Bounds}
 use Rattle.meaning.specs.ArrayValues.{each}
-use Rattle.meaning.specs.Sections.{Axis, Along, not_negative, steps_from, triplet_numbers, stands_in, all_stand_in, along}
+use Rattle.meaning.specs.Sections.{Axis, Along, not_negative, steps_from, triplet_numbers, is_within_bounds, all_stand_in, along}
 use Rattle.std.specs.Prelude.{MatchOption, IfSome}
 use Rattle.array_values.specs.Selections.{bounded, goes_on}
 use Rattle.array_values.proofs.Steps.{left_of, left_fault, left_more}
@@ -117,7 +117,7 @@ module _ {B : Type 0} (f : ℤ → Result B Fault) (u s z : ℤ) (whole : Result
 
 each_bounded : (b : ℤ × ℤ) (zs : List ℤ) → each (bounded b) zs ≡ cond (all_stand_in b zs) (Ok zs) (Err Bounds)
 each_bounded b [] = refl
-each_bounded b (z ∷ zs) = ap (λ (r : Result (List ℤ) Fault). do y ← bounded b z; ys ← r; Ok (y ∷ ys)) (each_bounded b zs) ∙ by (stands_in b z) (all_stand_in b zs)
+each_bounded b (z ∷ zs) = ap (λ (r : Result (List ℤ) Fault). do y ← bounded b z; ys ← r; Ok (y ∷ ys)) (each_bounded b zs) ∙ by (is_within_bounds b z) (all_stand_in b zs)
   where
     by : (t u : Bool) → ◌≡◌ {A = Result (List ℤ) Fault} (do y ← cond t (Ok z) (Err Bounds); ys ← cond u (Ok zs) (Err Bounds); Ok (y ∷ ys)) (cond (t && u) (Ok (z ∷ zs)) (Err Bounds))
     by true true = refl

@@ -3,7 +3,7 @@ use Rattle.std.specs.Prelude.{Result, Ok, Err, ℤ, pos, int_lt, int_le, Bool, i
 use Rattle.tree.specs.declared.ops.Fault.{Fault}
 use Rattle.tree.specs.declared.ops.Fault.TheVariants.{Bounds}
 use Rattle.meaning.specs.Sections as meaning
-use Rattle.meaning.specs.Sections.{stands_in}
+use Rattle.meaning.specs.Sections.{is_within_bounds}
 use Rattle.array_values.specs.declared.sections.Selector.{Selector}
 use Rattle.array_values.specs.declared.sections.Selector.TheVariants.{Index, Triplet, Vector}
 use Rattle.array_values.specs.declared.sections.Axis.{Axis}
@@ -20,7 +20,7 @@ axis_in (Along zs) = meaning.Along zs
 
 -- a number that stands within the bounds
 abbrev pub bounded : ℤ × ℤ → ℤ → Result ℤ Fault
-bounded b z = if stands_in b z then Ok z else Err Bounds
+bounded b z = if is_within_bounds b z then Ok z else Err Bounds
 
 -- a number of a triplet isn't past the upper bound
 abbrev pub goes_on : ℤ → ℤ → ℤ → Bool

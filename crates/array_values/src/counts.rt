@@ -2,7 +2,7 @@
 ghost use Rattle.std.specs.Prelude.{◌≡◌, ◌++◌, map, pos, true, IfOk};
 ghost use Rattle.meaning.specs.Store.{size_of};
 ghost use Rattle.meaning.specs.Extents.{elements_of};
-ghost use Rattle.meaning.specs.Sections.{axis_on, axes_on, stands_in, triplet_numbers};
+ghost use Rattle.meaning.specs.Sections.{axis_on, axes_on, is_within_bounds, triplet_numbers};
 ghost use Rattle.array_values.specs.Counts.{AddsExtent, AddsExtents, Counts, CountsAlong};
 ghost use Rattle.array_values.specs.Counts.{behind, range_in, ranges_in, strides};
 ghost use Rattle.array_values.specs.Selections.{goes_on, selector_in};
@@ -27,7 +27,7 @@ pub(crate) struct Ranges {
 }
 
 fn is_within(range: Range, number: i128) -> bool
-    ensures { result ≡ stands_in (range_in range) number }
+    ensures { result ≡ is_within_bounds (range_in range) number }
 {
     i128::from(range.lower) <= number && number <= range.upper
 }

@@ -1,14 +1,15 @@
 //! Arrays whose elements are known.
-ghost use Rattle.std.specs.Prelude.{◌≡◌, ◌<◌, ◌++◌, ◌-◌, ◌^◌, min, ℕ, ℤ, List, IfOk, MatchResult};
+ghost use Rattle.std.specs.Prelude.{◌≡◌, ◌++◌, ◌-◌, ◌^◌, min, ℕ, ℤ, List, IfOk, MatchResult};
 ghost use Rattle.tree.specs.Operators.{as_numbers};
-ghost use Rattle.meaning.specs.ArrayValues.{settled, scalar, value_at, reshaped};
+ghost use Rattle.tree.specs.Widths.{bits_of};
+ghost use Rattle.meaning.specs.ArrayValues.{settled, scalar_array, value_at_index, reshaped};
 ghost use Rattle.array_values.specs.Arrays.{array_in, reduced_values};
 ghost use Rattle.array_values.specs.Answers.{Answers};
 
 use crate::extents::{place, saturated_size};
 use crate::failure::Failure;
 use std::alloc::Global;
-use tree::{Fault, Gathered, Memory, Red, Seq, Value};
+use tree::{Fault, Gathered, Memory, Red, Seq, Value, Width};
 
 /// An array with its elements in column-major order. A scalar has no extents and one element.
 #[derive(Drop)]
@@ -20,7 +21,7 @@ pub struct Known {
 // A place beyond 2^128 - 1 stands as that.
 #[tactic(auto, using(crate::proofs::Values::value_inside, crate::proofs::Values::value_outside))]
 fn value_at(values: &[Value], place: u128) -> Result<Value, Fault>
-    ensures { (k : ℕ) → place ≡ min k (2 ^ 128 - 1) → result ≡ value_at values.now k }
+    ensures { (k : ℕ) → place ≡ min k (2 ^ 128 - 1) → result ≡ value_at_index values.now k }
 {
     if place < values.len() as u128 {
         return Ok(values[place as usize]);
@@ -30,7 +31,7 @@ fn value_at(values: &[Value], place: u128) -> Result<Value, Fault>
 
 impl Known {
     pub fn scalar(alloc: Global, value: Value) -> Result<Known, Memory>
-        ensures { IfOk result (λ known. array_in known ≡ scalar value) }
+        ensures { IfOk result (λ known. array_in known ≡ scalar_array value) }
     {
         let mut values = Seq::new(alloc);
         values.push(value)?;
@@ -73,15 +74,14 @@ impl Known {
         Ok(numbers)
     }
 
-    /// Gathers the elements into one number, where INTEGER holds the numbers from `-2 ** bits` to `2 ** bits - 1`.
-    pub fn reduce(&self, reduction: Red, bits: u32) -> Result<Value, Fault>
-        requires { bits < 127 }
-        ensures { result ≡ reduced_values bits reduction self.now.values }
+    /// Gathers the elements into one number; of nothing the least and the greatest are those of INTEGER.
+    pub fn reduce(&self, reduction: Red, width: Width) -> Result<Value, Fault>
+        ensures { result ≡ reduced_values (bits_of width) reduction self.now.values }
     {
         let mut gathered = Gathered::Nothing;
         for value in self.values.as_slice() {
             gathered = gathered.with(reduction, value.as_number()?);
         }
-        gathered.reduce(reduction, bits)
+        gathered.reduce(reduction, width.bits())
     }
 }

@@ -1,10 +1,10 @@
 -- Closed walks in components.
 use Rattle.std.proofs.Common.{◌≡◌, refl, sym, ap, ◌∙◌, subst, inl, inr, ℕ, suc, ◌≤◌, List, [], ◌∷◌, ◌++◌, length, arith}
-use Rattle.components.specs.Lists.{Each, In}
+use Rattle.components.specs.Lists.{Each, IsMember}
 use Rattle.components.specs.Orders.{IsComponent}
 use Rattle.components.specs.Reachability.{Reaches, Walk}
 use Rattle.closed_walks.specs.Laws.{LeastWalkIsUnique, LoneMembersHaveOwnPairs, MembersHaveWalks, WalksStayInComponents}
-use Rattle.closed_walks.specs.Walks.{IsClosedWalk, IsNoLater}
+use Rattle.closed_walks.specs.Walks.{IsClosedWalk, IsNoLaterWalk}
 
 module _ (pairs : List (ℕ × ℕ)) where
   -- one walk behind another
@@ -12,8 +12,8 @@ module _ (pairs : List (ℕ × ℕ)) where
   joined a [] b vs c w v = subst (λ z. Walk pairs z vs c) (sym w) v
   joined a (u ∷ us) b vs c w v = (w.0, joined u us b vs c w.1 v)
 
-  module _ (c : List ℕ) (h : IsComponent pairs c) (a : ℕ) (i : In a c) where
-    stays : (q : ℕ) (over : List ℕ) → Reaches pairs a q → Walk pairs q over a → Each (λ x. In x c) over
+  module _ (c : List ℕ) (h : IsComponent pairs c) (a : ℕ) (i : IsMember a c) where
+    stays : (q : ℕ) (over : List ℕ) → Reaches pairs a q → Walk pairs q over a → Each (λ x. IsMember x c) over
     stays q [] r w = tt
     stays q (x ∷ over) r w =
         let there : Reaches pairs a x = (r.0 ++ x ∷ [], joined a r.0 q (x ∷ []) x r.1 (w.0, refl)) in
@@ -34,16 +34,16 @@ members_have_walks pairs c a b h i j apart =
 pub lone_members_have_own_pairs : LoneMembersHaveOwnPairs
 lone_members_have_own_pairs pairs a h = ((λ w. to w.0 w.1), (λ i. (a ∷ [], record { some = omega arith; walk = (i, refl) })))
   where
-    to : (over : List ℕ) → IsClosedWalk pairs a over → In (a, a) pairs
+    to : (over : List ℕ) → IsClosedWalk pairs a over → IsMember (a, a) pairs
     to [] closed = absurd (let e : 1 ≤ 0 = closed.some in omega arith)
     to (q ∷ over) closed = by (walks_stay_in_components pairs (a ∷ []) a (q ∷ over) h (inl refl) closed).0
       where
-        by : In q (a ∷ []) → In (a, a) pairs
-        by (inl e) = subst (λ z. In (a, z) pairs) e closed.walk.0
+        by : IsMember q (a ∷ []) → IsMember (a, a) pairs
+        by (inl e) = subst (λ z. IsMember (a, z) pairs) e closed.walk.0
         by (inr none) = absurd none
 
 -- two lists of one length, neither of which is later
-same_lists : (xs ys : List ℕ) → length xs ≡ length ys → IsNoLater xs ys → IsNoLater ys xs → xs ≡ ys
+same_lists : (xs ys : List ℕ) → length xs ≡ length ys → IsNoLaterWalk xs ys → IsNoLaterWalk ys xs → xs ≡ ys
 same_lists [] [] e h g = refl
 same_lists [] (y ∷ ys) e h g = absurd (omega arith)
 same_lists (x ∷ xs) [] e h g = absurd (omega arith)

@@ -2,7 +2,7 @@
 use Rattle.std.proofs.Common.{◌≡◌, refl, sym, ap, ◌∙◌, subst, ◌⊎◌, inl, inr, ℕ, zero, suc, ◌+◌, ◌<◌, ◌≤◌, Bool, true, false, Option, Some, None, List, [], ◌∷◌, ◌++◌, length, set, arith, get_or-set_same, get_or-set_other}
 use Rattle.std.proofs.lemmas.Bool.{cases_eq}
 use Rattle.std.proofs.lemmas.List.{length-set}
-use Rattle.components.specs.Lists.{In}
+use Rattle.components.specs.Lists.{IsMember}
 use Rattle.closed_walks.specs.Distances.{IsLeastNext, IsLesser, IsMarked, IsNext, IsSweep, IsTaken, LeadsTo, at, known}
 
 some_none : {A : Type 0} (x : A) → ◌≡◌ {A = Option A} (Some x) None → ⊥
@@ -17,22 +17,22 @@ true_false e = cc
 abbrev Same : ℕ × ℕ → ℕ × ℕ → Type 0
 Same p q = p ≡ q
 
-In_more : {X : Type 0} (x y : X) (xs : List X) → In x (xs ++ y ∷ []) → In x xs ⊎ (x ≡ y)
+In_more : {X : Type 0} (x y : X) (xs : List X) → IsMember x (xs ++ y ∷ []) → IsMember x xs ⊎ (x ≡ y)
 In_more x y [] (inl e) = inr e
 In_more x y [] (inr i) = absurd i
 In_more x y (z ∷ xs) (inl e) = inl (inl e)
 In_more x y (z ∷ xs) (inr i) = by (In_more x y xs i)
   where
-    by : In x xs ⊎ (x ≡ y) → ((x ≡ z) ⊎ In x xs) ⊎ (x ≡ y)
+    by : IsMember x xs ⊎ (x ≡ y) → ((x ≡ z) ⊎ IsMember x xs) ⊎ (x ≡ y)
     by (inl j) = inl (inr j)
     by (inr e) = inr e
 
-more_In : {X : Type 0} (x y : X) (xs : List X) → In x xs → In x (xs ++ y ∷ [])
+more_In : {X : Type 0} (x y : X) (xs : List X) → IsMember x xs → IsMember x (xs ++ y ∷ [])
 more_In x y [] i = absurd i
 more_In x y (z ∷ xs) (inl e) = inl e
 more_In x y (z ∷ xs) (inr i) = inr (more_In x y xs i)
 
-last_In : {X : Type 0} (y : X) (xs : List X) → In y (xs ++ y ∷ [])
+last_In : {X : Type 0} (y : X) (xs : List X) → IsMember y (xs ++ y ∷ [])
 last_In y [] = inl refl
 last_In y (z ∷ xs) = inr (last_In y xs)
 
@@ -70,7 +70,7 @@ module _ (ps : List (ℕ × ℕ)) (k : ℕ) (old mid : List (Option ℕ)) (any :
   leads_before : (v : ℕ) → LeadsTo more old k v → LeadsTo ps old k v ⊎ ((v ≡ f) × (at old t ≡ Some k))
   leads_before v l = by (In_more (v, l.0) (f, t) ps l.1)
     where
-      by : In (v, l.0) ps ⊎ Same (v, l.0) (f, t) → LeadsTo ps old k v ⊎ ((v ≡ f) × (at old t ≡ Some k))
+      by : IsMember (v, l.0) ps ⊎ Same (v, l.0) (f, t) → LeadsTo ps old k v ⊎ ((v ≡ f) × (at old t ≡ Some k))
       by (inl i) = inl (l.0, i, l.2)
       by (inr e) = inr (ap (λ (p : ℕ × ℕ). p.0) e, ap (at old) (sym (ap (λ (p : ℕ × ℕ). p.1) e)) ∙ l.2)
 
@@ -127,7 +127,7 @@ module _ (ps : List (ℕ × ℕ)) (k : ℕ) (old mid : List (Option ℕ)) (any :
       by_only : (v d : ℕ) → at old v ≡ None → at (set mid f (Some (k + 1))) v ≡ Some d → (v ≡ f) ⊎ (v ≡ f → ⊥) → (d ≡ k + 1) × LeadsTo more old k v
       by_only v d n e (inl same) = (
         some_same d (k + 1) (sym e ∙ (ap (at (set mid f (Some (k + 1)))) same ∙ here)),
-        (t, subst (λ z. In (z, t) more) (sym same) (last_In (f, t) ps), had t h),
+        (t, subst (λ z. IsMember (z, t) more) (sym same) (last_In (f, t) ps), had t h),
       )
       by_only v d n e (inr other) = let o = w.only v d n (sym (there v other) ∙ e) in (o.0, leads_more v o.1)
 
@@ -140,7 +140,7 @@ module _ (ps : List (ℕ × ℕ)) (steps : List (Option ℕ)) (from left f t : �
   pub skipped : (o : Option ℕ) → IsLeastNext ps steps from left o → (f ≡ from → at steps t ≡ Some left → ⊥) → IsLeastNext longer steps from left o
   skipped None h not = λ r i e. by r e (In_more (from, r) (f, t) ps i)
     where
-      by : (r : ℕ) → at steps r ≡ Some left → In (from, r) ps ⊎ Same (from, r) (f, t) → ⊥
+      by : (r : ℕ) → at steps r ≡ Some left → IsMember (from, r) ps ⊎ Same (from, r) (f, t) → ⊥
       by r e (inl j) = h r j e
       by r e (inr g) = not (sym (ap (λ (p : ℕ × ℕ). p.0) g)) (ap (at steps) (sym (ap (λ (p : ℕ × ℕ). p.1) g)) ∙ e)
   skipped (Some q) h not = record {
@@ -149,19 +149,19 @@ module _ (ps : List (ℕ × ℕ)) (steps : List (Option ℕ)) (from left f t : �
     least = λ r i e. by r e (In_more (from, r) (f, t) ps i);
   }
     where
-      by : (r : ℕ) → at steps r ≡ Some left → In (from, r) ps ⊎ Same (from, r) (f, t) → q ≤ r
+      by : (r : ℕ) → at steps r ≡ Some left → IsMember (from, r) ps ⊎ Same (from, r) (f, t) → q ≤ r
       by r e (inl j) = h.least r j e
       by r e (inr g) = absurd (not (sym (ap (λ (p : ℕ × ℕ). p.0) g)) (ap (at steps) (sym (ap (λ (p : ℕ × ℕ). p.1) g)) ∙ e))
 
   -- t is the new least
   pub lesser : (o : Option ℕ) → IsLeastNext ps steps from left o → f ≡ from → at steps t ≡ Some left → ((q : ℕ) → o ≡ Some q → t ≤ q) → IsLeastNext longer steps from left (Some t)
   lesser o h same has no_more = record {
-    leads = subst (λ z. In (z, t) longer) same (last_In (f, t) ps);
+    leads = subst (λ z. IsMember (z, t) longer) same (last_In (f, t) ps);
     has = has;
     least = λ r i e. by o h no_more r e (In_more (from, r) (f, t) ps i);
   }
     where
-      by : (o : Option ℕ) → IsLeastNext ps steps from left o → ((q : ℕ) → o ≡ Some q → t ≤ q) → (r : ℕ) → at steps r ≡ Some left → In (from, r) ps ⊎ Same (from, r) (f, t) → t ≤ r
+      by : (o : Option ℕ) → IsLeastNext ps steps from left o → ((q : ℕ) → o ≡ Some q → t ≤ q) → (r : ℕ) → at steps r ≡ Some left → IsMember (from, r) ps ⊎ Same (from, r) (f, t) → t ≤ r
       by None h m r e (inl j) = absurd (h r j e)
       by (Some q) h m r e (inl j) = let a : t ≤ q = m q refl in let b : q ≤ r = h.least r j e in omega arith
       by o h m r e (inr g) = let a : r ≡ t = ap (λ (p : ℕ × ℕ). p.1) g in omega arith
@@ -174,7 +174,7 @@ module _ (ps : List (ℕ × ℕ)) (steps : List (Option ℕ)) (from left f t : �
     least = λ r i e. by r e (In_more (from, r) (f, t) ps i);
   }
     where
-      by : (r : ℕ) → at steps r ≡ Some left → In (from, r) ps ⊎ Same (from, r) (f, t) → q ≤ r
+      by : (r : ℕ) → at steps r ≡ Some left → IsMember (from, r) ps ⊎ Same (from, r) (f, t) → q ≤ r
       by r e (inl j) = h.least r j e
       by r e (inr g) = let a : r ≡ t = ap (λ (p : ℕ × ℕ). p.1) g in omega arith
 

@@ -3,8 +3,8 @@ use Rattle.std.proofs.Common.{◌≡◌, refl, sym, ap, ◌∙◌, subst, ◌⊎
 use Rattle.std.specs.Prelude.{OnOk}
 use Rattle.std.specs.List.{concat}
 use Rattle.std.proofs.lemmas.List.{take_more}
-use Rattle.components.specs.Lists.{In}
-use Rattle.closed_walks.specs.Cycles.{Adds, AreCycles, AreCyclesOf, StandIn}
+use Rattle.components.specs.Lists.{IsMember}
+use Rattle.closed_walks.specs.Cycles.{Adds, AreCycles, AreLeastWalksOf, StandIn}
 use Rattle.closed_walks.specs.Walks.{IsAnswer, IsClosedWalk}
 
 -- where a call gives an answer
@@ -17,26 +17,26 @@ stand_longer xs [] us vs h g = subst (λ zs. StandIn (zs ++ us) vs) (sym h) g
 stand_longer xs (y ∷ ys) us vs (inl h) g = inl (stand_longer xs ys us vs h g)
 stand_longer xs (y ∷ ys) us vs (inr h) g = inr (h.0 ++ us, ap (λ zs. zs ++ us) h.1, stand_longer h.0 ys us vs h.2 g)
 
-In_front : (a : ℕ) (xs ys : List ℕ) → In a xs → In a (xs ++ ys)
+In_front : (a : ℕ) (xs ys : List ℕ) → IsMember a xs → IsMember a (xs ++ ys)
 In_front a [] ys i = absurd i
 In_front a (x ∷ xs) ys (inl e) = inl e
 In_front a (x ∷ xs) ys (inr i) = inr (In_front a xs ys i)
 
-In_back : (a : ℕ) (xs ys : List ℕ) → In a ys → In a (xs ++ ys)
+In_back : (a : ℕ) (xs ys : List ℕ) → IsMember a ys → IsMember a (xs ++ ys)
 In_back a [] ys i = i
 In_back a (x ∷ xs) ys i = inr (In_back a xs ys i)
 
-In_split : (a : ℕ) (xs ys : List ℕ) → In a (xs ++ ys) → In a xs ⊎ In a ys
+In_split : (a : ℕ) (xs ys : List ℕ) → IsMember a (xs ++ ys) → IsMember a xs ⊎ IsMember a ys
 In_split a [] ys i = inr i
 In_split a (x ∷ xs) ys (inl e) = inl (inl e)
 In_split a (x ∷ xs) ys (inr i) = by (In_split a xs ys i)
   where
-    by : In a xs ⊎ In a ys → ((a ≡ x) ⊎ In a xs) ⊎ In a ys
+    by : IsMember a xs ⊎ IsMember a ys → ((a ≡ x) ⊎ IsMember a xs) ⊎ IsMember a ys
     by (inl j) = inl (inr j)
     by (inr j) = inr j
 
 module _ (pairs : List (ℕ × ℕ)) where
-  more_walks : (xs : List ℕ) (ws : List (List ℕ)) (ys : List ℕ) (vs : List (List ℕ)) → AreCyclesOf pairs xs ws → AreCyclesOf pairs ys vs → AreCyclesOf pairs (xs ++ ys) (ws ++ vs)
+  more_walks : (xs : List ℕ) (ws : List (List ℕ)) (ys : List ℕ) (vs : List (List ℕ)) → AreLeastWalksOf pairs xs ws → AreLeastWalksOf pairs ys vs → AreLeastWalksOf pairs (xs ++ ys) (ws ++ vs)
   more_walks [] [] ys vs h g = g
   more_walks [] (w ∷ ws) ys vs h g = absurd h
   more_walks (x ∷ xs) [] ys vs h g = absurd h
@@ -50,7 +50,7 @@ module _ (pairs : List (ℕ × ℕ)) where
     each = more_walks h.starts ws g.starts vs h.each g.each;
   }
     where
-      by : (s : ℕ) (over : List ℕ) → IsClosedWalk pairs s over → In s xs ⊎ In s ys → In s (h.starts ++ g.starts)
+      by : (s : ℕ) (over : List ℕ) → IsClosedWalk pairs s over → IsMember s xs ⊎ IsMember s ys → IsMember s (h.starts ++ g.starts)
       by s over closed (inl i) = In_front s h.starts g.starts (h.all s over i closed)
       by s over closed (inr i) = In_back s h.starts g.starts (g.all s over i closed)
 
@@ -97,7 +97,7 @@ module _ (pairs : List (ℕ × ℕ)) where
     };
   }
     where
-      by : (r : ℕ) (over : List ℕ) → IsClosedWalk pairs r over → In r (s ∷ []) → ⊥
+      by : (r : ℕ) (over : List ℕ) → IsClosedWalk pairs r over → IsMember r (s ∷ []) → ⊥
       by r over closed (inl e) = h over (subst (λ z. IsClosedWalk pairs z over) e closed)
       by r over closed (inr none) = none
 

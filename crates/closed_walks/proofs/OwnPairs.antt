@@ -2,7 +2,7 @@
 use Rattle.std.proofs.Common.{◌≡◌, refl, sym, subst, ◌⊎◌, inl, inr, ℕ, List, [], ◌∷◌, ◌++◌}
 use Rattle.std.specs.List.{concat}
 use Rattle.std.proofs.lemmas.Bool.{cases_eq}
-use Rattle.components.specs.Lists.{Distinct, Each, In, Pairwise}
+use Rattle.components.specs.Lists.{Distinct, Each, IsMember, Pairwise}
 use Rattle.components.specs.Orders.{HasLess, IsComponent, LeastFirst, MayComeNext, NoneBack}
 use Rattle.components.specs.Reachability.{AreMutual, Reaches, Walk}
 use Rattle.closed_walks.specs.OwnPairs.{OwnPairsChangeNoOrder, SameButOwn}
@@ -22,7 +22,7 @@ module _ (pairs others : List (ℕ × ℕ)) (same : SameButOwn pairs others) whe
 mutual_too : (pairs others : List (ℕ × ℕ)) → SameButOwn pairs others → (a b : ℕ) → AreMutual pairs a b → AreMutual others a b
 mutual_too pairs others same a b m = (walked pairs others same a m.0.0 b m.0.1, walked pairs others same b m.1.0 a m.1.1)
 
-Each-weaker : {X : Type 0} (P R : X → Type 0) (xs : List X) → ((x : X) → In x xs → P x → R x) → Each P xs → Each R xs
+Each-weaker : {X : Type 0} (P R : X → Type 0) (xs : List X) → ((x : X) → IsMember x xs → P x → R x) → Each P xs → Each R xs
 Each-weaker P R [] f h = tt
 Each-weaker P R (x ∷ xs) f h = (f x (inl refl) h.0, Each-weaker P R xs (λ y i. f y (inr i)) h.1)
 
@@ -34,14 +34,14 @@ module _ (pairs others : List (ℕ × ℕ)) (same : SameButOwn pairs others) whe
   )
 
   -- two classes have no common number
-  none_back : (c d : List ℕ) → ((a : ℕ) → In a c → In a d → ⊥) → NoneBack pairs c d → NoneBack others c d
-  none_back c d apart h a b i j k = h a b i j ((same a b (λ e. apart b j (subst (λ z. In z d) e i))).1 k)
+  none_back : (c d : List ℕ) → ((a : ℕ) → IsMember a c → IsMember a d → ⊥) → NoneBack pairs c d → NoneBack others c d
+  none_back c d apart h a b i j k = h a b i j ((same a b (λ e. apart b j (subst (λ z. IsMember z d) e i))).1 k)
 
   may_come : (left : List (List ℕ)) (c : List ℕ) → MayComeNext others left c → MayComeNext pairs left c
   may_come left c h a b i j k = by (cases_eq a b)
     where
-      by : (a ≡ b) ⊎ (a ≡ b → ⊥) → In a c
-      by (inl e) = subst (λ z. In z c) (sym e) j
+      by : (a ≡ b) ⊎ (a ≡ b → ⊥) → IsMember a c
+      by (inl e) = subst (λ z. IsMember z c) (sym e) j
       by (inr d) = h a b i j ((same a b d).0 k)
 
   least_first : (cs : List (List ℕ)) → LeastFirst pairs cs → LeastFirst others cs
@@ -51,26 +51,26 @@ module _ (pairs others : List (ℕ × ℕ)) (same : SameButOwn pairs others) whe
     least_first cs h.1,
   )
 
-  In-front : (a : ℕ) (c rest : List ℕ) → In a c → In a (c ++ rest)
+  In-front : (a : ℕ) (c rest : List ℕ) → IsMember a c → IsMember a (c ++ rest)
   In-front a [] rest i = absurd i
   In-front a (x ∷ c) rest (inl e) = inl e
   In-front a (x ∷ c) rest (inr i) = inr (In-front a c rest i)
 
-  In-back : (a : ℕ) (c rest : List ℕ) → In a rest → In a (c ++ rest)
+  In-back : (a : ℕ) (c rest : List ℕ) → IsMember a rest → IsMember a (c ++ rest)
   In-back a [] rest i = i
   In-back a (x ∷ c) rest i = inr (In-back a c rest i)
 
-  In-concat : (a : ℕ) (d : List ℕ) (cs : List (List ℕ)) → In d cs → In a d → In a (concat cs)
+  In-concat : (a : ℕ) (d : List ℕ) (cs : List (List ℕ)) → IsMember d cs → IsMember a d → IsMember a (concat cs)
   In-concat a d [] i j = absurd i
-  In-concat a d (c ∷ cs) (inl e) j = In-front a c (concat cs) (subst (In a) e j)
+  In-concat a d (c ∷ cs) (inl e) j = In-front a c (concat cs) (subst (IsMember a) e j)
   In-concat a d (c ∷ cs) (inr i) j = In-back a c (concat cs) (In-concat a d cs i j)
 
-  Each-at : {X : Type 0} (P : X → Type 0) (xs : List X) → Each P xs → (x : X) → In x xs → P x
+  Each-at : {X : Type 0} (P : X → Type 0) (xs : List X) → Each P xs → (x : X) → IsMember x xs → P x
   Each-at P [] h x i = absurd i
   Each-at P (y ∷ ys) h x (inl e) = subst P (sym e) h.0
   Each-at P (y ∷ ys) h x (inr i) = Each-at P ys h.1 x i
 
-  apart : (c rest : List ℕ) → Distinct (c ++ rest) → (a : ℕ) → In a c → In a rest → ⊥
+  apart : (c rest : List ℕ) → Distinct (c ++ rest) → (a : ℕ) → IsMember a c → IsMember a rest → ⊥
   apart [] rest d a i j = absurd i
   apart (x ∷ c) rest d a (inl e) j = Each-at (λ y. ¬ (x ≡ y)) (c ++ rest) d.0 a (In-back a c rest j) (sym e)
   apart (x ∷ c) rest d a (inr i) j = apart c rest d.1 a i j

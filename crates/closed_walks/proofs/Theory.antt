@@ -1,9 +1,9 @@
 -- Distances sweep by sweep, and the walk that they choose.
 use Rattle.std.proofs.Common.{◌≡◌, refl, sym, ap, ◌∙◌, subst, ◌⊎◌, inl, inr, ℕ, zero, suc, ◌+◌, ◌<◌, ◌≤◌, Bool, Option, Some, None, List, [], ◌∷◌, length, arith}
-use Rattle.components.specs.Lists.{In}
+use Rattle.components.specs.Lists.{IsMember}
 use Rattle.components.specs.Reachability.{Walk}
 use Rattle.closed_walks.specs.Distances.{AreChosen, HasNoneBefore, HasWalk, IsDistance, IsNext, IsSweep, at}
-use Rattle.closed_walks.specs.Walks.{IsClosedWalk, IsLeastClosedWalk, IsNoLater}
+use Rattle.closed_walks.specs.Walks.{IsClosedWalk, IsLeastClosedWalk, IsNoLaterWalk}
 
 some_none : {A : Type 0} (x : A) → ◌≡◌ {A = Option A} (Some x) None → ⊥
 some_none x e = cc
@@ -111,7 +111,7 @@ module _ (pairs : List (ℕ × ℕ)) (s : ℕ) where
 
     -- none that it leads to has fewer
     abbrev Far : ℕ → ℕ → Type 0
-    Far from left = (r c : ℕ) → In (from, r) pairs → at steps r ≡ Some c → left ≤ c
+    Far from left = (r c : ℕ) → IsMember (from, r) pairs → at steps r ≡ Some c → left ≤ c
 
     far : (q left : ℕ) → at steps q ≡ Some (left + 1) → Far q left
     far q left h r c i e =
@@ -132,7 +132,7 @@ module _ (pairs : List (ℕ × ℕ)) (s : ℕ) where
     chosen_length (q ∷ over) from left c = let e = chosen_length over q c.0 c.3 in let f : left ≡ c.0 + 1 = c.1 in omega arith
 
     chosen_least : (over : List ℕ) (from left : ℕ) → left ≤ k + 1 → ((n : ℕ) → left ≡ n + 1 → Far from n) → AreChosen pairs steps from left over
-        → (others : List ℕ) → length others ≡ left → Walk pairs from others s → IsNoLater over others
+        → (others : List ℕ) → length others ≡ left → Walk pairs from others s → IsNoLaterWalk over others
     chosen_least [] from left small is_far c others e w = tt
     chosen_least (q ∷ over) from left small is_far c [] e w = absurd (let f : left ≡ c.0 + 1 = c.1 in let g : 0 ≡ left = e in omega arith)
     chosen_least (q ∷ over) from left small is_far c (r ∷ others) e w =
@@ -141,7 +141,7 @@ module _ (pairs : List (ℕ × ℕ)) (s : ℕ) where
         let g : suc (length others) ≡ left = e in
         by n f (known (at steps r)) c.2 (λ h. chosen_least over q n (omega arith) (λ m i. far q m (c.2.has ∙ ap Some i)) c.3 others (omega arith) (subst (λ z. Walk pairs z others s) (sym h) w.1))
       where
-        by : (n : ℕ) → left ≡ n + 1 → (at steps r ≡ None) ⊎ ((x : ℕ) × (at steps r ≡ Some x)) → IsNext pairs steps from n q → (q ≡ r → IsNoLater over others) → (q < r) ⊎ ((q ≡ r) × IsNoLater over others)
+        by : (n : ℕ) → left ≡ n + 1 → (at steps r ≡ None) ⊎ ((x : ℕ) × (at steps r ≡ Some x)) → IsNext pairs steps from n q → (q ≡ r → IsNoLaterWalk over others) → (q < r) ⊎ ((q ≡ r) × IsNoLaterWalk over others)
         by n f (inl none) next more = absurd (let h : k < length others = d.beyond r others none w.1 in let g : suc (length others) ≡ left = e in omega arith)
         by n f (inr x) next more =
             let a : x.0 ≤ length others = d.least r x.0 others x.1 w.1 in
@@ -150,7 +150,7 @@ module _ (pairs : List (ℕ × ℕ)) (s : ℕ) where
             let same : x.0 ≡ n = omega arith in
             split (order q r (next.least r w.0 (x.1 ∙ ap Some same)))
           where
-            split : (q ≡ r) ⊎ (q < r) → (q < r) ⊎ ((q ≡ r) × IsNoLater over others)
+            split : (q ≡ r) ⊎ (q < r) → (q < r) ⊎ ((q ≡ r) × IsNoLaterWalk over others)
             split (inl h) = inr (h, more h)
             split (inr h) = inl h
 

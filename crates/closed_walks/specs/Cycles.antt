@@ -1,6 +1,6 @@
 -- Closed walks of several numbers as they are listed: those of the numbers that have one, in the order of the numbers.
 use Rattle.std.specs.Prelude.{◌≡◌, ◌⊎◌, ⊤, ℕ, List, [], ◌∷◌, ◌++◌}
-use Rattle.components.specs.Lists.{In}
+use Rattle.components.specs.Lists.{IsMember}
 use Rattle.closed_walks.specs.Walks.{IsClosedWalk, IsLeastClosedWalk}
 
 -- the least shortest walk of a number, written with the number first and last
@@ -8,10 +8,10 @@ abbrev pub IsCycle : List (ℕ × ℕ) → ℕ → List ℕ → Type 0
 IsCycle pairs s [] = ⊥
 IsCycle pairs s (a ∷ over) = (a ≡ s) × IsLeastClosedWalk pairs s over
 
-abbrev pub AreCyclesOf : List (ℕ × ℕ) → List ℕ → List (List ℕ) → Type 0
-AreCyclesOf pairs [] [] = ⊤
-AreCyclesOf pairs (s ∷ rest) (w ∷ walks) = IsCycle pairs s w × AreCyclesOf pairs rest walks
-AreCyclesOf pairs _ _ = ⊥
+abbrev pub AreLeastWalksOf : List (ℕ × ℕ) → List ℕ → List (List ℕ) → Type 0
+AreLeastWalksOf pairs [] [] = ⊤
+AreLeastWalksOf pairs (s ∷ rest) (w ∷ walks) = IsCycle pairs s w × AreLeastWalksOf pairs rest walks
+AreLeastWalksOf pairs _ _ = ⊥
 
 -- the numbers xs stand so in ys, in the same order, where others may stand between them
 abbrev pub StandIn : List ℕ → List ℕ → Type 0
@@ -22,8 +22,8 @@ StandIn xs (y ∷ ys) = StandIn xs ys ⊎ ((rest : List ℕ) × (xs ≡ y ∷ re
 pub record AreCycles (pairs : List (ℕ × ℕ)) (numbers : List ℕ) (walks : List (List ℕ)) : Type 0 where
   pub starts : List ℕ
   pub among : StandIn starts numbers
-  pub all : (s : ℕ) (over : List ℕ) → In s numbers → IsClosedWalk pairs s over → In s starts
-  pub each : AreCyclesOf pairs starts walks
+  pub all : (s : ℕ) (over : List ℕ) → IsMember s numbers → IsClosedWalk pairs s over → IsMember s starts
+  pub each : AreLeastWalksOf pairs starts walks
 
 -- those of the numbers come behind what stands already
 pub record Adds (pairs : List (ℕ × ℕ)) (numbers : List ℕ) (old new : List (List ℕ)) : Type 0 where

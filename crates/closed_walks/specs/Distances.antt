@@ -1,7 +1,7 @@
 -- How many steps a number is away from another one, as far as that has been found out.
 use Rattle.std.specs.Prelude.{◌≡◌, ◌<◌, ◌≤◌, ◌+◌, ℕ, suc, Bool, true, false, Option, Some, None, List, [], ◌∷◌}
 use Rattle.std.specs.Prelude.{length, slice_index_or, slice_set}
-use Rattle.components.specs.Lists.{In}
+use Rattle.components.specs.Lists.{IsMember}
 use Rattle.components.specs.Reachability.{Walk}
 
 -- what is known of a number; nothing of one beyond the list
@@ -23,7 +23,7 @@ pub record IsDistance (pairs : List (ℕ × ℕ)) (s k : ℕ) (steps : List (Opt
 
 -- a number leads to one of k steps
 abbrev pub LeadsTo : List (ℕ × ℕ) → List (Option ℕ) → ℕ → ℕ → Type 0
-LeadsTo pairs steps k v = (b : ℕ) × In (v, b) pairs × (at steps b ≡ Some k)
+LeadsTo pairs steps k v = (b : ℕ) × IsMember (v, b) pairs × (at steps b ≡ Some k)
 
 -- how many are known
 abbrev pub known : List (Option ℕ) → ℕ
@@ -43,12 +43,12 @@ pub record IsSweep (pairs : List (ℕ × ℕ)) (k : ℕ) (old new : List (Option
 
 -- q is the least that the number leads to, of those with `left` steps
 pub record IsNext (pairs : List (ℕ × ℕ)) (steps : List (Option ℕ)) (from left q : ℕ) : Type 0 where
-  pub leads : In (from, q) pairs
+  pub leads : IsMember (from, q) pairs
   pub has : at steps q ≡ Some left
-  pub least : (r : ℕ) → In (from, r) pairs → at steps r ≡ Some left → q ≤ r
+  pub least : (r : ℕ) → IsMember (from, r) pairs → at steps r ≡ Some left → q ≤ r
 
 abbrev pub IsLeastNext : List (ℕ × ℕ) → List (Option ℕ) → ℕ → ℕ → Option ℕ → Type 0
-IsLeastNext pairs steps from left None = (r : ℕ) → In (from, r) pairs → at steps r ≡ Some left → ⊥
+IsLeastNext pairs steps from left None = (r : ℕ) → IsMember (from, r) pairs → at steps r ≡ Some left → ⊥
 IsLeastNext pairs steps from left (Some q) = IsNext pairs steps from left q
 
 -- each the least that the one before it leads to, of those with one step less
@@ -59,7 +59,7 @@ AreChosen pairs steps from left (q ∷ over) =
 
 -- no closed walk has fewer than k steps
 abbrev pub HasNoneBefore : List (ℕ × ℕ) → List (Option ℕ) → ℕ → ℕ → Type 0
-HasNoneBefore pairs steps s k = (r d : ℕ) → In (s, r) pairs → at steps r ≡ Some d → k ≤ d
+HasNoneBefore pairs steps s k = (r d : ℕ) → IsMember (s, r) pairs → at steps r ≡ Some d → k ≤ d
 
 -- one number has got one step more than the other, which has k, and had none; or nothing has changed
 pub record IsMarked (old : List (Option ℕ)) (from to k : ℕ) (new : List (Option ℕ)) (marked : Bool) : Type 0 where

@@ -2,21 +2,21 @@
 use Rattle.std.specs.Prelude.{◌≡◌, ◌↔◌, ⊤, ℕ, zero, suc, Bool, true, List, [], ◌∷◌}
 
 module _ (leads : ℕ → ℕ → ℕ → Bool) where
-  abbrev pub IsWalk : ℕ → (ℕ → Type 0) → ℕ → List ℕ → ℕ → Type 0
-  IsWalk k Has s [] r = s ≡ r
-  IsWalk k Has s (q ∷ qs) r = (leads k s q ≡ true) × Has q × IsWalk k Has q qs r
+  abbrev pub IsFlatWalk : ℕ → (ℕ → Type 0) → ℕ → List ℕ → ℕ → Type 0
+  IsFlatWalk k Has s [] r = s ≡ r
+  IsFlatWalk k Has s (q ∷ qs) r = (leads k s q ≡ true) × Has q × IsFlatWalk k Has q qs r
 
-  abbrev pub Reaches : ℕ → (ℕ → Type 0) → ℕ → ℕ → Type 0
-  Reaches k Has s r = (qs : List ℕ) × IsWalk k Has s qs r
+  abbrev pub ReachesFlat : ℕ → (ℕ → Type 0) → ℕ → ℕ → Type 0
+  ReachesFlat k Has s r = (qs : List ℕ) × IsFlatWalk k Has s qs r
 
   -- within the component of the level before
   abbrev pub IsWith : ℕ → ℕ → ℕ → Type 0
   IsWith zero s r = ⊤
-  IsWith (suc k) s r = Reaches (suc k) (IsWith k s) s r × Reaches (suc k) (IsWith k s) r s
+  IsWith (suc k) s r = ReachesFlat (suc k) (IsWith k s) s r × ReachesFlat (suc k) (IsWith k s) r s
 
   -- by edges at work there, over any statements
   abbrev pub IsJoined : ℕ → ℕ → ℕ → Type 0
-  IsJoined k s r = Reaches k (λ q. ⊤) s r × Reaches k (λ q. ⊤) r s
+  IsJoined k s r = ReachesFlat k (λ q. ⊤) s r × ReachesFlat k (λ q. ⊤) r s
 
 -- what is at work at a level is so at each level outside it
 abbrev pub NestedIsFlat : Type 0

@@ -1,8 +1,8 @@
 -- Nothing is met yet.
 use Rattle.std.proofs.Common.{◌≡◌, refl, sym, ap, ◌∙◌, subst, ℕ, zero, suc, ◌+◌, ◌≤◌, List, [], length, replicate, arith}
 use Rattle.std.proofs.lemmas.List.{length-replicate}
-use Rattle.components.specs.declared.walk.Mark.{Mark}
-use Rattle.components.specs.declared.walk.Mark.TheVariants.{New}
+use Rattle.components.specs.declared.walk.NodeState.{NodeState}
+use Rattle.components.specs.declared.walk.NodeState.TheVariants.{New}
 use Rattle.components.specs.Walking.{mark, IsWalk, weight}
 use Rattle.components.proofs.Weights.{new_at, new_done}
 
@@ -34,7 +34,7 @@ beginning n pairs = record {
   ahead = λ i x h j. absurd j;
 }
 
-pub begun : (n : ℕ) (pairs : List (ℕ × ℕ)) (marks : List Mark) (path work : List ℕ) (starts : List (ℕ × ℕ))
+pub begun : (n : ℕ) (pairs : List (ℕ × ℕ)) (marks : List NodeState) (path work : List ℕ) (starts : List (ℕ × ℕ))
     → marks ≡ replicate n New → path ≡ [] → work ≡ [] → starts ≡ []
     → IsWalk n pairs [] marks path work starts 0 × (weight (λ v. 1) marks + length path + 0 ≤ n)
 begun n pairs marks path work starts m p w s = (

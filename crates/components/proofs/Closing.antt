@@ -2,17 +2,17 @@
 use Rattle.std.proofs.Common.{◌≡◌, ◌↔◌, refl, sym, ap, ◌∙◌, subst, ◌⊎◌, inl, inr, ℕ, ◌+◌, ◌<◌, ◌≤◌, List, [], ◌∷◌, ◌++◌, length, set, take, arith, get_or-set_same, get_or-set_other}
 use Rattle.std.proofs.lemmas.Bool.{cases_eq, cases_lt}
 use Rattle.std.proofs.lemmas.List.{length-set, length-take-le, get_or-take}
-use Rattle.components.specs.Lists.{In}
+use Rattle.components.specs.Lists.{IsMember}
 use Rattle.components.specs.Reachability.{Reaches}
 use Rattle.components.proofs.ListLaws.{In-append, In-left, In-right}
-use Rattle.components.specs.declared.walk.Mark.{Mark}
-use Rattle.components.specs.declared.walk.Mark.TheVariants.{New, At, Done}
+use Rattle.components.specs.declared.walk.NodeState.{NodeState}
+use Rattle.components.specs.declared.walk.NodeState.TheVariants.{New, At, Done}
 use Rattle.components.specs.Labels.{at}
 use Rattle.components.specs.Walking.{mark, Between, IsMet, IsWalk, IsClosed}
 use Rattle.components.proofs.Lists.{last_most, rising_front}
 use Rattle.components.proofs.Weights.{new_at, at_done, at_same, done_same, which, weight_less}
 
-pub closed_none : (marks : List Mark) (path : List ℕ) (start class : ℕ) → length path ≤ start → IsClosed marks path start class marks
+pub closed_none : (marks : List NodeState) (path : List ℕ) (start class : ℕ) → length path ≤ start → IsClosed marks path start class marks
 closed_none marks path start class h = record {
   size = refl;
   gets = λ i k l. absurd (omega arith);
@@ -21,7 +21,7 @@ closed_none marks path start class h = record {
 }
 
 -- one number more
-module _ (old marks : List Mark) (path : List ℕ) (k class : ℕ) (c : IsClosed old path (k + 1) class marks) (inside : k < length path) (listed : at path k < length old) where
+module _ (old marks : List NodeState) (path : List ℕ) (k class : ℕ) (c : IsClosed old path (k + 1) class marks) (inside : k < length path) (listed : at path k < length old) where
   here : mark (set marks (at path k) (Done class)) (at path k) ≡ Done class
   here = get_or-set_same marks (at path k) (Done class) New (subst (λ z. at path k < z) (sym c.size) listed)
 
@@ -47,12 +47,12 @@ module _ (old marks : List Mark) (path : List ℕ) (k class : ℕ) (c : IsClosed
               later (inl e) = absurd (d (ap (at path) e))
               later (inr n) = omega arith
 
-module _ (n : ℕ) (pairs : List (ℕ × ℕ)) (marks new : List Mark) (path work : List ℕ) (starts : List (ℕ × ℕ)) (s t count : ℕ)
+module _ (n : ℕ) (pairs : List (ℕ × ℕ)) (marks new : List NodeState) (path work : List ℕ) (starts : List (ℕ × ℕ)) (s t count : ℕ)
     (w : IsWalk n pairs [] marks path work (starts ++ (s, t) ∷ []) count) (empty : length work ≤ t) (c : IsClosed marks path s count new) where
   abbrev front : List ℕ
   front = take s path
 
-  last : In (s, t) (starts ++ (s, t) ∷ [])
+  last : IsMember (s, t) (starts ++ (s, t) ∷ [])
   last = In-right (s, t) starts ((s, t) ∷ []) (inl refl)
 
   s_inside : s < length path
@@ -70,13 +70,13 @@ module _ (n : ℕ) (pairs : List (ℕ × ℕ)) (marks new : List Mark) (path wor
   part : (i : ℕ) → i < s → i < length front
   part i h = subst (λ z. i < z) (sym size_front) h
 
-  earlier : (b : ℕ × ℕ) → In b starts → b.0 < s
+  earlier : (b : ℕ × ℕ) → IsMember b starts → b.0 < s
   earlier b i = last_most starts (s, t) w.rising b i
 
-  most : (b : ℕ × ℕ) → In b (starts ++ (s, t) ∷ []) → b.0 ≤ s
+  most : (b : ℕ × ℕ) → IsMember b (starts ++ (s, t) ∷ []) → b.0 ≤ s
   most b i = by (In-append b starts ((s, t) ∷ []) i)
     where
-      by : In b starts ⊎ In b ((s, t) ∷ []) → b.0 ≤ s
+      by : IsMember b starts ⊎ IsMember b ((s, t) ∷ []) → b.0 ≤ s
       by (inl j) = let h = earlier b j in omega arith
       by (inr (inl e)) = let h : b.0 ≡ s = ap (λ p. p.0) e in omega arith
       by (inr (inr j)) = absurd j
@@ -152,14 +152,14 @@ module _ (n : ℕ) (pairs : List (ℕ × ℕ)) (marks new : List Mark) (path wor
     inside = λ b i. (part b.0 (earlier b i), (w.inside b (In-left b starts ((s, t) ∷ []) i)).1);
     first = λ h. first (whole 0 h);
     sources = sources;
-    gone = λ i x h p. inl (gone i x (whole i h) (subst (λ z. In (z, x) pairs) (at_front i (whole i h)) p));
+    gone = λ i x h p. inl (gone i x (whole i h) (subst (λ z. IsMember (z, x) pairs) (at_front i (whole i h)) p));
     ahead = λ i x h j. absurd j;
   }
     where
       between : (i j : ℕ) → j < s → Between (starts ++ (s, t) ∷ []) i j → Between starts i j
       between i j h (b, k, l, m) = by (In-append b starts ((s, t) ∷ []) k)
         where
-          by : In b starts ⊎ In b ((s, t) ∷ []) → Between starts i j
+          by : IsMember b starts ⊎ IsMember b ((s, t) ∷ []) → Between starts i j
           by (inl q) = (b, q, l, m)
           by (inr (inl e)) = absurd (let f : b.0 ≡ s = ap (λ p. p.0) e in omega arith)
           by (inr (inr q)) = absurd q
@@ -180,14 +180,14 @@ module _ (n : ℕ) (pairs : List (ℕ × ℕ)) (marks new : List Mark) (path wor
           by (inr g) (inl h) = absurd (let k : d < count = w.numbered b d h in let l : d ≡ count = g.0 in omega arith)
           by (inr (_, i, g, gi, ga)) (inr (_, j, h, hi, ha)) = subst (λ z. Reaches pairs z b) ga (subst (Reaches pairs (at path i)) ha (block i j g h gi hi))
 
-      closed : (a b d : ℕ) → In (a, b) pairs → mark new a ≡ Done d → (e : ℕ) × (mark new b ≡ Done e) × (e ≤ d)
+      closed : (a b d : ℕ) → IsMember (a, b) pairs → mark new a ≡ Done d → (e : ℕ) × (mark new b ≡ Done e) × (e ≤ d)
       closed a b d p e = by (done_cases a d e)
         where
           by : (mark marks a ≡ Done d) ⊎ IsOfLast a d → (e : ℕ) × (mark new b ≡ Done e) × (e ≤ d)
           by (inl f) = let k = w.closed a b d p f in (k.0, kept_done b k.0 k.1, k.2)
-          by (inr (is, i, f, g, h)) = on (w.gone i b g (subst (λ z. In (z, b) pairs) (sym h) p))
+          by (inr (is, i, f, g, h)) = on (w.gone i b g (subst (λ z. IsMember (z, b) pairs) (sym h) p))
             where
-              on : IsMet marks path work (starts ++ (s, t) ∷ []) i b ⊎ In b [] → (e : ℕ) × (mark new b ≡ Done e) × (e ≤ d)
+              on : IsMet marks path work (starts ++ (s, t) ∷ []) i b ⊎ IsMember b [] → (e : ℕ) × (mark new b ≡ Done e) × (e ≤ d)
               on (inl (inl (x, k))) = (x, kept_done b x k, (let l = w.numbered b x k in omega arith))
               on (inl (inr (inl (j, k, l, m)))) = (count, ap (mark new) (sym l) ∙ c.gets j (after (cases_lt j s)) k, omega arith)
                 where
@@ -197,32 +197,32 @@ module _ (n : ℕ) (pairs : List (ℕ × ℕ)) (marks new : List Mark) (path wor
               on (inl (inr (inr (k, l, m, o)))) = absurd (let q : t ≤ k = o (s, t) last f in omega arith)
               on (inr j) = absurd j
 
-      first : 0 < s → (u : ℕ) × In (0, u) starts
+      first : 0 < s → (u : ℕ) × IsMember (0, u) starts
       first h = let k = w.first (let l = s_inside in omega arith) in by k.0 (In-append (0, k.0) starts ((s, t) ∷ []) k.1)
         where
-          by : (u : ℕ) → In (0, u) starts ⊎ In {X = ℕ × ℕ} (0, u) ((s, t) ∷ []) → (u : ℕ) × In (0, u) starts
+          by : (u : ℕ) → IsMember (0, u) starts ⊎ IsMember {X = ℕ × ℕ} (0, u) ((s, t) ∷ []) → (u : ℕ) × IsMember (0, u) starts
           by u (inl i) = (u, i)
           by u (inr (inl e)) = absurd (let f : 0 ≡ s = ap (λ p. p.0) e in omega arith)
           by u (inr (inr i)) = absurd i
 
       sources : (k : ℕ) → k < length work
-          → (i : ℕ) × (i < length front) × In (at front i, at work k) pairs × ((b : ℕ × ℕ) → In b starts → (b.1 ≤ k) ↔ (b.0 ≤ i))
+          → (i : ℕ) × (i < length front) × IsMember (at front i, at work k) pairs × ((b : ℕ × ℕ) → IsMember b starts → (b.1 ≤ k) ↔ (b.0 ≤ i))
       sources k h = by (w.sources k h)
         where
-          by : (i : ℕ) × (i < length path) × In (at path i, at work k) pairs × ((b : ℕ × ℕ) → In b (starts ++ (s, t) ∷ []) → (b.1 ≤ k) ↔ (b.0 ≤ i))
-              → (i : ℕ) × (i < length front) × In (at front i, at work k) pairs × ((b : ℕ × ℕ) → In b starts → (b.1 ≤ k) ↔ (b.0 ≤ i))
+          by : (i : ℕ) × (i < length path) × IsMember (at path i, at work k) pairs × ((b : ℕ × ℕ) → IsMember b (starts ++ (s, t) ∷ []) → (b.1 ≤ k) ↔ (b.0 ≤ i))
+              → (i : ℕ) × (i < length front) × IsMember (at front i, at work k) pairs × ((b : ℕ × ℕ) → IsMember b starts → (b.1 ≤ k) ↔ (b.0 ≤ i))
           by (i, l, p, q) =
               let o : i < s = before (cases_lt i s) in
-              (i, part i o, subst (λ z. In (z, at work k) pairs) (sym (at_front i o)) p, λ b j. q b (In-left b starts ((s, t) ∷ []) j))
+              (i, part i o, subst (λ z. IsMember (z, at work k) pairs) (sym (at_front i o)) p, λ b j. q b (In-left b starts ((s, t) ∷ []) j))
             where
               before : (i < s) ⊎ (s ≤ i) → i < s
               before (inl o) = o
               before (inr o) = absurd (let f : t ≤ k = (q (s, t) last).1 o in omega arith)
 
-      gone : (i x : ℕ) → i < s → In (at path i, x) pairs → IsMet new front work starts i x
+      gone : (i x : ℕ) → i < s → IsMember (at path i, x) pairs → IsMet new front work starts i x
       gone i x h p = on (w.gone i x (let l = s_inside in omega arith) p)
         where
-          on : IsMet marks path work (starts ++ (s, t) ∷ []) i x ⊎ In x [] → IsMet new front work starts i x
+          on : IsMet marks path work (starts ++ (s, t) ∷ []) i x ⊎ IsMember x [] → IsMet new front work starts i x
           on (inl (inl (d, k))) = inl (d, kept_done x d k)
           on (inl (inr (inl (j, k, l, m)))) = by (cases_lt j s)
             where

@@ -7,7 +7,7 @@ use Rattle.components.specs.declared.tables.Tables.{Tables}
 use Rattle.components.specs.Classes.{IsDoneOrLedTo, IsLedTo, IsNext, flag}
 use Rattle.components.specs.Counts.{tally, times}
 use Rattle.components.specs.Labels.{at}
-use Rattle.components.specs.Lists.{In, Rises}
+use Rattle.components.specs.Lists.{IsMember, Rises}
 use Rattle.components.specs.Rest.{ComesNext, IsAdded, IsRest, Releases, first, has}
 use Rattle.components.specs.Targets.{row}
 use Rattle.components.proofs.Counting.{In-tally, In-times, tally-In, tally_set, times-In}
@@ -15,7 +15,7 @@ use Rattle.components.proofs.ListLaws.{Each-In}
 use Rattle.components.proofs.Lists.{In-at}
 use Rattle.components.proofs.Releasing.{at_inside, cases_zero, has_left}
 
-head_least : (xs : List ℕ) (u : ℕ) → Rises xs → In u xs → at xs 0 ≤ u
+head_least : (xs : List ℕ) (u : ℕ) → Rises xs → IsMember u xs → at xs 0 ≤ u
 head_least [] u r i = absurd i
 head_least (x ∷ xs) u r (inl e) = omega arith
 head_least (x ∷ xs) u r (inr i) = let h = Each-In (λ y. x < y) xs r.0 u i in omega arith
@@ -136,7 +136,7 @@ module _ (n count : ℕ) (labels : List ℕ) (t : Tables) (done : List Bool) (re
       closed c (inl e) f = let a : at counts c ≡ 0 = ap (at counts) e ∙ is_taken.nought in let b = sum c in omega arith
       closed c (inr d) f = let a = is.closed c (sym (set_other c d) ∙ f) in let b = sum c in omega arith
 
-      to : (w : ℕ) → (has mid.ready w ≡ true) ⊎ ((c : ℕ) × In c (row rows class) × IsAdded t new c w)
+      to : (w : ℕ) → (has mid.ready w ≡ true) ⊎ ((c : ℕ) × IsMember c (row rows class) × IsAdded t new c w)
           → (c : ℕ) × (c < count) × (flag after c ≡ false) × (at new.counts.items c ≡ 0) × (w ≡ first t c)
       to w (inl i) = by ((has_left (has mid.ready w) (has rest.ready w) w v (left w)).0 i)
         where

@@ -4,7 +4,7 @@ use Rattle.std.proofs.lemmas.Bool.{cases_eq, eqb-true}
 use Rattle.components.specs.Classes.{IsLedTo, flag}
 use Rattle.components.specs.Counts.{tally, times, times_to}
 use Rattle.components.specs.Labels.{at}
-use Rattle.components.specs.Lists.{In}
+use Rattle.components.specs.Lists.{IsMember}
 use Rattle.components.specs.Targets.{row}
 
 -- ---- in a list
@@ -37,15 +37,15 @@ times_taken [] i h = absurd (omega arith)
 times_taken (x ∷ xs) zero h = let k = one x x refl in omega arith
 times_taken (x ∷ xs) (suc i) h = let k = times_taken xs i (omega arith) in omega arith
 
-pub times-In : (c : ℕ) (xs : List ℕ) → 0 < times c xs → In c xs
+pub times-In : (c : ℕ) (xs : List ℕ) → 0 < times c xs → IsMember c xs
 times-In c [] h = absurd (omega arith)
 times-In c (x ∷ xs) h = by (nat_eq x c) refl (times-In c xs) h
   where
-    by : (b : Bool) → nat_eq x c ≡ b → (0 < times c xs → In c xs) → 0 < (if b then 1 else 0) + times c xs → In c (x ∷ xs)
+    by : (b : Bool) → nat_eq x c ≡ b → (0 < times c xs → IsMember c xs) → 0 < (if b then 1 else 0) + times c xs → IsMember c (x ∷ xs)
     by true e later h = inl (sym (eqb-true x c e))
     by false e later h = inr (later (omega arith))
 
-pub In-times : (c : ℕ) (xs : List ℕ) → In c xs → 0 < times c xs
+pub In-times : (c : ℕ) (xs : List ℕ) → IsMember c xs → 0 < times c xs
 In-times c [] i = absurd i
 In-times c (x ∷ xs) (inl e) = let k = one x c (sym e) in omega arith
 In-times c (x ∷ xs) (inr i) = let k = In-times c xs i in omega arith
@@ -109,7 +109,7 @@ tally_set (false ∷ done) (suc e) c (r ∷ rows) l f = let h = tally_set done e
 tally_set (true ∷ done) (suc e) c (r ∷ rows) l f = tally_set done e c rows (omega arith) f
 
 -- what is led to is counted
-pub In-tally : (done : List Bool) (c : ℕ) (rows : List (List ℕ)) (e : ℕ) → In c (row rows e) → flag done e ≡ false → 0 < tally done c rows
+pub In-tally : (done : List Bool) (c : ℕ) (rows : List (List ℕ)) (e : ℕ) → IsMember c (row rows e) → flag done e ≡ false → 0 < tally done c rows
 In-tally done c [] e i f = absurd i
 In-tally [] c (r ∷ rows) zero i f = let k = In-times c r i in omega arith
 In-tally (false ∷ done) c (r ∷ rows) zero i f = let k = In-times c r i in omega arith

@@ -2,7 +2,7 @@
 use Rattle.std.proofs.Common.{◌≡◌, ◌↔◌, refl, sym, ap, ◌∙◌, subst, ◌⊎◌, inl, inr, ℕ, zero, suc, ◌+◌, ◌<◌, ◌≤◌, Bool, true, false, List, [], ◌∷◌, length, set, arith, get_or-set_same, get_or-set_other}
 use Rattle.std.specs.List.{concat}
 use Rattle.std.proofs.lemmas.Bool.{both_ways, cases_eq, cases_lt}
-use Rattle.components.specs.Lists.{In, Each, Pairwise, Distinct, Rises}
+use Rattle.components.specs.Lists.{IsMember, Each, Pairwise, Distinct, Rises}
 use Rattle.components.specs.Reachability.{AreBelow, Walk}
 use Rattle.components.specs.Orders.{IsComponent, IsOrder, HasLess, LeastFirst, MayComeNext, NoneBack}
 use Rattle.components.proofs.ClassLaws.{In-concat}
@@ -19,7 +19,7 @@ module _ (n count : ℕ) (labels : List ℕ) (rows : List (List ℕ)) where
 module _ (n : ℕ) (pairs : List (ℕ × ℕ)) (count : ℕ) (labels : List ℕ) (rows : List (List ℕ)) (below : AreBelow n pairs)
     (are : AreLabels n pairs count labels) (led : AreClassRows pairs labels rows) where
   pub record Orders (done : List Bool) (ks : List (List ℕ)) : Type 0 where
-    pub members : (a : ℕ) → In a (concat ks) ↔ ((a < n) × (flag done (at labels a) ≡ false))
+    pub members : (a : ℕ) → IsMember a (concat ks) ↔ ((a < n) × (flag done (at labels a) ≡ false))
     pub once : Distinct (concat ks)
     pub filled : Each (λ k. ¬ (k ≡ [])) ks
     pub rising : Each Rises ks
@@ -27,7 +27,7 @@ module _ (n : ℕ) (pairs : List (ℕ × ℕ)) (count : ℕ) (labels : List ℕ)
     pub forward : Pairwise (NoneBack pairs) ks
     pub least_first : LeastFirst pairs ks
 
-  ends_below : (a b : ℕ) → In (a, b) pairs → (a < n) × (b < n)
+  ends_below : (a b : ℕ) → IsMember (a, b) pairs → (a < n) × (b < n)
   ends_below a b i = Each-In (λ p. (p.0 < n) × (p.1 < n)) pairs below (a, b) i
 
   -- along a walk numbers of classes don't rise
@@ -64,30 +64,30 @@ module _ (n : ℕ) (pairs : List (ℕ × ℕ)) (count : ℕ) (labels : List ℕ)
         by (inr f) = (f, sym (set_other d f) ∙ e)
 
     module _ (k : List ℕ) (is : IsClass n labels c k) (ks : List (List ℕ)) (o : Orders (set done c true) ks) where
-      rest : (a : ℕ) → In a (concat ks) → (a < n) × (at labels a ≡ c → ⊥) × (flag done (at labels a) ≡ false)
+      rest : (a : ℕ) → IsMember a (concat ks) → (a < n) × (at labels a ≡ c → ⊥) × (flag done (at labels a) ≡ false)
       rest a i = let p = (o.members a).0 i in let q = undone_other (at labels a) p.1 in (p.0, q.0, q.1)
 
-      members : (a : ℕ) → In a (concat (k ∷ ks)) ↔ ((a < n) × (flag done (at labels a) ≡ false))
+      members : (a : ℕ) → IsMember a (concat (k ∷ ks)) ↔ ((a < n) × (flag done (at labels a) ≡ false))
       members a = (λ i. to (In-append a k (concat ks) i), λ h. from h (cases_eq (at labels a) c))
         where
-          to : In a k ⊎ In a (concat ks) → (a < n) × (flag done (at labels a) ≡ false)
+          to : IsMember a k ⊎ IsMember a (concat ks) → (a < n) × (flag done (at labels a) ≡ false)
           to (inl i) = let p = (is.each a).0 i in (p.0, ap (flag done) p.1 ∙ next.undone)
           to (inr i) = let p = rest a i in (p.0, p.2)
 
-          from : (a < n) × (flag done (at labels a) ≡ false) → (at labels a ≡ c) ⊎ (at labels a ≡ c → ⊥) → In a (concat (k ∷ ks))
+          from : (a < n) × (flag done (at labels a) ≡ false) → (at labels a ≡ c) ⊎ (at labels a ≡ c → ⊥) → IsMember a (concat (k ∷ ks))
           from h (inl e) = In-left a k (concat ks) ((is.each a).1 (h.0, e))
           from h (inr e) = In-right a k (concat ks) ((o.members a).1 (h.0, set_other (at labels a) e ∙ h.1))
 
-      none_back : (d : List ℕ) → In d ks → NoneBack pairs k d
+      none_back : (d : List ℕ) → IsMember d ks → NoneBack pairs k d
       none_back d i a b ia ib p =
           let r = rest a (In-concat a d ks i ia) in
           let q = (is.each b).0 ib in
           next.free (at labels a, (led (at labels a) c).1 (a, b, p, refl, q.1, r.1), r.2)
 
-      less : (d : List ℕ) → In d ks → MayComeNext pairs (k ∷ ks) d → HasLess k d
+      less : (d : List ℕ) → IsMember d ks → MayComeNext pairs (k ∷ ks) d → HasLess k d
       less d i may = (next.least, (is.each next.least).1 (next.inside, next.of), Each-from (λ b. next.least < b) d after)
         where
-          after : (b : ℕ) → In b d → next.least < b
+          after : (b : ℕ) → IsMember b d → next.least < b
           after b ib = by (cases_lt next.least b)
             where
               r : (b < n) × (at labels b ≡ c → ⊥) × (flag done (at labels b) ≡ false)
@@ -111,8 +111,8 @@ module _ (n : ℕ) (pairs : List (ℕ × ℕ)) (count : ℕ) (labels : List ℕ)
                       from : IsPairBetween pairs labels e (at labels b) → ⊥
                       from (x, y, p, lx, ly, apart) =
                           let same : at labels b ≡ class.0 = ((class.1.each b).0 ib).1 in
-                          let iy : In y d = (class.1.each y).1 ((ends_below x y p).1, ly ∙ same) in
-                          let ix : In x d = may x y ((members x).1 ((ends_below x y p).0, ap (flag done) lx ∙ undone)) iy p in
+                          let iy : IsMember y d = (class.1.each y).1 ((ends_below x y p).1, ly ∙ same) in
+                          let ix : IsMember x d = may x y ((members x).1 ((ends_below x y p).0, ap (flag done) lx ∙ undone)) iy p in
                           apart (sym lx ∙ (((class.1.each x).0 ix).1 ∙ sym same))
 
       pub one_more : Orders done (k ∷ ks)
@@ -121,7 +121,7 @@ module _ (n : ℕ) (pairs : List (ℕ × ℕ)) (count : ℕ) (labels : List ℕ)
         once = Pairwise-append (λ x y. ¬ (x ≡ y)) k (concat ks)
             (Pairwise-weaker (λ x y. x < y) (λ x y. ¬ (x ≡ y)) (λ x y h e. omega arith) k is.rising) o.once
             (λ x y i j e. (rest y j).1 (ap (at labels) (sym e) ∙ ((is.each x).0 i).1));
-        filled = (λ e. subst (In next.least) e ((is.each next.least).1 (next.inside, next.of)), o.filled);
+        filled = (λ e. subst (IsMember next.least) e ((is.each next.least).1 (next.inside, next.of)), o.filled);
         rising = (is.rising, o.rising);
         classes = ((c, is), o.classes);
         forward = (Each-from (NoneBack pairs k) ks none_back, o.forward);

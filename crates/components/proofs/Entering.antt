@@ -2,19 +2,19 @@
 use Rattle.std.proofs.Common.{◌≡◌, ◌↔◌, refl, sym, ap, ◌∙◌, subst, ◌⊎◌, inl, inr, ℕ, ◌+◌, ◌-◌, ◌<◌, ◌≤◌, List, [], ◌∷◌, ◌++◌, length, set, arith, get_or-set_same, get_or-set_other}
 use Rattle.std.proofs.lemmas.Bool.{cases_eq, cases_lt}
 use Rattle.std.proofs.lemmas.List.{get_or_append_left, get_or-append_right, get_or-append-add, get_or_push, length_push, length-set, length-append}
-use Rattle.components.specs.Lists.{In}
+use Rattle.components.specs.Lists.{IsMember}
 use Rattle.components.specs.Reachability.{Reaches}
 use Rattle.components.proofs.ListLaws.{In-append, In-left, In-right, Pairwise-append}
 use Rattle.components.proofs.Walks.{Reaches-itself}
-use Rattle.components.specs.declared.walk.Mark.{Mark}
-use Rattle.components.specs.declared.walk.Mark.TheVariants.{New, At, Done}
+use Rattle.components.specs.declared.walk.NodeState.{NodeState}
+use Rattle.components.specs.declared.walk.NodeState.TheVariants.{New, At, Done}
 use Rattle.components.specs.Labels.{at}
 use Rattle.components.specs.Walking.{mark, Between, IsMet, IsWalk}
 use Rattle.components.proofs.Lists.{In-at, at-In}
 use Rattle.components.proofs.Weights.{new_at, new_done, at_done, at_same}
 
 -- where the path is empty, any number may be looked at next
-pub anywhere : (n : ℕ) (pairs : List (ℕ × ℕ)) (marks : List Mark) (work : List ℕ) (starts : List (ℕ × ℕ)) (count v : ℕ)
+pub anywhere : (n : ℕ) (pairs : List (ℕ × ℕ)) (marks : List NodeState) (work : List ℕ) (starts : List (ℕ × ℕ)) (count v : ℕ)
     → IsWalk n pairs [] marks [] work starts count → IsWalk n pairs (v ∷ []) marks [] work starts count
 anywhere n pairs marks work starts count v w = record {
   size = w.size;
@@ -34,13 +34,13 @@ anywhere n pairs marks work starts count v w = record {
   ahead = λ i x h p. absurd (omega arith);
 }
 
-module _ (n : ℕ) (pairs : List (ℕ × ℕ)) (marks : List Mark) (path work : List ℕ) (v : ℕ) (starts : List (ℕ × ℕ)) (count : ℕ) (targets : List ℕ)
+module _ (n : ℕ) (pairs : List (ℕ × ℕ)) (marks : List NodeState) (path work : List ℕ) (v : ℕ) (starts : List (ℕ × ℕ)) (count : ℕ) (targets : List ℕ)
     (w : IsWalk n pairs (v ∷ []) marks path work starts count) (is : mark marks v ≡ New) (below : v < n)
-    (are : (b : ℕ) → (In b targets → In (v, b) pairs) × (In (v, b) pairs → In b targets)) where
+    (are : (b : ℕ) → (IsMember b targets → IsMember (v, b) pairs) × (IsMember (v, b) pairs → IsMember b targets)) where
   abbrev p : ℕ
   p = length path
 
-  abbrev new : List Mark
+  abbrev new : List NodeState
   new = set marks v (At p)
 
   abbrev path' : List ℕ
@@ -101,16 +101,16 @@ module _ (n : ℕ) (pairs : List (ℕ × ℕ)) (marks : List Mark) (path work : 
   ended : p < length path'
   ended = subst (λ z. p < z) (sym size_path) (omega arith)
 
-  new_start : In (length path, length work) starts'
+  new_start : IsMember (length path, length work) starts'
   new_start = In-right (length path, length work) starts ((length path, length work) ∷ []) (inl refl)
 
-  old_start : (b : ℕ × ℕ) → In b starts → In b starts'
+  old_start : (b : ℕ × ℕ) → IsMember b starts → IsMember b starts'
   old_start b i = In-left b starts ((length path, length work) ∷ []) i
 
-  start : (b : ℕ × ℕ) → In b starts' → In b starts ⊎ ((b.0 ≡ p) × (b.1 ≡ length work))
+  start : (b : ℕ × ℕ) → IsMember b starts' → IsMember b starts ⊎ ((b.0 ≡ p) × (b.1 ≡ length work))
   start b i = by (In-append b starts ((length path, length work) ∷ []) i)
     where
-      by : In b starts ⊎ In b ((length path, length work) ∷ []) → In b starts ⊎ ((b.0 ≡ p) × (b.1 ≡ length work))
+      by : IsMember b starts ⊎ IsMember b ((length path, length work) ∷ []) → IsMember b starts ⊎ ((b.0 ≡ p) × (b.1 ≡ length work))
       by (inl j) = inl j
       by (inr (inl e)) = inr (ap (λ q. q.0) e, ap (λ q. q.1) e)
       by (inr (inr j)) = absurd j
@@ -118,7 +118,7 @@ module _ (n : ℕ) (pairs : List (ℕ × ℕ)) (marks : List Mark) (path work : 
   between_old : (j i : ℕ) → i < p → Between starts' j i → Between starts j i
   between_old j i h (b, k, l, m) = by (start b k)
     where
-      by : In b starts ⊎ ((b.0 ≡ p) × (b.1 ≡ length work)) → Between starts j i
+      by : IsMember b starts ⊎ ((b.0 ≡ p) × (b.1 ≡ length work)) → Between starts j i
       by (inl q) = (b, q, l, m)
       by (inr q) = absurd (let z = q.0 in omega arith)
 
@@ -185,75 +185,75 @@ module _ (n : ℕ) (pairs : List (ℕ × ℕ)) (marks : List Mark) (path work : 
           by (inr e) (inl m) = absurd (none ((length path, length work), new_start, m, let z = e in omega arith))
           by (inr e) (inr m) = subst (λ z. Reaches pairs (at path' j) (at path' z)) (let q : j ≡ i = omega arith in q) (Reaches-itself pairs (at path' j))
 
-      rises : (b c : ℕ × ℕ) → In b starts → In c ((length path, length work) ∷ []) → b.0 < c.0
+      rises : (b c : ℕ × ℕ) → IsMember b starts → IsMember c ((length path, length work) ∷ []) → b.0 < c.0
       rises b c i (inl e) = subst (λ z. b.0 < z) (sym (ap (λ q. q.0) e)) (w.inside b i).0
       rises b c i (inr j) = absurd j
 
-      inside : (b : ℕ × ℕ) → In b starts' → (b.0 < length path') × (b.1 ≤ length work')
+      inside : (b : ℕ × ℕ) → IsMember b starts' → (b.0 < length path') × (b.1 ≤ length work')
       inside b i = by (start b i)
         where
-          by : In b starts ⊎ ((b.0 ≡ p) × (b.1 ≡ length work)) → (b.0 < length path') × (b.1 ≤ length work')
+          by : IsMember b starts ⊎ ((b.0 ≡ p) × (b.1 ≡ length work)) → (b.0 < length path') × (b.1 ≤ length work')
           by (inl j) = let k = w.inside b j in (grown b.0 k.0, subst (λ z. b.1 ≤ z) (sym size_work) (let l = k.1 in omega arith))
           by (inr e) = (subst (λ z. z < length path') (sym e.0) ended, subst (λ z. b.1 ≤ z) (sym size_work) (let l = e.1 in omega arith))
 
-      first : 0 < length path' → (t : ℕ) × In (0, t) starts'
+      first : 0 < length path' → (t : ℕ) × IsMember (0, t) starts'
       first h = by (cases_lt 0 p)
         where
-          by : (0 < p) ⊎ (p ≤ 0) → (t : ℕ) × In (0, t) starts'
+          by : (0 < p) ⊎ (p ≤ 0) → (t : ℕ) × IsMember (0, t) starts'
           by (inl l) = let k = w.first l in (k.0, old_start (0, k.0) k.1)
-          by (inr l) = (length work, subst (λ z. In (z, length work) starts') (let q : p ≡ 0 = omega arith in q) new_start)
+          by (inr l) = (length work, subst (λ z. IsMember (z, length work) starts') (let q : p ≡ 0 = omega arith in q) new_start)
 
       sources : (k : ℕ) → k < length work'
-          → (i : ℕ) × (i < length path') × In (at path' i, at work' k) pairs × ((b : ℕ × ℕ) → In b starts' → (b.1 ≤ k) ↔ (b.0 ≤ i))
+          → (i : ℕ) × (i < length path') × IsMember (at path' i, at work' k) pairs × ((b : ℕ × ℕ) → IsMember b starts' → (b.1 ≤ k) ↔ (b.0 ≤ i))
       sources k h = by (cases_lt k (length work))
         where
           by : (k < length work) ⊎ (length work ≤ k)
-              → (i : ℕ) × (i < length path') × In (at path' i, at work' k) pairs × ((b : ℕ × ℕ) → In b starts' → (b.1 ≤ k) ↔ (b.0 ≤ i))
+              → (i : ℕ) × (i < length path') × IsMember (at path' i, at work' k) pairs × ((b : ℕ × ℕ) → IsMember b starts' → (b.1 ≤ k) ↔ (b.0 ≤ i))
           by (inl l) = of (w.sources k l)
             where
-              of : (i : ℕ) × (i < length path) × In (at path i, at work k) pairs × ((b : ℕ × ℕ) → In b starts → (b.1 ≤ k) ↔ (b.0 ≤ i))
-                  → (i : ℕ) × (i < length path') × In (at path' i, at work' k) pairs × ((b : ℕ × ℕ) → In b starts' → (b.1 ≤ k) ↔ (b.0 ≤ i))
+              of : (i : ℕ) × (i < length path) × IsMember (at path i, at work k) pairs × ((b : ℕ × ℕ) → IsMember b starts → (b.1 ≤ k) ↔ (b.0 ≤ i))
+                  → (i : ℕ) × (i < length path') × IsMember (at path' i, at work' k) pairs × ((b : ℕ × ℕ) → IsMember b starts' → (b.1 ≤ k) ↔ (b.0 ≤ i))
               of (i, m, q, o) = (
                 i,
                 grown i m,
-                subst (λ z. In (z, at work' k) pairs) (sym (at_path i m)) (subst (λ z. In (at path i, z) pairs) (sym (at_work k l)) q),
+                subst (λ z. IsMember (z, at work' k) pairs) (sym (at_path i m)) (subst (λ z. IsMember (at path i, z) pairs) (sym (at_work k l)) q),
                 λ b j. on b (start b j),
               )
                 where
-                  on : (b : ℕ × ℕ) → In b starts ⊎ ((b.0 ≡ p) × (b.1 ≡ length work)) → (b.1 ≤ k) ↔ (b.0 ≤ i)
+                  on : (b : ℕ × ℕ) → IsMember b starts ⊎ ((b.0 ≡ p) × (b.1 ≡ length work)) → (b.1 ≤ k) ↔ (b.0 ≤ i)
                   on b (inl j) = o b j
                   on b (inr e) = (λ f. absurd (let z = e.1 in omega arith), λ f. absurd (let z = e.0 in omega arith))
           by (inr l) = (
             p,
             ended,
-            subst (λ z. In (z, at work' k) pairs) (sym at_end)
-                ((are (at work' k)).0 (subst (λ z. In z targets) (sym (get_or-append_right work targets (length work) k 0 refl l))
+            subst (λ z. IsMember (z, at work' k) pairs) (sym at_end)
+                ((are (at work' k)).0 (subst (λ z. IsMember z targets) (sym (get_or-append_right work targets (length work) k 0 refl l))
                 (In-at targets (k - length work) (let z : k < length work + length targets = subst (λ y. k < y) size_work h in omega arith)))),
             λ b j. on b (start b j),
           )
             where
-              on : (b : ℕ × ℕ) → In b starts ⊎ ((b.0 ≡ p) × (b.1 ≡ length work)) → (b.1 ≤ k) ↔ (b.0 ≤ p)
+              on : (b : ℕ × ℕ) → IsMember b starts ⊎ ((b.0 ≡ p) × (b.1 ≡ length work)) → (b.1 ≤ k) ↔ (b.0 ≤ p)
               on b (inl j) = let m = w.inside b j in (λ f. (let z = m.0 in omega arith), λ f. (let z = m.1 in omega arith))
               on b (inr e) = (λ f. (let z = e.0 in omega arith), λ f. (let z = e.1 in omega arith))
 
-      gone : (i x : ℕ) → i < length path' → In (at path' i, x) pairs → IsMet new path' work' starts' i x ⊎ In x []
+      gone : (i x : ℕ) → i < length path' → IsMember (at path' i, x) pairs → IsMet new path' work' starts' i x ⊎ IsMember x []
       gone i x h q = by (place i h)
         where
-          by : (i < p) ⊎ (i ≡ p) → IsMet new path' work' starts' i x ⊎ In x []
-          by (inl l) = on (w.gone i x l (subst (λ z. In (z, x) pairs) (at_path i l) q))
+          by : (i < p) ⊎ (i ≡ p) → IsMet new path' work' starts' i x ⊎ IsMember x []
+          by (inl l) = on (w.gone i x l (subst (λ z. IsMember (z, x) pairs) (at_path i l) q))
             where
-              on : IsMet marks path work starts i x ⊎ In x (v ∷ []) → IsMet new path' work' starts' i x ⊎ In x []
+              on : IsMet marks path work starts i x ⊎ IsMember x (v ∷ []) → IsMet new path' work' starts' i x ⊎ IsMember x []
               on (inl (inl (d, k))) = inl (inl (d, done_kept x d k))
               on (inl (inr (inl (j, k, m, o)))) = inl (inr (inl (j, grown j k, at_path j k ∙ m, λ b. o (between_old j i l b))))
               on (inl (inr (inr (k, m, o, r)))) = inl (inr (inr (k, subst (λ z. k < z) (sym size_work) (omega arith), at_work k m ∙ o, λ b j. later b (start b j))))
                 where
-                  later : (b : ℕ × ℕ) → In b starts ⊎ ((b.0 ≡ p) × (b.1 ≡ length work)) → b.0 ≤ i → b.1 ≤ k
+                  later : (b : ℕ × ℕ) → IsMember b starts ⊎ ((b.0 ≡ p) × (b.1 ≡ length work)) → b.0 ≤ i → b.1 ≤ k
                   later b (inl j) f = r b j f
                   later b (inr e) f = absurd (let z = e.0 in omega arith)
               on (inr (inl e)) = inl (inr (inl (p, ended, at_end ∙ sym e, none_from_end i (omega arith))))
               on (inr (inr j)) = absurd j
           by (inr e) =
-              let k = at-In targets x ((are x).1 (subst (λ z. In (z, x) pairs) (ap (at path') e ∙ at_end) q)) in
+              let k = at-In targets x ((are x).1 (subst (λ z. IsMember (z, x) pairs) (ap (at path') e ∙ at_end) q)) in
               inl (inr (inr (
                 length work + k.0,
                 subst (λ z. length work + k.0 < z) (sym size_work) (let l = k.1 in omega arith),
@@ -261,6 +261,6 @@ module _ (n : ℕ) (pairs : List (ℕ × ℕ)) (marks : List Mark) (path work : 
                 λ b j. later k.0 b (start b j),
               )))
             where
-              later : (k : ℕ) (b : ℕ × ℕ) → In b starts ⊎ ((b.0 ≡ p) × (b.1 ≡ length work)) → b.0 ≤ i → b.1 ≤ length work + k
+              later : (k : ℕ) (b : ℕ × ℕ) → IsMember b starts ⊎ ((b.0 ≡ p) × (b.1 ≡ length work)) → b.0 ≤ i → b.1 ≤ length work + k
               later k b (inl j) f = let m = (w.inside b j).1 in omega arith
               later k b (inr g) f = let m = g.1 in omega arith

@@ -4,7 +4,7 @@ use Rattle.std.proofs.lemmas.Bool.{cases_eq, cases_lt}
 use Rattle.std.proofs.lemmas.List.{length-replicate, length-set}
 use Rattle.components.specs.Classes.{AddsBetween, AreClassRows, AreMembers, ArePairsBetween, IsClass, IsPairBetween}
 use Rattle.components.specs.Labels.{AreLabels, at}
-use Rattle.components.specs.Lists.{In}
+use Rattle.components.specs.Lists.{IsMember}
 use Rattle.components.specs.Reachability.{AreBelow}
 use Rattle.components.specs.Targets.{AreTargets, row}
 use Rattle.components.proofs.Adding.{none_at}
@@ -18,16 +18,16 @@ class_more n labels c class is e = record {
   each = λ a. (λ i. to a (In-append a class (n ∷ []) i), λ h. back a (cases_lt a n) h);
 }
   where
-    rises : (x y : ℕ) → In x class → In y (n ∷ []) → x < y
+    rises : (x y : ℕ) → IsMember x class → IsMember y (n ∷ []) → x < y
     rises x y i (inl f) = let h = ((is.each x).0 i).0 in omega arith
     rises x y i (inr j) = absurd j
 
-    to : (a : ℕ) → In a class ⊎ In a (n ∷ []) → (a < n + 1) × (at labels a ≡ c)
+    to : (a : ℕ) → IsMember a class ⊎ IsMember a (n ∷ []) → (a < n + 1) × (at labels a ≡ c)
     to a (inl i) = let h = (is.each a).0 i in ((let k = h.0 in omega arith), h.1)
     to a (inr (inl f)) = (omega arith, ap (at labels) f ∙ e)
     to a (inr (inr j)) = absurd j
 
-    back : (a : ℕ) → (a < n) ⊎ (n ≤ a) → (a < n + 1) × (at labels a ≡ c) → In a (class ++ n ∷ [])
+    back : (a : ℕ) → (a < n) ⊎ (n ≤ a) → (a < n + 1) × (at labels a ≡ c) → IsMember a (class ++ n ∷ [])
     back a (inl h) p = In-left a class (n ∷ []) ((is.each a).1 (h, p.1))
     back a (inr h) p = In-right a class (n ∷ []) (inl (let k = p.0 in omega arith))
 
@@ -37,7 +37,7 @@ class_same n labels c class is d = record {
   each = λ a. (λ i. let h = (is.each a).0 i in ((let k = h.0 in omega arith), h.1), λ h. back a (cases_lt a n) h);
 }
   where
-    back : (a : ℕ) → (a < n) ⊎ (n ≤ a) → (a < n + 1) × (at labels a ≡ c) → In a class
+    back : (a : ℕ) → (a < n) ⊎ (n ≤ a) → (a < n + 1) × (at labels a ≡ c) → IsMember a class
     back a (inl h) p = (is.each a).1 (h, p.1)
     back a (inr h) p = absurd (d (let e : a ≡ n = (let k = p.0 in omega arith) in ap (at labels) (sym e) ∙ p.1))
 
@@ -78,11 +78,11 @@ module _ (pairs : List (ℕ × ℕ)) (labels : List ℕ) (between new : List (�
   between_more : (at labels from ≡ at labels to → ⊥) → new ≡ between ++ (at labels from, at labels to) ∷ []
       → ArePairsBetween (pairs ++ (from, to) ∷ []) labels new
   between_more apart is e c = (
-    λ i. has (In-append (e, c) between ((at labels from, at labels to) ∷ []) (subst (In (e, c)) is i)),
-    λ h. subst (In (e, c)) (sym is) (back h),
+    λ i. has (In-append (e, c) between ((at labels from, at labels to) ∷ []) (subst (IsMember (e, c)) is i)),
+    λ h. subst (IsMember (e, c)) (sym is) (back h),
   )
     where
-      has : In (e, c) between ⊎ In {X = ℕ × ℕ} (e, c) ((at labels from, at labels to) ∷ []) → IsPairBetween (pairs ++ (from, to) ∷ []) labels e c
+      has : IsMember (e, c) between ⊎ IsMember {X = ℕ × ℕ} (e, c) ((at labels from, at labels to) ∷ []) → IsPairBetween (pairs ++ (from, to) ∷ []) labels e c
       has (inl i) = earlier e c ((are e c).0 i)
       has (inr (inl f)) =
           let g : e ≡ at labels from = ap (λ p. p.0) f in
@@ -90,10 +90,10 @@ module _ (pairs : List (ℕ × ℕ)) (labels : List ℕ) (between new : List (�
           (from, to, In-right (from, to) pairs ((from, to) ∷ []) (inl refl), sym g, sym h, λ k. apart (sym g ∙ (k ∙ h)))
       has (inr (inr i)) = absurd i
 
-      back : IsPairBetween (pairs ++ (from, to) ∷ []) labels e c → In (e, c) (between ++ (at labels from, at labels to) ∷ [])
+      back : IsPairBetween (pairs ++ (from, to) ∷ []) labels e c → IsMember (e, c) (between ++ (at labels from, at labels to) ∷ [])
       back (a, b, i, la, lb, d) = by (In-append (a, b) pairs ((from, to) ∷ []) i)
         where
-          by : In (a, b) pairs ⊎ In {X = ℕ × ℕ} (a, b) ((from, to) ∷ []) → In (e, c) (between ++ (at labels from, at labels to) ∷ [])
+          by : IsMember (a, b) pairs ⊎ IsMember {X = ℕ × ℕ} (a, b) ((from, to) ∷ []) → IsMember (e, c) (between ++ (at labels from, at labels to) ∷ [])
           by (inl j) = In-left (e, c) between ((at labels from, at labels to) ∷ []) ((are e c).1 (a, b, j, la, lb, d))
           by (inr (inl f)) =
               let g : a ≡ from = ap (λ p. p.0) f in
@@ -105,14 +105,14 @@ module _ (pairs : List (ℕ × ℕ)) (labels : List ℕ) (between new : List (�
 
   between_same : at labels from ≡ at labels to → new ≡ between → ArePairsBetween (pairs ++ (from, to) ∷ []) labels new
   between_same same is e c = (
-    λ i. earlier e c ((are e c).0 (subst (In (e, c)) is i)),
-    λ h. subst (In (e, c)) (sym is) (back h),
+    λ i. earlier e c ((are e c).0 (subst (IsMember (e, c)) is i)),
+    λ h. subst (IsMember (e, c)) (sym is) (back h),
   )
     where
-      back : IsPairBetween (pairs ++ (from, to) ∷ []) labels e c → In (e, c) between
+      back : IsPairBetween (pairs ++ (from, to) ∷ []) labels e c → IsMember (e, c) between
       back (a, b, i, la, lb, d) = by (In-append (a, b) pairs ((from, to) ∷ []) i)
         where
-          by : In (a, b) pairs ⊎ In {X = ℕ × ℕ} (a, b) ((from, to) ∷ []) → In (e, c) between
+          by : IsMember (a, b) pairs ⊎ IsMember {X = ℕ × ℕ} (a, b) ((from, to) ∷ []) → IsMember (e, c) between
           by (inl j) = (are e c).1 (a, b, j, la, lb, d)
           by (inr (inl f)) =
               let g : a ≡ from = ap (λ p. p.0) f in

@@ -1,12 +1,12 @@
 -- At the end of the walk all numbers have their classes.
 use Rattle.std.proofs.Common.{◌≡◌, refl, sym, ap, ◌∙◌, subst, ◌⊎◌, inl, inr, ℕ, zero, suc, ◌<◌, ◌≤◌, List, [], ◌∷◌, length, map, arith}
 use Rattle.std.proofs.lemmas.List.{length-map}
-use Rattle.components.specs.Lists.{In}
+use Rattle.components.specs.Lists.{IsMember}
 use Rattle.components.specs.Reachability.{AreBelow}
 use Rattle.components.proofs.ListLaws.{Each-In}
 use Rattle.components.proofs.Walks.{Reaches-others}
-use Rattle.components.specs.declared.walk.Mark.{Mark}
-use Rattle.components.specs.declared.walk.Mark.TheVariants.{New, At, Done}
+use Rattle.components.specs.declared.walk.NodeState.{NodeState}
+use Rattle.components.specs.declared.walk.NodeState.TheVariants.{New, At, Done}
 use Rattle.components.specs.Labels.{AreLabels, at}
 use Rattle.components.specs.Targets.{AreInside, AreTargets, leads}
 use Rattle.components.specs.Walking.{mark, label_of}
@@ -18,13 +18,13 @@ pub inside_of_below : (n : ℕ) (pairs : List (ℕ × ℕ)) (rows : List (List �
 inside_of_below n pairs rows below are a b i =
     subst (λ z. b < z) (sym are.count) (Each-In (λ p. (p.0 < n) × (p.1 < n)) pairs below (a, b) ((are.each a b).0 i)).1
 
-label_at : (marks : List Mark) (v : ℕ) → at (map label_of marks) v ≡ label_of (mark marks v)
+label_at : (marks : List NodeState) (v : ℕ) → at (map label_of marks) v ≡ label_of (mark marks v)
 label_at [] v = refl
 label_at (m ∷ marks) zero = refl
 label_at (m ∷ marks) (suc v) = label_at marks v
 
 module _ (n : ℕ) (pairs : List (ℕ × ℕ)) (rows : List (List ℕ)) (below : AreBelow n pairs) (are : AreTargets n pairs rows)
-    (marks : List Mark) (path work : List ℕ) (starts : List (ℕ × ℕ)) (count : ℕ)
+    (marks : List NodeState) (path work : List ℕ) (starts : List (ℕ × ℕ)) (count : ℕ)
     (w : IsState rows [] marks path work starts count) (empty : path ≡ []) (all : (v : ℕ) → v < n → mark marks v ≡ New → ⊥)
     (labels : List ℕ) (is : labels ≡ map label_of marks) where
   size : length marks ≡ n
@@ -44,7 +44,7 @@ module _ (n : ℕ) (pairs : List (ℕ × ℕ)) (rows : List (List ℕ)) (below :
   has_label : (v : ℕ) → v < n → mark marks v ≡ Done (at labels v)
   has_label v h = let d = done v h in d.1 ∙ ap Done (sym (label v d.0 d.1))
 
-  is_pair : (p : ℕ × ℕ) → In p (leads rows) → In p pairs
+  is_pair : (p : ℕ × ℕ) → IsMember p (leads rows) → IsMember p pairs
   is_pair p i = (are.each p.0 p.1).0 (leads-In rows p.0 p.1 i)
 
   pub all_labelled : AreLabels n pairs count labels

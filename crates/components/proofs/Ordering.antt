@@ -7,7 +7,7 @@ use Rattle.components.specs.declared.tables.Tables.{Tables}
 use Rattle.components.specs.Classes.{AreClassRows, AreMembers, flag}
 use Rattle.components.specs.Counts.{times_to}
 use Rattle.components.specs.Labels.{AreLabels, at}
-use Rattle.components.specs.Lists.{In}
+use Rattle.components.specs.Lists.{IsMember}
 use Rattle.components.specs.Orders.{IsOrder}
 use Rattle.components.specs.Reachability.{AreBelow}
 use Rattle.components.specs.Rest.{AreFilled, ComesNext, IsFreeFirst, IsRest, Nexts, has}
@@ -16,7 +16,7 @@ use Rattle.components.proofs.Counting.{tally_all}
 use Rattle.components.proofs.Emitting.{Comes, all_done, is_order}
 use Rattle.components.proofs.Flags.{none_set, open_all, open_flags, open_set}
 
-some_inside : (xs : List ℕ) (x : ℕ) → In x xs → 0 < length xs
+some_inside : (xs : List ℕ) (x : ℕ) → IsMember x xs → 0 < length xs
 some_inside [] x i = absurd i
 some_inside (y ∷ xs) x i = omega arith
 

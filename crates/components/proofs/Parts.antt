@@ -2,10 +2,10 @@
 use Rattle.std.proofs.Common.{◌≡◌, refl, sym, ap, ◌∙◌, subst, ◌⊎◌, inl, inr, ℕ, ◌+◌, ◌<◌, ◌≤◌, List, [], ◌∷◌, ◌++◌, length, set, take, arith, get_or-set_same, get_or-set_other}
 use Rattle.std.proofs.lemmas.Bool.{cases_eq}
 use Rattle.std.proofs.lemmas.List.{length_push, length-append, length-take-le, take_more, same_from_push}
-use Rattle.components.specs.Lists.{In, Pairwise}
+use Rattle.components.specs.Lists.{IsMember, Pairwise}
 use Rattle.components.proofs.ListLaws.{In-append, In-left, In-right}
-use Rattle.components.specs.declared.walk.Mark.{Mark}
-use Rattle.components.specs.declared.walk.Mark.TheVariants.{New, At, Done}
+use Rattle.components.specs.declared.walk.NodeState.{NodeState}
+use Rattle.components.specs.declared.walk.NodeState.TheVariants.{New, At, Done}
 use Rattle.components.specs.Targets.{AreInside, row, leads}
 use Rattle.components.specs.Labels.{at}
 use Rattle.components.specs.Walking.{cost, mark, weight, without_last, DropsAfter, IsClosed, IsWalk}
@@ -17,20 +17,20 @@ use Rattle.components.proofs.Popping.{popped}
 use Rattle.components.proofs.Leads.{leads-In, In-leads}
 use Rattle.components.proofs.Weights.{new_at, new_done, which, weight_set}
 
-abbrev pub IsState : List (List ℕ) → List ℕ → List Mark → List ℕ → List ℕ → List (ℕ × ℕ) → ℕ → Type 0
+abbrev pub IsState : List (List ℕ) → List ℕ → List NodeState → List ℕ → List ℕ → List (ℕ × ℕ) → ℕ → Type 0
 IsState rows more marks path work starts count =
     IsWalk (length rows) (leads rows) more marks path work starts count × (weight (λ v. 1) marks + length path + count ≤ length rows)
 
-pub record IsPart (rows : List (List ℕ)) (marks : List Mark) (most : ℕ) (new : List Mark) (path work : List ℕ) (starts : List (ℕ × ℕ)) (count : ℕ) : Type 0 where
+pub record IsPart (rows : List (List ℕ)) (marks : List NodeState) (most : ℕ) (new : List NodeState) (path work : List ℕ) (starts : List (ℕ × ℕ)) (count : ℕ) : Type 0 where
   pub is : IsState rows [] new path work starts count
   pub keeps : (v : ℕ) → mark new v ≡ New → mark marks v ≡ New
   pub less : weight (cost rows) new + length work + length starts ≤ most
 
 -- ---- a number comes to the path
 
-module _ (rows : List (List ℕ)) (v : ℕ) (marks : List Mark) (path work : List ℕ) (starts : List (ℕ × ℕ)) (count : ℕ)
+module _ (rows : List (List ℕ)) (v : ℕ) (marks : List NodeState) (path work : List ℕ) (starts : List (ℕ × ℕ)) (count : ℕ)
     (w : IsState rows (v ∷ []) marks path work starts count) (is : mark marks v ≡ New) (below : v < length rows) where
-  abbrev entered_marks : List Mark
+  abbrev entered_marks : List NodeState
   entered_marks = set marks v (At (length path))
 
   in_marks : v < length marks
@@ -58,22 +58,22 @@ module _ (rows : List (List ℕ)) (v : ℕ) (marks : List Mark) (path work : Lis
       by u e (inl f) = ap (mark marks) f ∙ is
       by u e (inr f) = sym (get_or-set_other marks v u (At (length path)) New f) ∙ e
 
-  pub entered_met : (new : List Mark) → new ≡ entered_marks → mark new v ≡ New → ⊥
+  pub entered_met : (new : List NodeState) → new ≡ entered_marks → mark new v ≡ New → ⊥
   entered_met new m e = new_at (length path) (sym e ∙ (ap (λ z. mark z v) m ∙ get_or-set_same marks v (At (length path)) New in_marks))
 
-  pub entered : (new : List Mark) (path' work' : List ℕ) (starts' : List (ℕ × ℕ))
+  pub entered : (new : List NodeState) (path' work' : List ℕ) (starts' : List (ℕ × ℕ))
       → new ≡ entered_marks → path' ≡ path ++ v ∷ [] → work' ≡ work ++ row rows v → starts' ≡ starts ++ (length path, length work) ∷ []
       → IsPart rows marks (weight (cost rows) marks + length work + length starts) new path' work' starts' count
   entered new path' work' starts' m p x s =
       subst (λ z. Part z path' work' starts') (sym m) (subst (λ z. Part entered_marks z work' starts') (sym p)
       (subst (λ z. Part entered_marks (path ++ v ∷ []) z starts') (sym x) (subst (Part entered_marks (path ++ v ∷ []) (work ++ row rows v)) (sym s) entered_here)))
     where
-      Part : List Mark → List ℕ → List ℕ → List (ℕ × ℕ) → Type 0
+      Part : List NodeState → List ℕ → List ℕ → List (ℕ × ℕ) → Type 0
       Part new path' work' starts' = IsPart rows marks (weight (cost rows) marks + length work + length starts) new path' work' starts' count
 
 -- ---- a number that is met
 
-module _ (rows : List (List ℕ)) (v : ℕ) (marks : List Mark) (path work : List ℕ) (starts : List (ℕ × ℕ)) (count : ℕ)
+module _ (rows : List (List ℕ)) (v : ℕ) (marks : List NodeState) (path work : List ℕ) (starts : List (ℕ × ℕ)) (count : ℕ)
     (w : IsState rows (v ∷ []) marks path work starts count) where
   pub joined : (p : ℕ) (new : List (ℕ × ℕ)) → mark marks v ≡ At p → DropsAfter p starts new
       → IsPart rows marks (weight (cost rows) marks + length work + length starts) marks path work new count
@@ -93,30 +93,30 @@ module _ (rows : List (List ℕ)) (v : ℕ) (marks : List Mark) (path work : Lis
 -- ---- the last block
 
 module _ (starts : List (ℕ × ℕ)) (last : ℕ × ℕ) (split : starts ≡ without_last starts ++ last ∷ []) where
-  pub last-In : In last starts
-  last-In = subst (In last) (sym split) (In-right last (without_last starts) (last ∷ []) (inl refl))
+  pub last-In : IsMember last starts
+  last-In = subst (IsMember last) (sym split) (In-right last (without_last starts) (last ∷ []) (inl refl))
 
   pub fewer_by_one : length (without_last starts) + 1 ≡ length starts
   fewer_by_one = sym (ap length split ∙ length_push (without_last starts) last)
 
-  pub all_up_to : (place : ℕ) → Pairwise (λ b c. b.0 < c.0) starts → last.0 ≤ place → (b : ℕ × ℕ) → In b starts → b.0 ≤ place
-  all_up_to place r h b i = all_before place (without_last starts) last (subst (Pairwise (λ b c. b.0 < c.0)) split r) h b (subst (In b) split i)
+  pub all_up_to : (place : ℕ) → Pairwise (λ b c. b.0 < c.0) starts → last.0 ≤ place → (b : ℕ × ℕ) → IsMember b starts → b.0 ≤ place
+  all_up_to place r h b i = all_before place (without_last starts) last (subst (Pairwise (λ b c. b.0 < c.0)) split r) h b (subst (IsMember b) split i)
 
   pub rising_without : Pairwise (λ b c. b.0 < c.0) starts → Pairwise (λ b c. b.0 < c.0) (without_last starts)
   rising_without r = rising_front (without_last starts) (last ∷ []) (subst (Pairwise (λ b c. b.0 < c.0)) split r)
 
-  pub without-In : (b : ℕ × ℕ) → In b (without_last starts) → In b starts
-  without-In b i = subst (In b) (sym split) (In-left b (without_last starts) (last ∷ []) i)
+  pub without-In : (b : ℕ × ℕ) → IsMember b (without_last starts) → IsMember b starts
+  without-In b i = subst (IsMember b) (sym split) (In-left b (without_last starts) (last ∷ []) i)
 
-  pub In-without : (b : ℕ × ℕ) → In b starts → b.0 < last.0 → In b (without_last starts)
-  In-without b i h = by (In-append b (without_last starts) (last ∷ []) (subst (In b) split i))
+  pub In-without : (b : ℕ × ℕ) → IsMember b starts → b.0 < last.0 → IsMember b (without_last starts)
+  In-without b i h = by (In-append b (without_last starts) (last ∷ []) (subst (IsMember b) split i))
     where
-      by : In b (without_last starts) ⊎ In b (last ∷ []) → In b (without_last starts)
+      by : IsMember b (without_last starts) ⊎ IsMember b (last ∷ []) → IsMember b (without_last starts)
       by (inl j) = j
       by (inr (inl e)) = absurd (let k : b.0 ≡ last.0 = ap (λ p. p.0) e in omega arith)
       by (inr (inr j)) = absurd j
 
-  module _ (rows : List (List ℕ)) (marks : List Mark) (path work : List ℕ) (count : ℕ) (w : IsState rows [] marks path work starts count) where
+  module _ (rows : List (List ℕ)) (marks : List NodeState) (path work : List ℕ) (count : ℕ) (w : IsState rows [] marks path work starts count) where
     pub last_inside : last.0 < length path
     last_inside = (w.0.inside last last-In).0
 
@@ -126,7 +126,7 @@ module _ (starts : List (ℕ × ℕ)) (last : ℕ × ℕ) (split : starts ≡ wi
     split_walk : IsWalk (length rows) (leads rows) [] marks path work (without_last starts ++ (last.0, last.1) ∷ []) count
     split_walk = subst (λ z. IsWalk (length rows) (leads rows) [] marks path work z count) split w.0
 
-    left_here : length work ≤ last.1 → (new : List Mark) → IsClosed marks path last.0 count new
+    left_here : length work ≤ last.1 → (new : List NodeState) → IsClosed marks path last.0 count new
         → IsPart rows marks (weight (cost rows) marks + length work + length (without_last starts)) new (take last.0 path) work (without_last starts) (count + 1)
     left_here empty new closed = record {
       is = (
@@ -146,11 +146,11 @@ module _ (starts : List (ℕ × ℕ)) (last : ℕ × ℕ) (split : starts ≡ wi
         by v e (inr (inr (c, f))) =
             absurd (new_done c (sym e ∙ (closed.others v (λ i l m g. new_done c (absurd (at_is i c (sym (w.0.placed i m) ∙ (ap (mark marks) g ∙ f))))) ∙ f)))
           where
-            at_is : (i c : ℕ) → ◌≡◌ {A = Mark} (At i) (Done c) → ⊥
+            at_is : (i c : ℕ) → ◌≡◌ {A = NodeState} (At i) (Done c) → ⊥
             at_is i c e = cc
         by v e (inr (inl (i, f))) = on (Rattle.std.proofs.lemmas.Bool.cases_lt i last.0) (w.0.on_path v i f)
           where
-            same : (j : ℕ) → ◌≡◌ {A = Mark} (At i) (At j) → i ≡ j
+            same : (j : ℕ) → ◌≡◌ {A = NodeState} (At i) (At j) → i ≡ j
             same j e = cc
 
             on : (i < last.0) ⊎ (last.0 ≤ i) → (i < length path) × (at path i ≡ v) → mark marks v ≡ New
@@ -158,7 +158,7 @@ module _ (starts : List (ℕ × ℕ)) (last : ℕ × ℕ) (split : starts ≡ wi
                 absurd (new_at i (sym e ∙ (closed.others v (λ j l m g. let q : i ≡ j = same j (sym f ∙ (ap (mark marks) (sym g) ∙ w.0.placed j m)) in omega arith) ∙ f)))
             on (inr h) p = absurd (new_done count (sym e ∙ (ap (mark new) (sym p.1) ∙ closed.gets i h p.0)))
 
-    pub left_block : length work ≤ last.1 → (new : List Mark) (path' work' : List ℕ) (starts' : List (ℕ × ℕ)) (count' : ℕ)
+    pub left_block : length work ≤ last.1 → (new : List NodeState) (path' work' : List ℕ) (starts' : List (ℕ × ℕ)) (count' : ℕ)
         → IsClosed marks path last.0 count new → path' ≡ take last.0 path → work' ≡ work → starts' ≡ without_last starts → count' ≡ count + 1
         → IsPart rows marks (weight (cost rows) marks + length work + length (without_last starts)) new path' work' starts' count'
     left_block empty new path' work' starts' count' closed p x s c =
@@ -170,7 +170,7 @@ module _ (starts : List (ℕ × ℕ)) (last : ℕ × ℕ) (split : starts ≡ wi
 
   -- ---- the next number
 
-  module _ (rows : List (List ℕ)) (marks : List Mark) (path work before : List ℕ) (count v : ℕ) (w : IsState rows [] marks path before starts count)
+  module _ (rows : List (List ℕ)) (marks : List NodeState) (path work before : List ℕ) (count v : ℕ) (w : IsState rows [] marks path before starts count)
       (cut : before ≡ work ++ v ∷ []) where
     pub taken : last.1 < length before → IsState rows (v ∷ []) marks path work starts count
     taken h = (
@@ -182,7 +182,7 @@ module _ (starts : List (ℕ × ℕ)) (last : ℕ × ℕ) (split : starts ≡ wi
       w.1,
     )
 
-pub taken_below : (rows : List (List ℕ)) (more : List ℕ) (marks : List Mark) (path work before : List ℕ) (starts : List (ℕ × ℕ)) (count v : ℕ)
+pub taken_below : (rows : List (List ℕ)) (more : List ℕ) (marks : List NodeState) (path work before : List ℕ) (starts : List (ℕ × ℕ)) (count v : ℕ)
     → AreInside rows → IsState rows more marks path before starts count → before ≡ work ++ v ∷ [] → v < length rows
 taken_below rows more marks path work before starts count v inside w cut =
     let size : length before ≡ length work + 1 = ap length cut ∙ length_push work v in
@@ -191,10 +191,10 @@ taken_below rows more marks path work before starts count v inside w cut =
     subst (λ z. z < length rows) is (inside (at path source.0) (at before (length work)) (leads-In rows (at path source.0) (at before (length work)) source.2))
 
 -- where the path is empty there are no blocks, and the other way round
-pub no_blocks : (rows : List (List ℕ)) (more : List ℕ) (marks : List Mark) (path work : List ℕ) (starts : List (ℕ × ℕ)) (count : ℕ)
+pub no_blocks : (rows : List (List ℕ)) (more : List ℕ) (marks : List NodeState) (path work : List ℕ) (starts : List (ℕ × ℕ)) (count : ℕ)
     → IsState rows more marks path work starts count → starts ≡ [] → path ≡ []
 no_blocks rows more marks [] work starts count w e = refl
-no_blocks rows more marks (v ∷ path) work starts count w e = absurd (let h = w.0.first (omega arith) in subst (In (0, h.0)) e h.1)
+no_blocks rows more marks (v ∷ path) work starts count w e = absurd (let h = w.0.first (omega arith) in subst (IsMember (0, h.0)) e h.1)
 
 -- ---- closing
 
@@ -207,7 +207,7 @@ shorter old new x e h =
 
 -- ---- beginning anywhere
 
-pub started : (rows : List (List ℕ)) (v : ℕ) (marks : List Mark) (path work : List ℕ) (starts : List (ℕ × ℕ)) (count : ℕ)
+pub started : (rows : List (List ℕ)) (v : ℕ) (marks : List NodeState) (path work : List ℕ) (starts : List (ℕ × ℕ)) (count : ℕ)
     → IsState rows [] marks path work starts count → path ≡ [] → IsState rows (v ∷ []) marks path work starts count
 started rows v marks path work starts count w e = (
   subst (λ z. IsWalk (length rows) (leads rows) (v ∷ []) marks z work starts count) (sym e)
@@ -215,7 +215,7 @@ started rows v marks path work starts count w e = (
   w.1,
 )
 
-pub met_more : (n : ℕ) (old new : List Mark) → ((v : ℕ) → mark new v ≡ New → mark old v ≡ New) → ((v : ℕ) → v < n → mark old v ≡ New → ⊥)
+pub met_more : (n : ℕ) (old new : List NodeState) → ((v : ℕ) → mark new v ≡ New → mark old v ≡ New) → ((v : ℕ) → v < n → mark old v ≡ New → ⊥)
     → (mark new n ≡ New → ⊥) → (v : ℕ) → v < n + 1 → mark new v ≡ New → ⊥
 met_more n old new keeps met last v h e = by (cases_eq v n)
   where

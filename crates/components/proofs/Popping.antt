@@ -2,16 +2,16 @@
 use Rattle.std.proofs.Common.{◌≡◌, ◌↔◌, refl, sym, ap, ◌∙◌, subst, ◌⊎◌, inl, inr, ℕ, ◌+◌, ◌<◌, ◌≤◌, List, [], ◌∷◌, ◌++◌, length, arith}
 use Rattle.std.proofs.lemmas.Bool.{cases_eq, cases_lt}
 use Rattle.std.proofs.lemmas.List.{get_or_append_left, get_or_push, length_push}
-use Rattle.components.specs.Lists.{In}
+use Rattle.components.specs.Lists.{IsMember}
 use Rattle.components.specs.Reachability.{Reaches}
 use Rattle.components.proofs.ListLaws.{In-append, In-right}
 use Rattle.components.proofs.Walks.{Reaches-pair, Reaches-trans}
-use Rattle.components.specs.declared.walk.Mark.{Mark}
+use Rattle.components.specs.declared.walk.NodeState.{NodeState}
 use Rattle.components.specs.Labels.{at}
 use Rattle.components.specs.Walking.{IsMet, IsWalk}
 use Rattle.components.proofs.Lists.{last_most}
 
-module _ (n : ℕ) (pairs : List (ℕ × ℕ)) (marks : List Mark) (path work : List ℕ) (v : ℕ) (starts : List (ℕ × ℕ)) (s t count : ℕ)
+module _ (n : ℕ) (pairs : List (ℕ × ℕ)) (marks : List NodeState) (path work : List ℕ) (v : ℕ) (starts : List (ℕ × ℕ)) (s t count : ℕ)
     (w : IsWalk n pairs [] marks path (work ++ v ∷ []) (starts ++ (s, t) ∷ []) count) (more : t ≤ length work) where
   abbrev all : List (ℕ × ℕ)
   all = starts ++ (s, t) ∷ []
@@ -26,16 +26,16 @@ module _ (n : ℕ) (pairs : List (ℕ × ℕ)) (marks : List Mark) (path work : 
   at_last = get_or_push work v 0 (length work) refl
 
   abbrev Source : ℕ → ℕ → Type 0
-  Source k x = (i : ℕ) × (i < length path) × In (at path i, x) pairs × ((b : ℕ × ℕ) → In b all → (b.1 ≤ k) ↔ (b.0 ≤ i))
+  Source k x = (i : ℕ) × (i < length path) × IsMember (at path i, x) pairs × ((b : ℕ × ℕ) → IsMember b all → (b.1 ≤ k) ↔ (b.0 ≤ i))
 
   source : Source (length work) v
   source = let h = w.sources (length work) (subst (λ z. length work < z) (sym size_work) (omega arith)) in
-      (h.0, h.1, subst (λ z. In (at path h.0, z) pairs) at_last h.2, h.3)
+      (h.0, h.1, subst (λ z. IsMember (at path h.0, z) pairs) at_last h.2, h.3)
 
-  most : (b : ℕ × ℕ) → In b all → b.0 ≤ s
+  most : (b : ℕ × ℕ) → IsMember b all → b.0 ≤ s
   most b i = by (In-append b starts ((s, t) ∷ []) i)
     where
-      by : In b starts ⊎ In b ((s, t) ∷ []) → b.0 ≤ s
+      by : IsMember b starts ⊎ IsMember b ((s, t) ∷ []) → b.0 ≤ s
       by (inl j) = let h = last_most starts (s, t) w.rising b j in omega arith
       by (inr (inl e)) = let h : b.0 ≡ s = ap (λ p. p.0) e in omega arith
       by (inr (inr j)) = absurd j
@@ -65,26 +65,26 @@ module _ (n : ℕ) (pairs : List (ℕ × ℕ)) (marks : List Mark) (path work : 
     inside = λ b i. ((w.inside b i).0, (source.3 b i).1 (let h = most b i in let k = s_source in omega arith));
     first = w.first;
     sources = λ k h. let g = w.sources k (subst (λ z. k < z) (sym size_work) (omega arith)) in
-        (g.0, g.1, subst (λ z. In (at path g.0, z) pairs) (at_work k h) g.2, g.3);
+        (g.0, g.1, subst (λ z. IsMember (at path g.0, z) pairs) (at_work k h) g.2, g.3);
     gone = gone;
     ahead = ahead;
   }
     where
-      gone : (i x : ℕ) → i < length path → In (at path i, x) pairs → IsMet marks path work all i x ⊎ In x (v ∷ [])
+      gone : (i x : ℕ) → i < length path → IsMember (at path i, x) pairs → IsMet marks path work all i x ⊎ IsMember x (v ∷ [])
       gone i x h p = on (w.gone i x h p)
         where
-          on : IsMet marks path (work ++ v ∷ []) all i x ⊎ In x [] → IsMet marks path work all i x ⊎ In x (v ∷ [])
+          on : IsMet marks path (work ++ v ∷ []) all i x ⊎ IsMember x [] → IsMet marks path work all i x ⊎ IsMember x (v ∷ [])
           on (inl (inl d)) = inl (inl d)
           on (inl (inr (inl j))) = inl (inr (inl j))
           on (inl (inr (inr (k, l, m, o)))) = by (cases_eq k (length work))
             where
-              by : (k ≡ length work) ⊎ (k ≡ length work → ⊥) → IsMet marks path work all i x ⊎ In x (v ∷ [])
+              by : (k ≡ length work) ⊎ (k ≡ length work → ⊥) → IsMet marks path work all i x ⊎ IsMember x (v ∷ [])
               by (inl e) = inr (inl (sym m ∙ (ap (at (work ++ v ∷ [])) e ∙ at_last)))
               by (inr d) =
                   let q : k < length work = (let z : k < length work + 1 = subst (λ y. k < y) size_work l in omega arith) in
                   inl (inr (inr (k, q, sym (at_work k q) ∙ m, o)))
           on (inr j) = absurd j
 
-      ahead : (i x : ℕ) → i < length path → In x (v ∷ []) → Reaches pairs (at path i) x
+      ahead : (i x : ℕ) → i < length path → IsMember x (v ∷ []) → Reaches pairs (at path i) x
       ahead i x h (inl e) = subst (Reaches pairs (at path i)) (sym e) (reaches i h)
       ahead i x h (inr j) = absurd j

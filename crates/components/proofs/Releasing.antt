@@ -6,7 +6,7 @@ use Rattle.components.specs.declared.rest.Rest.{Rest}
 use Rattle.components.specs.declared.tables.Tables.{Tables}
 use Rattle.components.specs.Counts.{times}
 use Rattle.components.specs.Labels.{at}
-use Rattle.components.specs.Lists.{In}
+use Rattle.components.specs.Lists.{IsMember}
 use Rattle.components.specs.Rest.{AddsFree, IsAdded, IsFreeFirst, Lowers, Releases, first, has}
 use Rattle.components.proofs.Counting.{one, none, times-push, times_taken}
 use Rattle.components.proofs.ListLaws.{In-append, In-left, In-right}
@@ -106,7 +106,7 @@ released_none t r = record {
   ready = λ v. (λ i. inl i, λ i. from v i);
 }
   where
-    from : (v : ℕ) → (has r.ready v ≡ true) ⊎ ((c : ℕ) × In c [] × IsAdded t r c v) → has r.ready v ≡ true
+    from : (v : ℕ) → (has r.ready v ≡ true) ⊎ ((c : ℕ) × IsMember c [] × IsAdded t r c v) → has r.ready v ≡ true
     from v (inl i) = i
     from v (inr p) = absurd p.1
 
@@ -151,23 +151,23 @@ module _ (t : Tables) (xs : List ℕ) (target : ℕ) (old mid new : Rest) (is : 
           omega arith
 
       to : (v : ℕ) → (has mid.ready v ≡ true) ⊎ IsAdded t new target v
-          → (has old.ready v ≡ true) ⊎ ((c : ℕ) × In c (xs ++ target ∷ []) × IsAdded t new c v)
+          → (has old.ready v ≡ true) ⊎ ((c : ℕ) × IsMember c (xs ++ target ∷ []) × IsAdded t new c v)
       to v (inr p) = inr (target, In-right target xs (target ∷ []) (inl refl), p)
       to v (inl i) = by ((is.ready v).0 i)
         where
-          by : (has old.ready v ≡ true) ⊎ ((c : ℕ) × In c xs × IsAdded t mid c v)
-              → (has old.ready v ≡ true) ⊎ ((c : ℕ) × In c (xs ++ target ∷ []) × IsAdded t new c v)
+          by : (has old.ready v ≡ true) ⊎ ((c : ℕ) × IsMember c xs × IsAdded t mid c v)
+              → (has old.ready v ≡ true) ⊎ ((c : ℕ) × IsMember c (xs ++ target ∷ []) × IsAdded t new c v)
           by (inl j) = inl j
           by (inr (c, j, (free, f))) = inr (c, In-left c xs (target ∷ []) j, (other c apart ∙ free, f))
             where
               apart : c ≡ target → ⊥
               apart e = let k : at mid.counts.items target ≡ 0 = subst (λ z. at mid.counts.items z ≡ 0) e free in omega arith
 
-      from : (v : ℕ) → (has old.ready v ≡ true) ⊎ ((c : ℕ) × In c (xs ++ target ∷ []) × IsAdded t new c v) → has new.ready v ≡ true
+      from : (v : ℕ) → (has old.ready v ≡ true) ⊎ ((c : ℕ) × IsMember c (xs ++ target ∷ []) × IsAdded t new c v) → has new.ready v ≡ true
       from v (inl i) = (low.ready v).1 (inl ((is.ready v).1 (inl i)))
       from v (inr (c, i, (free, f))) = by (cases_eq c target) (In-append c xs (target ∷ []) i)
         where
-          by : (c ≡ target) ⊎ (c ≡ target → ⊥) → In c xs ⊎ In c (target ∷ []) → has new.ready v ≡ true
+          by : (c ≡ target) ⊎ (c ≡ target → ⊥) → IsMember c xs ⊎ IsMember c (target ∷ []) → has new.ready v ≡ true
           by (inl e) j = (low.ready v).1 (inr (subst (λ z. IsAdded t new z v) e (free, f)))
           by (inr d) (inl j) = (low.ready v).1 (inl ((is.ready v).1 (inr (c, j, (sym (other c d) ∙ free, f)))))
           by (inr d) (inr (inl e)) = absurd (d e)

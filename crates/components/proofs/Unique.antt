@@ -1,7 +1,7 @@
 -- A relation has one order of its components, however its pairs are listed.
 use Rattle.std.proofs.Common.{◌≡◌, ◌↔◌, refl, sym, subst, ◌⊎◌, inl, inr, ℕ, ◌<◌, List, [], ◌∷◌, arith}
 use Rattle.std.specs.List.{concat}
-use Rattle.components.specs.Lists.{In, Each, Pairwise, Distinct, Rises}
+use Rattle.components.specs.Lists.{IsMember, Each, Pairwise, Distinct, Rises}
 use Rattle.components.specs.Reachability.{SamePairs, AreMutual}
 use Rattle.components.specs.Orders.{IsComponent, NoneBack, MayComeNext, HasLess, LeastFirst, IsOrder}
 use Rattle.components.proofs.ListLaws.{Each-In, Each-from, Pairwise-weaker, In-left, In-right, In-append}
@@ -28,23 +28,23 @@ module _ (pairs : List (ℕ × ℕ)) where
     least_first = o.least_first.1;
   }
 
-  same_class : (c d : List ℕ) → IsComponent pairs c → IsComponent pairs d → (x : ℕ) → In x c → In x d → (b : ℕ) → In b c → In b d
+  same_class : (c d : List ℕ) → IsComponent pairs c → IsComponent pairs d → (x : ℕ) → IsMember x c → IsMember x d → (b : ℕ) → IsMember b c → IsMember b d
   same_class c d h k x i j b l = (k x b j).1 ((h x b i).0 l)
 
   first_may_come : (c : List ℕ) (cs : List (List ℕ)) → Ordered (c ∷ cs) → MayComeNext pairs (c ∷ cs) c
   first_may_come c cs o a b i j p = by (In-append a c (concat cs) i)
     where
-      by : In a c ⊎ In a (concat cs) → In a c
+      by : IsMember a c ⊎ IsMember a (concat cs) → IsMember a c
       by (inl k) = k
       by (inr k) = let d = concat-In a cs k in absurd (Each-In (NoneBack pairs c) cs o.forward.0 d.0 d.1 a b d.2 j p)
 
   -- what comes first in one order, and later in another, has its least member above the first of that other
   less_than : (c : List ℕ) (cs : List (List ℕ)) (d : List ℕ) (ds : List (List ℕ)) → Ordered (c ∷ cs) → Ordered (d ∷ ds)
-      → ((a : ℕ) → In a (concat (d ∷ ds)) → In a (concat (c ∷ cs))) → (x : ℕ) → In x c → (e : List ℕ) → In e ds → In x e → HasLess d c
+      → ((a : ℕ) → IsMember a (concat (d ∷ ds)) → IsMember a (concat (c ∷ cs))) → (x : ℕ) → IsMember x c → (e : List ℕ) → IsMember e ds → IsMember x e → HasLess d c
   less_than c cs d ds o p members x i e j k =
       let comp : IsComponent pairs e = Each-In (IsComponent pairs) ds p.components.1 e j in
-      let to_e : (b : ℕ) → In b c → In b e = same_class c e o.components.0 comp x i k in
-      let to_c : (b : ℕ) → In b e → In b c = same_class e c comp o.components.0 x k i in
+      let to_e : (b : ℕ) → IsMember b c → IsMember b e = same_class c e o.components.0 comp x i k in
+      let to_c : (b : ℕ) → IsMember b e → IsMember b c = same_class e c comp o.components.0 x k i in
       let h : HasLess d e = Each-In (λ e. MayComeNext pairs (d ∷ ds) e → HasLess d e) ds p.least_first.0 e j
       (λ a b l m q. to_e a (first_may_come c cs o a b (members a l) (to_c b m) q)) in
       (h.0, h.1, Each-from (λ b. h.0 < b) c (λ b l. Each-In (λ b. h.0 < b) e h.2 b (to_e b l)))
@@ -56,14 +56,14 @@ module _ (pairs : List (ℕ × ℕ)) where
       omega arith
 
   shared : (c : List ℕ) (cs : List (List ℕ)) (d : List ℕ) (ds : List (List ℕ)) → Ordered (c ∷ cs) → Ordered (d ∷ ds)
-      → ((a : ℕ) → In a (concat (c ∷ cs)) ↔ In a (concat (d ∷ ds))) → (x : ℕ) × In x c × In x d
+      → ((a : ℕ) → IsMember a (concat (c ∷ cs)) ↔ IsMember a (concat (d ∷ ds))) → (x : ℕ) × IsMember x c × IsMember x d
   shared c cs d ds o p members =
       let x = some_member c o.filled.0 in
       let y = some_member d p.filled.0 in
       by x.0 x.1 y.0 y.1 (In-append x.0 d (concat ds) ((members x.0).0 (In-left x.0 c (concat cs) x.1)))
       (In-append y.0 c (concat cs) ((members y.0).1 (In-left y.0 d (concat ds) y.1)))
     where
-      by : (x : ℕ) → In x c → (y : ℕ) → In y d → In x d ⊎ In x (concat ds) → In y c ⊎ In y (concat cs) → (x : ℕ) × In x c × In x d
+      by : (x : ℕ) → IsMember x c → (y : ℕ) → IsMember y d → IsMember x d ⊎ IsMember x (concat ds) → IsMember y c ⊎ IsMember y (concat cs) → (x : ℕ) × IsMember x c × IsMember x d
       by x i y j (inl k) l = (x, i, k)
       by x i y j (inr k) (inl l) = (y, l, j)
       by x i y j (inr k) (inr l) =
@@ -72,14 +72,14 @@ module _ (pairs : List (ℕ × ℕ)) where
           absurd (not_both_less d c (less_than c cs d ds o p (λ a. (members a).1) x i e.0 e.1 e.2) (less_than d ds c cs p o (λ a. (members a).0) y j f.0 f.1 f.2))
 
   same_later : (c : List ℕ) (cs : List (List ℕ)) (d : List ℕ) (ds : List (List ℕ)) → Distinct (concat (c ∷ cs)) → c ≡ d
-      → (a : ℕ) → In a (concat cs) → In a (concat (d ∷ ds)) → In a (concat ds)
+      → (a : ℕ) → IsMember a (concat cs) → IsMember a (concat (d ∷ ds)) → IsMember a (concat ds)
   same_later c cs d ds once e a i j = by (In-append a d (concat ds) j)
     where
-      by : In a d ⊎ In a (concat ds) → In a (concat ds)
-      by (inl k) = absurd (Pairwise-across (λ x y. ¬ (x ≡ y)) c (concat cs) once a a (subst (In a) (sym e) k) i refl)
+      by : IsMember a d ⊎ IsMember a (concat ds) → IsMember a (concat ds)
+      by (inl k) = absurd (Pairwise-across (λ x y. ¬ (x ≡ y)) c (concat cs) once a a (subst (IsMember a) (sym e) k) i refl)
       by (inr k) = k
 
-  unique : (cs ds : List (List ℕ)) → Ordered cs → Ordered ds → ((a : ℕ) → In a (concat cs) ↔ In a (concat ds)) → cs ≡ ds
+  unique : (cs ds : List (List ℕ)) → Ordered cs → Ordered ds → ((a : ℕ) → IsMember a (concat cs) ↔ IsMember a (concat ds)) → cs ≡ ds
   unique [] [] o p members = refl
   unique [] (d ∷ ds) o p members = let x = some_member d p.filled.0 in absurd ((members x.0).1 (In-left x.0 d (concat ds) x.1))
   unique (c ∷ cs) [] o p members = let x = some_member c o.filled.0 in absurd ((members x.0).0 (In-left x.0 c (concat cs) x.1))

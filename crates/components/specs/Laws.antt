@@ -3,7 +3,7 @@ use Rattle.std.specs.Prelude.{◌≡◌, ℕ, List, length}
 use Rattle.components.specs.Lists.{Distinct}
 use Rattle.components.specs.Reachability.{SamePairs}
 use Rattle.components.specs.Orders.{IsOrder}
-use Rattle.components.specs.Emission.{Components, ArePlaces, statements_of}
+use Rattle.components.specs.Emission.{Components, ArePlaces, statements_of_classes}
 
 abbrev pub OrderIsUnique : Type 0
 OrderIsUnique =
@@ -19,4 +19,4 @@ OrderHasComponents =
     → Distinct part
     → ArePlaces part leaps pairs
     → IsOrder (length part) pairs classes
-    → Components part leaps (statements_of part classes)
+    → Components part leaps (statements_of_classes part classes)

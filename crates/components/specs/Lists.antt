@@ -1,9 +1,9 @@
 -- Words on lists, by recursion.
 use Rattle.std.specs.Prelude.{◌≡◌, ◌<◌, ◌⊎◌, ⊤, ℕ, List, [], ◌∷◌}
 
-abbrev pub In : {X : Type 0} → X → List X → Type 0
-In x [] = ⊥
-In x (y ∷ ys) = (x ≡ y) ⊎ In x ys
+abbrev pub IsMember : {X : Type 0} → X → List X → Type 0
+IsMember x [] = ⊥
+IsMember x (y ∷ ys) = (x ≡ y) ⊎ IsMember x ys
 
 abbrev pub Each : {X : Type 0} → (X → Type 0) → List X → Type 0
 Each P [] = ⊤

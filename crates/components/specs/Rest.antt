@@ -9,7 +9,7 @@ use Rattle.components.specs.declared.tables.Tables.{Tables}
 use Rattle.components.specs.Classes.{AreMembers, IsClass, IsDoneOrLedTo, IsNext, flag}
 use Rattle.components.specs.Counts.{tally, times}
 use Rattle.components.specs.Labels.{at}
-use Rattle.components.specs.Lists.{In}
+use Rattle.components.specs.Lists.{IsMember}
 use Rattle.components.specs.Targets.{row}
 
 -- the set has the number
@@ -49,7 +49,7 @@ pub record Releases (t : Tables) (targets : List ℕ) (old new : Rest) : Type 0 
   pub counts : (c : ℕ) → at new.counts.items c + times c targets ≡ at old.counts.items c
   pub ready :
       (v : ℕ)
-      → (has new.ready v ≡ true) ↔ ((has old.ready v ≡ true) ⊎ ((c : ℕ) × In c targets × IsAdded t new c v))
+      → (has new.ready v ≡ true) ↔ ((has old.ready v ≡ true) ⊎ ((c : ℕ) × IsMember c targets × IsAdded t new c v))
 
 -- the tables of the classes of the numbers below n
 pub record AreTables (n count : ℕ) (labels : List ℕ) (t : Tables) : Type 0 where

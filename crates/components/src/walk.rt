@@ -6,7 +6,7 @@ ghost use Rattle.components.specs.Labels.{AreLabels, at};
 ghost use Rattle.components.specs.Targets.{AreInside};
 ghost use Rattle.components.specs.Walking.{AreListed, DropsAfter, GoesOn, IsClosed, IsLast, IsWalking, Leaves};
 ghost use Rattle.components.specs.Walking.{RunsOut, Steps, label_of, mark, without_last};
-ghost use Rattle.components.specs.declared.walk.Mark.TheVariants.{New};
+ghost use Rattle.components.specs.declared.walk.NodeState.TheVariants.{New};
 
 use crate::rows::rows_of;
 use std::alloc::Global;
@@ -14,7 +14,7 @@ use tree::{Memory, Seq};
 
 // A number is new, or stands at a place of the path, or has the number of its class.
 #[derive(Clone, Copy)]
-enum Mark {
+enum NodeState {
     New,
     At(usize),
     Done(usize),
@@ -23,7 +23,7 @@ enum Mark {
 // The path in blocks, each with the numbers to look at; and how many classes there are so far.
 #[derive(Drop)]
 struct Walk {
-    marks: Vec<Mark>,
+    marks: Vec<NodeState>,
     path: Vec<usize>,
     work: Vec<usize>,
     starts: Vec<(usize, usize)>,
@@ -69,7 +69,7 @@ fn drop_after(starts: &mut Vec<(usize, usize)>, place: usize)
 }
 
 // The path from a place on gets the number of a class, and is left.
-fn close(marks: &mut Vec<Mark>, path: &mut Vec<usize>, start: usize, class: usize)
+fn close(marks: &mut Vec<NodeState>, path: &mut Vec<usize>, start: usize, class: usize)
     requires inside { start ≤ length path.old.items }
     requires below { (i : ℕ) → i < length path.old.items → at path.old.items i < length marks.old.items }
     ensures path { path.new.items ≡ take start path.old.items }
@@ -79,16 +79,16 @@ fn close(marks: &mut Vec<Mark>, path: &mut Vec<usize>, start: usize, class: usiz
         let Some(number) = path.pop() else {
             return;
         };
-        marks[number] = Mark::Done(class);
+        marks[number] = NodeState::Done(class);
     }
 }
 
-fn new_marks(alloc: Global, n: usize) -> Result<Vec<Mark>, Memory>
+fn new_marks(alloc: Global, n: usize) -> Result<Vec<NodeState>, Memory>
     ensures { IfOk result (λ marks. marks.items ≡ replicate n New) }
 {
     let mut marks = Vec::new(alloc);
     for _number in 0..n {
-        marks.push(Mark::New)?;
+        marks.push(NodeState::New)?;
     }
     Ok(marks)
 }
@@ -113,8 +113,8 @@ impl Walk {
         ensures { (result ≡ true) ↔ (mark self.now.marks.items number ≡ New) }
     {
         match self.marks[number] {
-            Mark::New => true,
-            Mark::At(_) | Mark::Done(_) => false,
+            NodeState::New => true,
+            NodeState::At(_) | NodeState::Done(_) => false,
         }
     }
 
@@ -127,7 +127,7 @@ impl Walk {
         ensures met { OnOk result (mark self.new.marks.items number ≡ New → ⊥) }
     {
         self.starts.push((self.path.len(), self.work.len()))?;
-        self.marks[number] = Mark::At(self.path.len());
+        self.marks[number] = NodeState::At(self.path.len());
         self.path.push(number)?;
         self.work.extend_from_slice(rows[number].as_slice())?;
         Ok(())
@@ -140,12 +140,12 @@ impl Walk {
         ensures { OnOk result (GoesOn rows.now self.old self.new) }
     {
         match self.marks[number] {
-            Mark::New => self.enter(rows, number),
-            Mark::At(place) => {
+            NodeState::New => self.enter(rows, number),
+            NodeState::At(place) => {
                 drop_after(&mut self.starts, place);
                 Ok(())
             }
-            Mark::Done(_) => Ok(()),
+            NodeState::Done(_) => Ok(()),
         }
     }
 
@@ -212,16 +212,16 @@ impl Walk {
     }
 }
 
-fn label_of(mark: Mark) -> usize
+fn label_of(mark: NodeState) -> usize
     ensures { result ≡ label_of mark }
 {
     match mark {
-        Mark::Done(class) => class,
-        Mark::New | Mark::At(_) => 0,
+        NodeState::Done(class) => class,
+        NodeState::New | NodeState::At(_) => 0,
     }
 }
 
-fn labels_of(alloc: Global, marks: &[Mark]) -> Result<Vec<usize>, Memory>
+fn labels_of(alloc: Global, marks: &[NodeState]) -> Result<Vec<usize>, Memory>
     ensures { IfOk result (λ labels. labels.items ≡ map label_of marks.now) }
 {
     let mut labels = Vec::new(alloc);

@@ -14,8 +14,7 @@ ghost use Rattle.subscripts.specs.declared.verdict.Test.TheVariants.{Crossing, S
 ghost use Rattle.dependence_graph.specs.worked_graphs.Listed.{HasOnly, assumed, at, drop, edge};
 ghost use Rattle.dependence_graph.specs.worked_graphs.Merges.{DropsMerge};
 ghost use Rattle.dependence_graph.specs.worked_graphs.Nests.{beside_square, crossing, elementwise, first_element};
-ghost use Rattle.dependence_graph.specs.worked_graphs.Nests.{of_square, one_turn};
-ghost use Rattle.dependence_graph.specs.worked_graphs.Nests.{past_the_trip, recurrence};
+ghost use Rattle.dependence_graph.specs.worked_graphs.Nests.{of_square, one_turn, past_the_trip, recurrence};
 
 /// `A(I) = B(I) + 1`: no edge at all.
 pub fn elementwise_is_listed()

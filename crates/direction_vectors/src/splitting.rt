@@ -1,7 +1,6 @@
 //! Boxes: vectors with `*` in the places that the answer doesn't hang on. A box is tested as a whole, and split into
 //! three in the first place that its answer may hang on.
-ghost use Rattle.std.specs.Prelude.{◌≡◌, ◌<◌, ◌≤◌, ◌↔◌, false, None, All, IfOk, IsTrue, MatchOption};
-ghost use Rattle.std.specs.Prelude.{[], ◌∷◌, ◌⊎◌};
+ghost use Rattle.std.specs.Prelude.{◌≡◌, ◌<◌, ◌≤◌, ◌↔◌, false, None, All, IfOk, IsTrue, MatchOption, [], ◌∷◌, ◌⊎◌};
 ghost use Rattle.dependence_tests.specs.loop_lines.OneLoop.{HasNoneAt};
 ghost use Rattle.dependence_tests.specs.loop_lines.Verdicts.{IfPair};
 ghost use Rattle.subscripts.specs.declared.verdict.Verdict.TheVariants.{Never};

@@ -1,7 +1,8 @@
 //! The statements of a source.
 ghost use Rattle.std.specs.Prelude.{◌≡◌, ◌⊎◌, ◌≤◌, List, [], length, map, None, IfOk, IsOkAnd, OnOk};
 ghost use Rattle.tree.specs.declared.refusals.Refusal.{Refusal};
-ghost use Rattle.f77_grammar.specs.Cards.{PlainCard, ReadsCards, RefusedCards, card_in, label_in, statement_lines};
+ghost use Rattle.f77_grammar.specs.Cards.{PlainCard, ReadsCards, RefusedCards, card_in, label_in_field};
+ghost use Rattle.f77_grammar.specs.Cards.{statement_lines};
 ghost use Rattle.f77_grammar.proofs.Grouping.{leading, grouped};
 ghost use Rattle.f77_grammar.proofs.CardCauses.{refusal_of};
 ghost use Rattle.f77_cards.specs.Card.{card_of};
@@ -27,7 +28,7 @@ pub struct Card {
 // The number that the digits of a label field write.
 fn label(field: &[u8]) -> Option<u32>
     requires { length field.now ≤ 5 }
-    ensures { result ≡ label_in field.now }
+    ensures { result ≡ label_in_field field.now }
 {
     let mut label = None;
     for column in field {

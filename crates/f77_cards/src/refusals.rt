@@ -3,7 +3,7 @@ ghost use Rattle.std.specs.Prelude.{◌≡◌, ◌+◌, ◌^◌, ◌<◌, ◌≤
 ghost use Rattle.std.specs.List.{list_any, list_all};
 ghost use Rattle.tree.specs.Causes.{refusal_at};
 ghost use Rattle.f77_grammar.specs.Cards.LineCause.{LineForm};
-ghost use Rattle.f77_grammar.specs.Cards.{statement_lines, cause_of_line, is_bad_byte, is_tab, is_label_character};
+ghost use Rattle.f77_grammar.specs.Cards.{statement_lines, cause_of_line, is_bad_byte77, is_tab, is_label_character};
 ghost use Rattle.f77_grammar.proofs.CardCauses.{after_line, is_wrong, first_wrong, refusal_of};
 ghost use Rattle.f77_cards.specs.Source.{line_of, cause_of};
 
@@ -41,9 +41,9 @@ const LINE_CAUSES: [LineCause; 4] = [
     LineCause::ManyLines,
 ];
 
-#[tactic(auto, unfolding(f77_grammar::specs::Cards::is_bad_byte))]
+#[tactic(auto, unfolding(f77_grammar::specs::Cards::is_bad_byte77))]
 fn is_bad_byte(byte: u8) -> bool
-    ensures { result ≡ is_bad_byte byte }
+    ensures { result ≡ is_bad_byte77 byte }
 {
     !matches!(byte, b'\t' | b' '..=b'~')
 }
@@ -56,7 +56,7 @@ fn is_label_character(byte: u8) -> bool
 }
 
 fn has_bad_byte(columns: &[u8]) -> bool
-    ensures { result ≡ list_any is_bad_byte columns.now }
+    ensures { result ≡ list_any is_bad_byte77 columns.now }
 {
     columns.iter().any(|byte| is_bad_byte(*byte))
 }

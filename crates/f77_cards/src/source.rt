@@ -2,7 +2,8 @@
 ghost use Rattle.std.specs.Prelude.{◌≡◌, ◌+◌, ◌^◌, ◌<◌, ◌≤◌, [], ◌∷◌, length, position, IsTrue, IfSome, IfNone};
 ghost use Rattle.std.specs.List.{list_all};
 ghost use Rattle.std.specs.Str.Lines.{lines, strip_carriage_return};
-ghost use Rattle.f77_grammar.specs.Cards.{columns_of, is_blank, is_comment, is_initial, is_continuation, label_field};
+ghost use Rattle.f77_grammar.specs.Cards.{columns_of, is_comment, is_initial, is_continuation, label_field};
+ghost use Rattle.reading.specs.Characters.{is_blank};
 ghost use Rattle.f77_grammar.specs.Cards.{statement_field, statement_lines};
 ghost use Rattle.f77_grammar.proofs.Grouping.{leading};
 ghost use Rattle.f77_cards.specs.Source.{line_of};

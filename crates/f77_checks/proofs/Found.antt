@@ -5,11 +5,12 @@ use Rattle.std.proofs.lemmas.Bool.Decides.{nat_tests}
 use Rattle.std.proofs.lemmas.List.Elements.{Contains-append_left, Contains-append_right, Contains-get_or}
 use Rattle.tree.specs.declared.refusals.Refusal.{Refusal}
 use Rattle.f77_grammar.specs.Statement77.{Labelled}
-use Rattle.f77_grammar.specs.program.Text.{Place, places_from}
+use Rattle.f77_grammar.specs.program.Text.{Place77, places_from}
 use Rattle.tree.specs.Causes.{number_of_cause, refusal_at}
 use Rattle.tree.specs.declared.refusals.Cause.{Cause}
 use Rattle.tree.specs.declared.refusals.Cause.TheVariants.{Label, Nesting, NoEnd, Declared, RealName, TypeClash, Jump, DoVariable, ManyNames, ManyBlocks, ReversedBounds, ManyElements, BadConstant, Untyped}
 use Rattle.meaning.specs.Dialect.{fortran77}
+use Rattle.tree.specs.declared.width.Width.{Width}
 use Rattle.f77_grammar.specs.program.Program77.{program_causes, holds_in}
 use Rattle.f77_laws.specs.Source.{AreRising}
 use Rattle.f77_laws.proofs.Lists.{all_weaker, all_both, here, there}
@@ -27,10 +28,10 @@ each P h (x ∷ xs) = (h x, each P h xs)
 
 -- ---- what is found
 
-find_same_step : (b c : Bool) (p : Place) (f g : Option Place) → b ≡ c → f ≡ g → cond b (Some p) f ≡ cond c (Some p) g
+find_same_step : (b c : Bool) (p : Place77) (f g : Option Place77) → b ≡ c → f ≡ g → cond b (Some p) f ≡ cond c (Some p) g
 find_same_step b c p f g e h = cc
 
-pub find_same : (f g : Place → Bool) (ps : List Place) → ((p : Place) → f p ≡ g p) → find f ps ≡ find g ps
+pub find_same : (f g : Place77 → Bool) (ps : List Place77) → ((p : Place77) → f p ≡ g p) → find f ps ≡ find g ps
 find_same f g [] e = refl
 find_same f g (p ∷ ps) e = find_same_step (f p) (g p) p (find f ps) (find g ps) (e p) (find_same f g ps e)
 
@@ -56,32 +57,32 @@ find_holds test (p ∷ ps) q h = holds_step test (test p) p q (find test ps) ref
 
 -- ---- findings
 
-abbrev pub findings_at : (Cause → Place → Bool) → List Place → Cause → List Refusal
-findings_at holds ps c = map (λ (p : Place). refusal_at c p.here.line) (filter (holds c) ps)
+abbrev pub findings_at : (Cause → Place77 → Bool) → List Place77 → Cause → List Refusal
+findings_at holds ps c = map (λ (p : Place77). refusal_at c p.here.line) (filter (holds c) ps)
 
-abbrev pub findings_by : (Cause → Place → Bool) → List Place → List Cause → List Refusal
+abbrev pub findings_by : (Cause → Place77 → Bool) → List Place77 → List Cause → List Refusal
 findings_by holds ps cs = flat_map (findings_at holds ps) cs
 
-all_of_step : (P : Refusal → Type 0) (c : Cause) (b : Bool) (p : Place) (rest : List Place) → (b ≡ true → P (refusal_at c p.here.line))
-    → AllByRecursion P (map (λ (q : Place). refusal_at c q.here.line) rest)
-    → AllByRecursion P (map (λ (q : Place). refusal_at c q.here.line) (cond b (p ∷ rest) rest))
+all_of_step : (P : Refusal → Type 0) (c : Cause) (b : Bool) (p : Place77) (rest : List Place77) → (b ≡ true → P (refusal_at c p.here.line))
+    → AllByRecursion P (map (λ (q : Place77). refusal_at c q.here.line) rest)
+    → AllByRecursion P (map (λ (q : Place77). refusal_at c q.here.line) (cond b (p ∷ rest) rest))
 all_of_step P c true p rest h a = (h refl, a)
 all_of_step P c false p rest h a = a
 
-pub all_of : (holds : Cause → Place → Bool) (P : Refusal → Type 0) (c : Cause) (ps : List Place)
+pub all_of : (holds : Cause → Place77 → Bool) (P : Refusal → Type 0) (c : Cause) (ps : List Place77)
     → AllByRecursion (λ q. holds c q ≡ true → P (refusal_at c q.here.line)) ps → AllByRecursion P (findings_at holds ps c)
 all_of holds P c [] a = tt
 all_of holds P c (p ∷ ps) a = all_of_step P c (holds c p) p (filter (holds c) ps) a.0 (all_of holds P c ps a.1)
 
-pub all_by : (holds : Cause → Place → Bool) (P : Refusal → Type 0) (ps : List Place) (cs : List Cause)
-    → AllByRecursion (λ c. AllByRecursion (λ (q : Place). holds c q ≡ true → P (refusal_at c q.here.line)) ps) cs → AllByRecursion P (findings_by holds ps cs)
+pub all_by : (holds : Cause → Place77 → Bool) (P : Refusal → Type 0) (ps : List Place77) (cs : List Cause)
+    → AllByRecursion (λ c. AllByRecursion (λ (q : Place77). holds c q ≡ true → P (refusal_at c q.here.line)) ps) cs → AllByRecursion P (findings_by holds ps cs)
 all_by holds P ps [] a = tt
 all_by holds P ps (c ∷ cs) a = all_both P (findings_at holds ps c) (findings_by holds ps cs) (all_of holds P c ps a.0) (all_by holds P ps cs a.1)
 
-pub nothing_found : (holds : Cause → Place → Bool) (ps : List Place) (cs : List Cause) → AllByRecursion (λ c. find (holds c) ps ≡ None) cs → findings_by holds ps cs ≡ []
+pub nothing_found : (holds : Cause → Place77 → Bool) (ps : List Place77) (cs : List Cause) → AllByRecursion (λ c. find (holds c) ps ≡ None) cs → findings_by holds ps cs ≡ []
 nothing_found holds ps [] a = refl
 nothing_found holds ps (c ∷ cs) a =
-    ap (λ qs. map (λ (p : Place). refusal_at c p.here.line) qs ++ findings_by holds ps cs) (none_pass (holds c) ps (find_none (holds c) ps a.0)) ∙ nothing_found holds ps cs a.1
+    ap (λ qs. map (λ (p : Place77). refusal_at c p.here.line) qs ++ findings_by holds ps cs) (none_pass (holds c) ps (find_none (holds c) ps a.0)) ∙ nothing_found holds ps cs a.1
 
 -- ---- a finding is among them
 
@@ -90,22 +91,22 @@ Among [] c = ⊥
 Among (d ∷ ds) c = (d ≡ c) ⊎ Among ds c
 
 -- what holds anywhere is a cause of a program's statements
-pub every_cause : (text : List Labelled) (p : Place) (c : Cause) → holds_in fortran77 text c p ≡ true → Among program_causes c
-every_cause text p Label h = inl refl
-every_cause text p Nesting h = inr (inl refl)
-every_cause text p NoEnd h = inr (inr (inl refl))
-every_cause text p Declared h = inr (inr (inr (inl refl)))
-every_cause text p RealName h = inr (inr (inr (inr (inl refl))))
-every_cause text p TypeClash h = inr (inr (inr (inr (inr (inl refl)))))
-every_cause text p Jump h = inr (inr (inr (inr (inr (inr (inl refl))))))
-every_cause text p DoVariable h = inr (inr (inr (inr (inr (inr (inr (inl refl)))))))
-every_cause text p ManyNames h = inr (inr (inr (inr (inr (inr (inr (inr (inl refl))))))))
-every_cause text p ManyBlocks h = inr (inr (inr (inr (inr (inr (inr (inr (inr (inl refl)))))))))
-every_cause text p ReversedBounds h = inr (inr (inr (inr (inr (inr (inr (inr (inr (inr (inl refl))))))))))
-every_cause text p ManyElements h = inr (inr (inr (inr (inr (inr (inr (inr (inr (inr (inr (inl refl)))))))))))
-every_cause text p BadConstant h = inr (inr (inr (inr (inr (inr (inr (inr (inr (inr (inr (inr (inl refl))))))))))))
-every_cause text p Untyped h = inr (inr (inr (inr (inr (inr (inr (inr (inr (inr (inr (inr (inr (inl refl)))))))))))))
-every_cause text p c h = absurd (let no : false ≡ true = h in cc)
+pub every_cause : (width : Width) (text : List Labelled) (p : Place77) (c : Cause) → holds_in (fortran77 width) text c p ≡ true → Among program_causes c
+every_cause width text p Label h = inl refl
+every_cause width text p Nesting h = inr (inl refl)
+every_cause width text p NoEnd h = inr (inr (inl refl))
+every_cause width text p Declared h = inr (inr (inr (inl refl)))
+every_cause width text p RealName h = inr (inr (inr (inr (inl refl))))
+every_cause width text p TypeClash h = inr (inr (inr (inr (inr (inl refl)))))
+every_cause width text p Jump h = inr (inr (inr (inr (inr (inr (inl refl))))))
+every_cause width text p DoVariable h = inr (inr (inr (inr (inr (inr (inr (inl refl)))))))
+every_cause width text p ManyNames h = inr (inr (inr (inr (inr (inr (inr (inr (inl refl))))))))
+every_cause width text p ManyBlocks h = inr (inr (inr (inr (inr (inr (inr (inr (inr (inl refl)))))))))
+every_cause width text p ReversedBounds h = inr (inr (inr (inr (inr (inr (inr (inr (inr (inr (inl refl))))))))))
+every_cause width text p ManyElements h = inr (inr (inr (inr (inr (inr (inr (inr (inr (inr (inr (inl refl)))))))))))
+every_cause width text p BadConstant h = inr (inr (inr (inr (inr (inr (inr (inr (inr (inr (inr (inr (inl refl))))))))))))
+every_cause width text p Untyped h = inr (inr (inr (inr (inr (inr (inr (inr (inr (inr (inr (inr (inr (inl refl)))))))))))))
+every_cause width text p c h = absurd (let no : false ≡ true = h in cc)
 
 any_step : (test : Cause → Bool) (d : Cause) (ds : List Cause) (c : Cause) → (d ≡ c) ⊎ Among ds c → test c ≡ true → (Among ds c → list_any test ds ≡ true)
     → (test d || list_any test ds) ≡ true
@@ -120,43 +121,43 @@ pub any_true : (test : Cause → Bool) (cs : List Cause) (c : Cause) → Among c
 any_true test [] c m h = absurd m
 any_true test (d ∷ ds) c m h = any_step test d ds c m h (λ k. any_true test ds c k h)
 
-contains_step : (c : Cause) (b : Bool) (p q : Place) (rest : List Place) (f : Option Place) → cond b (Some p) f ≡ Some q
-    → (f ≡ Some q → Contains (map (λ (x : Place). refusal_at c x.here.line) rest) (refusal_at c q.here.line))
-    → Contains (map (λ (x : Place). refusal_at c x.here.line) (cond b (p ∷ rest) rest)) (refusal_at c q.here.line)
+contains_step : (c : Cause) (b : Bool) (p q : Place77) (rest : List Place77) (f : Option Place77) → cond b (Some p) f ≡ Some q
+    → (f ≡ Some q → Contains (map (λ (x : Place77). refusal_at c x.here.line) rest) (refusal_at c q.here.line))
+    → Contains (map (λ (x : Place77). refusal_at c x.here.line) (cond b (p ∷ rest) rest)) (refusal_at c q.here.line)
 contains_step c true p q rest f h ih =
     let same : p ≡ q = cc in
-    subst (λ (x : Place). Contains (refusal_at c p.here.line ∷ map (λ (x : Place). refusal_at c x.here.line) rest) (refusal_at c x.here.line)) same (here (refusal_at c p.here.line) (map (λ (x : Place). refusal_at c x.here.line) rest))
+    subst (λ (x : Place77). Contains (refusal_at c p.here.line ∷ map (λ (x : Place77). refusal_at c x.here.line) rest) (refusal_at c x.here.line)) same (here (refusal_at c p.here.line) (map (λ (x : Place77). refusal_at c x.here.line) rest))
 contains_step c false p q rest f h ih = ih h
 
 -- the finding of a place at which the cause holds, which a test finds first
-found_step : (holds : Cause → Place → Bool) (c : Cause) (a b : Bool) (p q : Place) (rest : List Place) (f : Option Place) → holds c p ≡ b → holds c q ≡ true → cond a (Some p) f ≡ Some q
-    → (f ≡ Some q → Contains (map (λ (x : Place). refusal_at c x.here.line) rest) (refusal_at c q.here.line))
-    → Contains (map (λ (x : Place). refusal_at c x.here.line) (cond b (p ∷ rest) rest)) (refusal_at c q.here.line)
+found_step : (holds : Cause → Place77 → Bool) (c : Cause) (a b : Bool) (p q : Place77) (rest : List Place77) (f : Option Place77) → holds c p ≡ b → holds c q ≡ true → cond a (Some p) f ≡ Some q
+    → (f ≡ Some q → Contains (map (λ (x : Place77). refusal_at c x.here.line) rest) (refusal_at c q.here.line))
+    → Contains (map (λ (x : Place77). refusal_at c x.here.line) (cond b (p ∷ rest) rest)) (refusal_at c q.here.line)
 found_step holds c true true p q rest f e k h ih = contains_step c true p q rest f h ih
 found_step holds c true false p q rest f e k h ih = absurd (let same : p ≡ q = cc in cc)
-found_step holds c false true p q rest f e k h ih = there (refusal_at c p.here.line) (map (λ (x : Place). refusal_at c x.here.line) rest) (refusal_at c q.here.line) (ih h)
+found_step holds c false true p q rest f e k h ih = there (refusal_at c p.here.line) (map (λ (x : Place77). refusal_at c x.here.line) rest) (refusal_at c q.here.line) (ih h)
 found_step holds c false false p q rest f e k h ih = ih h
 
-pub found_there : (holds : Cause → Place → Bool) (test : Place → Bool) (c : Cause) (ps : List Place) (q : Place) → find test ps ≡ Some q → holds c q ≡ true
+pub found_there : (holds : Cause → Place77 → Bool) (test : Place77 → Bool) (c : Cause) (ps : List Place77) (q : Place77) → find test ps ≡ Some q → holds c q ≡ true
     → Contains (findings_at holds ps c) (refusal_at c q.here.line)
 found_there holds test c [] q h k = absurd (let no : None ≡ Some q = h in cc)
 found_there holds test c (p ∷ ps) q h k =
     found_step holds c (test p) (holds c p) p q (filter (holds c) ps) (find test ps) refl k h (λ e. found_there holds test c ps q e k)
 
-among_step : (holds : Cause → Place → Bool) (ps : List Place) (d : Cause) (ds : List Cause) (c : Cause) (r : Refusal) → (d ≡ c) ⊎ Among ds c
+among_step : (holds : Cause → Place77 → Bool) (ps : List Place77) (d : Cause) (ds : List Cause) (c : Cause) (r : Refusal) → (d ≡ c) ⊎ Among ds c
     → Contains (findings_at holds ps c) r → (Among ds c → Contains (findings_by holds ps ds) r) → Contains (findings_at holds ps d ++ findings_by holds ps ds) r
 among_step holds ps d ds c r (inl e) h ih = Contains-append_left (findings_at holds ps d) (findings_by holds ps ds) r (subst (λ x. Contains (findings_at holds ps x) r) (sym e) h)
 among_step holds ps d ds c r (inr m) h ih = Contains-append_right (findings_at holds ps d) (findings_by holds ps ds) r (ih m)
 
-pub found_among : (holds : Cause → Place → Bool) (ps : List Place) (cs : List Cause) (c : Cause) (r : Refusal) → Among cs c → Contains (findings_at holds ps c) r → Contains (findings_by holds ps cs) r
+pub found_among : (holds : Cause → Place77 → Bool) (ps : List Place77) (cs : List Cause) (c : Cause) (r : Refusal) → Among cs c → Contains (findings_at holds ps c) r → Contains (findings_by holds ps cs) r
 found_among holds ps [] c r m h = absurd m
 found_among holds ps (d ∷ ds) c r m h = among_step holds ps d ds c r m h (λ k. found_among holds ps ds c r k h)
 
 -- ---- no finding has a lesser number
 
-from_none : (holds : Cause → Place → Bool) (P : Refusal → Type 0) (c : Cause) (ps : List Place) → find (holds c) ps ≡ None
-    → AllByRecursion (λ (q : Place). holds c q ≡ true → P (refusal_at c q.here.line)) ps
-from_none holds P c ps h = all_weaker (λ q. holds c q ≡ false) (λ (q : Place). holds c q ≡ true → P (refusal_at c q.here.line)) (λ q e t. absurd (let no : false ≡ true = sym e ∙ t in cc)) ps (find_none (holds c) ps h)
+from_none : (holds : Cause → Place77 → Bool) (P : Refusal → Type 0) (c : Cause) (ps : List Place77) → find (holds c) ps ≡ None
+    → AllByRecursion (λ (q : Place77). holds c q ≡ true → P (refusal_at c q.here.line)) ps
+from_none holds P c ps h = all_weaker (λ q. holds c q ≡ false) (λ (q : Place77). holds c q ≡ true → P (refusal_at c q.here.line)) (λ q e t. absurd (let no : false ≡ true = sym e ∙ t in cc)) ps (find_none (holds c) ps h)
 
 numbers_from : (n : ℕ) (cs : List Cause) → list_all (λ c. nat_le n (number_of_cause c)) cs ≡ true → AllByRecursion (λ c. n ≤ number_of_cause c) cs
 numbers_from n [] h = tt
@@ -169,33 +170,33 @@ numbers_from n (c ∷ cs) h = let two : (nat_le n (number_of_cause c) ≡ true) 
     at_least : (n m : ℕ) → nat_le n m ≡ true → n ≤ m
     at_least n m h = grind (arith, nat_tests)
 
-pub least_number : (holds : Cause → Place → Bool) (ps : List Place) (n : ℕ) (front back : List Cause) → AllByRecursion (λ c. find (holds c) ps ≡ None) front
+pub least_number : (holds : Cause → Place77 → Bool) (ps : List Place77) (n : ℕ) (front back : List Cause) → AllByRecursion (λ c. find (holds c) ps ≡ None) front
     → list_all (λ c. nat_le n (number_of_cause c)) back ≡ true → AllByRecursion (λ (other : Refusal). n ≤ other.number) (findings_by holds ps (front ++ back))
 least_number holds ps n front back a h =
     let P : Refusal → Type 0 = λ (other : Refusal). n ≤ other.number in
-    let Q : Cause → Type 0 = λ c. AllByRecursion (λ (q : Place). holds c q ≡ true → P (refusal_at c q.here.line)) ps in
+    let Q : Cause → Type 0 = λ c. AllByRecursion (λ (q : Place77). holds c q ≡ true → P (refusal_at c q.here.line)) ps in
     all_by holds P ps (front ++ back)
     (all_both Q front back
     (all_weaker (λ c. find (holds c) ps ≡ None) Q (λ c e. from_none holds P c ps e) front a)
-    (all_weaker (λ c. n ≤ number_of_cause c) Q (λ c e. each (λ (q : Place). holds c q ≡ true → P (refusal_at c q.here.line)) (λ q t. e) ps) back (numbers_from n back h)))
+    (all_weaker (λ c. n ≤ number_of_cause c) Q (λ c e. each (λ (q : Place77). holds c q ≡ true → P (refusal_at c q.here.line)) (λ q t. e) ps) back (numbers_from n back h)))
 
 -- ---- the first place has the least line
 
-lines_of_places : (n : ℕ) (before xs : List Labelled) → AllByRecursion (λ (y : Labelled). n < y.line) xs → AllByRecursion (λ (q : Place). n < q.here.line) (places_from before xs)
+lines_of_places : (n : ℕ) (before xs : List Labelled) → AllByRecursion (λ (y : Labelled). n < y.line) xs → AllByRecursion (λ (q : Place77). n < q.here.line) (places_from before xs)
 lines_of_places n before [] a = tt
 lines_of_places n before (x ∷ xs) a = (a.0, lines_of_places n (x ∷ before) xs a.1)
 
-abbrev IsNoLater : (Place → Bool) → Place → Place → Type 0
+abbrev IsNoLater : (Place77 → Bool) → Place77 → Place77 → Type 0
 IsNoLater test p q = test q ≡ true → (p ≡ q) ⊎ (p.here.line < q.here.line)
 
-rising_step : (test : Place → Bool) (b : Bool) (p q : Place) (rest : List Place) (f : Option Place) → test q ≡ b → cond b (Some q) f ≡ Some p
-    → AllByRecursion (λ (x : Place). q.here.line < x.here.line) rest → (f ≡ Some p → AllByRecursion (IsNoLater test p) rest) → AllByRecursion (IsNoLater test p) (q ∷ rest)
+rising_step : (test : Place77 → Bool) (b : Bool) (p q : Place77) (rest : List Place77) (f : Option Place77) → test q ≡ b → cond b (Some q) f ≡ Some p
+    → AllByRecursion (λ (x : Place77). q.here.line < x.here.line) rest → (f ≡ Some p → AllByRecursion (IsNoLater test p) rest) → AllByRecursion (IsNoLater test p) (q ∷ rest)
 rising_step test true p q rest f e h a ih =
     let same : q ≡ p = cc in
-    (λ t. inl (sym same), all_weaker (λ (x : Place). q.here.line < x.here.line) (IsNoLater test p) (λ x lt t. inr (subst (λ (y : Place). y.here.line < x.here.line) same lt)) rest a)
+    (λ t. inl (sym same), all_weaker (λ (x : Place77). q.here.line < x.here.line) (IsNoLater test p) (λ x lt t. inr (subst (λ (y : Place77). y.here.line < x.here.line) same lt)) rest a)
 rising_step test false p q rest f e h a ih = (λ t. absurd (let no : false ≡ true = sym e ∙ t in cc), ih h)
 
-pub first_is_least : (test : Place → Bool) (before xs : List Labelled) (p : Place) → AreRising xs → find test (places_from before xs) ≡ Some p → AllByRecursion (IsNoLater test p) (places_from before xs)
+pub first_is_least : (test : Place77 → Bool) (before xs : List Labelled) (p : Place77) → AreRising xs → find test (places_from before xs) ≡ Some p → AllByRecursion (IsNoLater test p) (places_from before xs)
 first_is_least test before [] p r h = tt
 first_is_least test before (x ∷ xs) p r h =
     rising_step test (test (placed before x xs)) p (placed before x xs) (places_from (x ∷ before) xs) (find test (places_from (x ∷ before) xs)) refl h

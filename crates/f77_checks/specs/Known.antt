@@ -13,4 +13,4 @@ use Rattle.f77_checks.specs.declared.known.Known.{Known}
 pub record IsKnownOf (known : Known) (text : List Labelled) : Type 0 where
   pub names : listed known.names.uses ≡ uses_in_text text
   pub ends : AreEndsIn known.ends text
-  pub constants : AreValues known.constants (constants_of fortran77 text)
+  pub constants : AreValues known.constants (constants_of (fortran77 known.constants.width) text)

@@ -4,7 +4,7 @@ use Rattle.std.specs.List.{find}
 use Rattle.tree.specs.declared.refusals.Cause.{Cause}
 use Rattle.tree.specs.declared.refusals.Cause.TheVariants.{ManyNames, ManyBlocks, ReversedBounds, ManyElements}
 use Rattle.tree.specs.declared.refusals.Cause.TheVariants.{BadConstant}
-use Rattle.f77_grammar.specs.program.Text.{Place}
+use Rattle.f77_grammar.specs.program.Text.{Place77}
 use Rattle.f77_checks.specs.declared.limits.Breach.{Breach}
 
 -- in the order of their words
@@ -16,7 +16,7 @@ here_or (Some c) i later = Some (record { place = i; cause = c })
 here_or None i later = later
 
 -- at the first place at which one of the causes holds, the first that does
-abbrev pub found_from : (Cause → Place → Bool) → List Cause → ℕ → List Place → Option Breach
+abbrev pub found_from : (Cause → Place77 → Bool) → List Cause → ℕ → List Place77 → Option Breach
 found_from holds causes i [] = None
 found_from holds causes i (p ∷ ps) = here_or (find (λ c. holds c p) causes) i (found_from holds causes (suc i) ps)
 

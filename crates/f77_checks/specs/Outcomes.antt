@@ -7,8 +7,9 @@ use Rattle.tree.specs.declared.refusals.Refusal.{Refusal}
 use Rattle.tree.specs.declared.refusals.Refused.{Refused}
 use Rattle.tree.specs.declared.refusals.Refused.TheVariants as refused
 use Rattle.meaning.specs.Dialect.{fortran77}
+use Rattle.tree.specs.declared.width.Width.{Width}
 use Rattle.f77_grammar.specs.Statement77.{Labelled}
-use Rattle.f77_grammar.specs.program.Text.{Place, places}
+use Rattle.f77_grammar.specs.program.Text.{Place77, places}
 use Rattle.f77_grammar.specs.program.Program77.{holds_in, findings}
 use Rattle.f77_checks.specs.First.{IsFoundFirst}
 
@@ -18,23 +19,23 @@ IfRefusal (refused.Refusal r) P = P r
 IfRefusal refused.Memory P = Unit {0}
 
 -- the cause holds nowhere in the text
-abbrev pub IsNowhere : List Labelled → Cause → Type 0
-IsNowhere text c = find (holds_in fortran77 text c) (places text) ≡ None
+abbrev pub IsNowhere : (width : Width) → List Labelled → Cause → Type 0
+IsNowhere width text c = find (holds_in (fortran77 width) text c) (places text) ≡ None
 
 -- of these causes: the refusal is the finding of the first that holds at the first place at which one holds
-pub record IsFirstAmong (causes : List Cause) (text : List Labelled) (r : Refusal) : Type 0 where
+pub record IsFirstAmong (width : Width) (causes : List Cause) (text : List Labelled) (r : Refusal) : Type 0 where
   pub cause : Cause
-  pub place : Place
-  pub first_place : find (λ p. list_any (λ c. holds_in fortran77 text c p) causes) (places text) ≡ Some place
-  pub first_cause : find (λ c. holds_in fortran77 text c place) causes ≡ Some cause
+  pub place : Place77
+  pub first_place : find (λ p. list_any (λ c. holds_in (fortran77 width) text c p) causes) (places text) ≡ Some place
+  pub first_cause : find (λ c. holds_in (fortran77 width) text c place) causes ≡ Some cause
   pub is : r ≡ refusal_at cause place.here.line
 
 -- none of the causes holds, or the first place at which one does is refused
-abbrev pub Passes : List Cause → List Labelled → Result (Unit {0}) Refused → Type 0
-Passes causes text (Ok u) = AllByRecursion (IsNowhere text) causes
-Passes causes text (Err e) = IfRefusal e (IsFirstAmong causes text)
+abbrev pub Passes : (width : Width) → List Cause → List Labelled → Result (Unit {0}) Refused → Type 0
+Passes width causes text (Ok u) = AllByRecursion (IsNowhere width text) causes
+Passes width causes text (Err e) = IfRefusal e (IsFirstAmong width causes text)
 
 -- nothing is found, or what is found first is refused
-abbrev pub IsChecked : List Labelled → Result (Unit {0}) Refused → Type 0
-IsChecked text (Ok u) = findings fortran77 text ≡ []
-IsChecked text (Err e) = IfRefusal e (IsFoundFirst text)
+abbrev pub IsChecked : (width : Width) → List Labelled → Result (Unit {0}) Refused → Type 0
+IsChecked width text (Ok u) = findings (fortran77 width) text ≡ []
+IsChecked width text (Err e) = IfRefusal e (IsFoundFirst width text)

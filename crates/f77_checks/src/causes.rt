@@ -1,6 +1,7 @@
 //! The causes of refusal that have a number of their own, each with its check.
 ghost use Rattle.std.specs.Prelude.{◌≡◌, [], ◌∷◌};
 ghost use Rattle.meaning.specs.Dialect.{fortran77};
+ghost use Rattle.tree.specs.declared.width.Width.{Width};
 ghost use Rattle.f77_grammar.specs.program.Program77.{holds_in};
 ghost use Rattle.f77_grammar.specs.syntax.First.{first_index};
 ghost use Rattle.f77_grammar.specs.syntax.Views.{text_of};
@@ -19,8 +20,8 @@ use tree::{Cause, Refused};
 
 // Refuses a text at the first place at which the cause holds, if it holds.
 fn refuse(text: &[Labelled], cause: Cause, place: Option<usize>) -> Result<(), Refused>
-    ensures { place ≡ first_index (holds_in fortran77 (text_of text.now) cause) (text_of text.now)
-        → Passes (cause ∷ []) (text_of text.now) result }
+    ensures { (w : Width) → place ≡ first_index (holds_in (fortran77 w) (text_of text.now) cause) (text_of text.now)
+        → Passes w (cause ∷ []) (text_of text.now) result }
 {
     match line_at(text, place) {
         None => Ok(()),
@@ -30,7 +31,7 @@ fn refuse(text: &[Labelled], cause: Cause, place: Option<usize>) -> Result<(), R
 
 /// Refuses a text with a wrong label.
 pub fn check_labels(alloc: Global, text: &[Labelled]) -> Result<(), Refused>
-    ensures { Passes (Cause.Label ∷ []) (text_of text.now) result }
+    ensures { (w : Width) → Passes w (Cause.Label ∷ []) (text_of text.now) result }
 {
     refuse(text, Cause::Label, wrong_label(alloc, text)?)
 }
@@ -38,7 +39,7 @@ pub fn check_labels(alloc: Global, text: &[Labelled]) -> Result<(), Refused>
 /// Refuses a text with blocks or loops that cross, or statements out of order.
 pub fn check_nesting(alloc: Global, text: &[Labelled], known: &Known) -> Result<(), Refused>
     requires { IsKnownOf known.now (text_of text.now) }
-    ensures { Passes (Cause.Nesting ∷ []) (text_of text.now) result }
+    ensures { Passes known.now.constants.width (Cause.Nesting ∷ []) (text_of text.now) result }
 {
     refuse(
         text,
@@ -49,7 +50,7 @@ pub fn check_nesting(alloc: Global, text: &[Labelled], known: &Known) -> Result<
 
 /// Refuses a text in which END is missing, or isn't the last statement.
 pub fn check_end(text: &[Labelled]) -> Result<(), Refused>
-    ensures { Passes (Cause.NoEnd ∷ []) (text_of text.now) result }
+    ensures { (w : Width) → Passes w (Cause.NoEnd ∷ []) (text_of text.now) result }
 {
     refuse(text, Cause::NoEnd, wrong_end(text))
 }
@@ -57,7 +58,7 @@ pub fn check_end(text: &[Labelled]) -> Result<(), Refused>
 /// Refuses a text with a name that is declared wrongly, or doesn't suit its declaration.
 pub fn check_declarations(alloc: Global, text: &[Labelled], known: &Known) -> Result<(), Refused>
     requires { IsKnownOf known.now (text_of text.now) }
-    ensures { Passes (Cause.Declared ∷ []) (text_of text.now) result }
+    ensures { Passes known.now.constants.width (Cause.Declared ∷ []) (text_of text.now) result }
 {
     refuse(
         text,
@@ -69,7 +70,7 @@ pub fn check_declarations(alloc: Global, text: &[Labelled], known: &Known) -> Re
 /// Refuses a text with a variable that would be REAL.
 pub fn check_real_names(alloc: Global, text: &[Labelled], known: &Known) -> Result<(), Refused>
     requires { IsKnownOf known.now (text_of text.now) }
-    ensures { Passes (Cause.RealName ∷ []) (text_of text.now) result }
+    ensures { Passes known.now.constants.width (Cause.RealName ∷ []) (text_of text.now) result }
 {
     refuse(text, Cause::RealName, real_name(alloc, text, &known.names)?)
 }
@@ -77,7 +78,7 @@ pub fn check_real_names(alloc: Global, text: &[Labelled], known: &Known) -> Resu
 /// Refuses a text with a kind that doesn't suit.
 pub fn check_kinds(alloc: Global, text: &[Labelled], known: &Known) -> Result<(), Refused>
     requires { IsKnownOf known.now (text_of text.now) }
-    ensures { Passes (Cause.TypeClash ∷ []) (text_of text.now) result }
+    ensures { Passes known.now.constants.width (Cause.TypeClash ∷ []) (text_of text.now) result }
 {
     refuse(
         text,
@@ -89,7 +90,7 @@ pub fn check_kinds(alloc: Global, text: &[Labelled], known: &Known) -> Result<()
 /// Refuses a text with a GO TO that leads backwards, or into a block or loop.
 pub fn check_jumps(alloc: Global, text: &[Labelled], known: &Known) -> Result<(), Refused>
     requires { IsKnownOf known.now (text_of text.now) }
-    ensures { Passes (Cause.Jump ∷ []) (text_of text.now) result }
+    ensures { Passes known.now.constants.width (Cause.Jump ∷ []) (text_of text.now) result }
 {
     refuse(text, Cause::Jump, wrong_jump(alloc, text, &known.ends)?)
 }
@@ -97,7 +98,7 @@ pub fn check_jumps(alloc: Global, text: &[Labelled], known: &Known) -> Result<()
 /// Refuses a text with a DO variable that is wrong, or is set in its loop.
 pub fn check_do_variables(alloc: Global, text: &[Labelled], known: &Known) -> Result<(), Refused>
     requires { IsKnownOf known.now (text_of text.now) }
-    ensures { Passes (Cause.DoVariable ∷ []) (text_of text.now) result }
+    ensures { Passes known.now.constants.width (Cause.DoVariable ∷ []) (text_of text.now) result }
 {
     refuse(
         text,
@@ -109,7 +110,7 @@ pub fn check_do_variables(alloc: Global, text: &[Labelled], known: &Known) -> Re
 /// Refuses a text with a name without type beside IMPLICIT NONE.
 pub fn check_types(alloc: Global, text: &[Labelled], known: &Known) -> Result<(), Refused>
     requires { IsKnownOf known.now (text_of text.now) }
-    ensures { Passes (Cause.Untyped ∷ []) (text_of text.now) result }
+    ensures { Passes known.now.constants.width (Cause.Untyped ∷ []) (text_of text.now) result }
 {
     refuse(
         text,

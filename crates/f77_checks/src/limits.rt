@@ -1,6 +1,7 @@
 //! The limits on a program's names, blocks, bounds, arrays and symbolic constants.
 ghost use Rattle.std.specs.Prelude.{◌≡◌, List, [], ◌∷◌, IfOk};
 ghost use Rattle.meaning.specs.Dialect.{fortran77};
+ghost use Rattle.tree.specs.declared.width.Width.{Width};
 ghost use Rattle.f77_grammar.specs.Statement77.{Labelled as Plain};
 ghost use Rattle.f77_grammar.specs.program.Text.{places};
 ghost use Rattle.f77_grammar.specs.program.Program77.{holds_in};
@@ -26,8 +27,8 @@ pub struct Breach {
 }
 
 fn breach_at(cause: Cause, place: Option<usize>) -> Option<Breach>
-    ensures { (text : List Plain) → place ≡ first_index (holds_in fortran77 text cause) text
-        → result ≡ found_from (holds_in fortran77 text) (cause ∷ []) 0 (places text) }
+    ensures { (w : Width) (text : List Plain) → place ≡ first_index (holds_in (fortran77 w) text cause) text
+        → result ≡ found_from (holds_in (fortran77 w) text) (cause ∷ []) 0 (places text) }
 {
     match place {
         None => None,
@@ -50,7 +51,8 @@ fn sooner(a: Option<Breach>, b: Option<Breach>) -> Option<Breach>
 fn first_breach(alloc: Global, text: &[Labelled], known: &Known) -> Result<Option<Breach>, Memory>
     requires { IsKnownOf known.now (text_of text.now) }
     ensures { IfOk result (λ breach.
-        breach ≡ found_from (holds_in fortran77 (text_of text.now)) limits 0 (places (text_of text.now))) }
+        breach ≡ found_from (holds_in (fortran77 known.now.constants.width) (text_of text.now)) limits 0 (places
+        (text_of text.now))) }
 {
     let constants = &known.constants;
     let names = breach_at(Cause::ManyNames, many_names(alloc, text, &known.names)?);
@@ -71,7 +73,7 @@ fn first_breach(alloc: Global, text: &[Labelled], known: &Known) -> Result<Optio
 #[tactic(auto, using(crate::proofs::Breaches::outcome_laws))]
 pub fn refuse_breach(alloc: Global, text: &[Labelled], known: &Known) -> Result<(), Refused>
     requires { IsKnownOf known.now (text_of text.now) }
-    ensures { Passes limits (text_of text.now) result }
+    ensures { Passes known.now.constants.width limits (text_of text.now) result }
 {
     match first_breach(alloc, text, known)? {
         None => Ok(()),

@@ -24,7 +24,7 @@ use tree::{Cause, Refused};
 fn check_statements(alloc: Global, text: &[Labelled], known: &Known) -> Result<(), Refused>
     requires some { 0 < length text.now }
     requires known { IsKnownOf known.now (text_of text.now) }
-    ensures { IsChecked (text_of text.now) result }
+    ensures { IsChecked known.now.constants.width (text_of text.now) result }
 {
     check_labels(alloc, text)?;
     check_nesting(alloc, text, known)?;
@@ -42,7 +42,7 @@ fn check_statements(alloc: Global, text: &[Labelled], known: &Known) -> Result<(
 #[tactic(auto, using(crate::proofs::Chain::nothing_to_check))]
 fn check_text(alloc: Global, text: &[Labelled], known: &Known) -> Result<(), Refused>
     requires { IsKnownOf known.now (text_of text.now) }
-    ensures { IsChecked (text_of text.now) result }
+    ensures { IsChecked known.now.constants.width (text_of text.now) result }
 {
     if text.is_empty() {
         return Err(Refused::Refusal(Cause::NoEnd.at(0)));
@@ -57,14 +57,16 @@ fn check_text(alloc: Global, text: &[Labelled], known: &Known) -> Result<(), Ref
 #[tactic(auto, using(crate::proofs::Answers::answer_laws))]
 pub fn check(alloc: Global, text: &[Labelled], known: &Known) -> Result<(), Refused>
     requires { IsKnownOf known.now (text_of text.now) }
-    ensures ok { OnOk result (findings fortran77 (text_of text.now) ≡ []) }
-    ensures refused { (r : Refusal) → result ≡ Err (Refused.Refusal r) → IsFoundFirst (text_of text.now) r }
+    ensures ok { OnOk result (findings (fortran77 known.now.constants.width) (text_of text.now) ≡ []) }
+    ensures refused { (r : Refusal) → result ≡ Err (Refused.Refusal r)
+        → IsFoundFirst known.now.constants.width (text_of text.now) r }
     ensures rising { (r : Refusal) → result ≡ Err (Refused.Refusal r) → AreRising (text_of text.now)
-        → RefusedStatements fortran77 (text_of text.now) r }
+        → RefusedStatements (fortran77 known.now.constants.width) (text_of text.now) r }
 
     // A text in which nothing is wrong, or that is refused, has no other answer, unless memory runs out.
-    ensures only_sound { findings fortran77 (text_of text.now) ≡ [] → OnErr result (result ≡ Err Refused.Memory) }
-    ensures only_refused { (r : Refusal) → RefusedStatements fortran77 (text_of text.now) r
+    ensures only_sound { findings (fortran77 known.now.constants.width) (text_of text.now) ≡ []
+        → OnErr result (result ≡ Err Refused.Memory) }
+    ensures only_refused { (r : Refusal) → RefusedStatements (fortran77 known.now.constants.width) (text_of text.now) r
         → AreRising (text_of text.now)
         → (result ≡ Err (Refused.Refusal r)) ⊎ (result ≡ Err Refused.Memory) }
 {

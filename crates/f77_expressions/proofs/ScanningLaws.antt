@@ -3,7 +3,8 @@ use Rattle.std.proofs.Common.{◌≡◌, ◌≤◌, ℕ, length, drop, Bool, tru
 use Rattle.std.specs.Prelude.{◌==◌}
 use Rattle.std.proofs.lemmas.Bool.{eqb-true}
 use Rattle.std.proofs.lemmas.List.{drop_all}
-use Rattle.f77_grammar.specs.expressions.Squeezing.{Symbol, Char, Text, Broken, upper, doubled_one, doubled, IsEnded, Squeezed, nothing, blank, character, constant, empty, endless}
+use Rattle.f77_grammar.specs.expressions.Squeezing.{Symbol77, Char, Text, Broken, Squeezed, nothing, blank, character, constant, empty, endless}
+use Rattle.reading.specs.Characters.{upper, doubled_one, doubled, IsEnded}
 use Rattle.f77_expressions.specs.Scanning.{Mode, Out, In, Closing, closed, scan_out, scan_in, scan_closing, scan}
 
 -- in a constant, its doubled text is taken in
@@ -22,13 +23,13 @@ ended : (t cs : List ℕ) → IsEnded cs → scan cs (Closing t) ≡ closed t �
 ended t [] h = refl
 ended t (c ∷ cs) h = rw h refl
 
-pub only : {cs : List ℕ} {ss : List Symbol} → Squeezed cs ss → scan cs Out ≡ ss
+pub only : {cs : List ℕ} {ss : List Symbol77} → Squeezed cs ss → scan cs Out ≡ ss
 only nothing = refl
 only (blank h) = only h
-only (character c b q h) = rw (q, b) (ap (λ (r : List Symbol). Char (upper c) ∷ r) (only h))
+only (character c b q h) = rw (q, b) (ap (λ (r : List Symbol77). Char (upper c) ∷ r) (only h))
 only (constant c t {cs = cs} e h) =
-    taken [] (c ∷ t) (39 ∷ cs) ∙ (ended (c ∷ t) cs e ∙ ap (λ (r : List Symbol). Text (c ∷ t) ∷ r) (only h))
-only (empty {cs = cs} e h) = ended [] cs e ∙ ap (λ (r : List Symbol). Broken ∷ r) (only h)
+    taken [] (c ∷ t) (39 ∷ cs) ∙ (ended (c ∷ t) cs e ∙ ap (λ (r : List Symbol77). Text (c ∷ t) ∷ r) (only h))
+only (empty {cs = cs} e h) = ended [] cs e ∙ ap (λ (r : List Symbol77). Broken ∷ r) (only h)
 only (endless t) = ap (λ (q : List ℕ). scan q (In [])) (sym (append-nil (doubled t))) ∙ taken [] t []
 
 -- what has been read of a constant
@@ -43,10 +44,10 @@ pushed b (d ∷ t) c cs e =
     append_assoc (doubled_one (d == 39) d) (doubled (t ++ c ∷ [])) cs
     ∙ (ap (λ (q : List ℕ). doubled_one (d == 39) d ++ q) (pushed b t c cs e) ∙ sym (append_assoc (doubled_one (d == 39) d) (doubled t) (doubled_one b c ++ cs)))
 
-along : {a b : List ℕ} (ss : List Symbol) → a ≡ b → Squeezed a ss → Squeezed b ss
+along : {a b : List ℕ} (ss : List Symbol77) → a ≡ b → Squeezed a ss → Squeezed b ss
 along ss e h = subst (λ (q : List ℕ). Squeezed q ss) e h
 
-closes : (t cs : List ℕ) (ss : List Symbol) → IsEnded cs → Squeezed cs ss → Squeezed (39 ∷ (doubled t ++ 39 ∷ cs)) (closed t ∷ ss)
+closes : (t cs : List ℕ) (ss : List Symbol77) → IsEnded cs → Squeezed cs ss → Squeezed (39 ∷ (doubled t ++ 39 ∷ cs)) (closed t ∷ ss)
 closes [] cs ss e h = empty e h
 closes (c ∷ t) cs ss e h = constant c t e h
 
@@ -79,9 +80,9 @@ pub squeezed : (cs : List ℕ) → Squeezed cs (scan cs Out)
 squeezed cs = each cs Out
 
 -- the scan at its end
-pub scanned : (chars : List ℕ) (n : ℕ) (before after : List Symbol) (m : Mode) → length chars ≤ n → scan chars Out ≡ before ++ scan (drop n chars) m
+pub scanned : (chars : List ℕ) (n : ℕ) (before after : List Symbol77) (m : Mode) → length chars ≤ n → scan chars Out ≡ before ++ scan (drop n chars) m
     → before ++ scan [] m ≡ after → scan chars Out ≡ after
 scanned chars n before after m h e f = e ∙ (ap (λ (q : List ℕ). before ++ scan q m) (drop_all n chars h) ∙ f)
 
-pub squeezed_as : (chars : List ℕ) (ss : List Symbol) → scan chars Out ≡ ss → Squeezed chars ss
+pub squeezed_as : (chars : List ℕ) (ss : List Symbol77) → scan chars Out ≡ ss → Squeezed chars ss
 squeezed_as chars ss e = subst (Squeezed chars) e (squeezed chars)

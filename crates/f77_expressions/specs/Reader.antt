@@ -5,11 +5,10 @@ use Rattle.tree.specs.declared.ops.Op.{Op}
 use Rattle.tree.specs.Limits.{expression_depth77}
 use Rattle.tree.specs.Plain.{Expression, Number, Logic, Named, Binary, Subscript, Only, subscripts, no_subscripts}
 use Rattle.f77_grammar.specs.expressions.Words as words
-use Rattle.f77_grammar.specs.expressions.Words.{Word}
+use Rattle.f77_grammar.specs.expressions.Words.{Word77}
 use Rattle.tree.specs.OperatorTable.{Sign, Plus, level_of, left_least, right_least, stands_between}
 use Rattle.tree.specs.OperatorTable.{is_relation, may_follow, sign_level}
-use Rattle.reading.specs.Signs.{sign_leads, sign_of}
-use Rattle.f77_grammar.specs.expressions.Phrases.{signed, sign_word}
+use Rattle.reading.specs.Signs.{sign_leads, sign_of, signed, sign_word}
 
 -- what is kept of an operand; `placed` is that each plus or minus sign in it stands where one may
 pub record Operand : Type 0 where
@@ -117,7 +116,7 @@ begin_sign fs None = Fail
 begin_sign fs (Some s) = if nat_le (least fs) (sign_level s) then Go (Wants (Before s ∷ fs)) else Fail
 
 -- a word where an operand is due
-abbrev pub begin : List Frame → Word → Step
+abbrev pub begin : List Frame → Word77 → Step
 begin fs (words.Number n) = Go (Has fs (primary (Number n)))
 begin fs words.Wide = Go (Has fs (primary (Number (pos 0))))
 begin fs (words.Truth b) = Go (Has fs (primary (Logic b)))
@@ -156,7 +155,7 @@ abbrev pub halted : List Frame → Operand → Step
 halted fs m = let h = close 0 fs m in halt h.frames h.operand
 
 -- a word behind an operand
-abbrev pub go_on : List Frame → Operand → Word → Step
+abbrev pub go_on : List Frame → Operand → Word77 → Step
 go_on fs m (words.Operator o) = join o (close (level_of o) fs m)
 go_on fs m words.Close = let h = close 0 fs m in shut h.frames h.operand
 go_on fs m words.Comma = let h = close 0 fs m in part h.frames h.operand
@@ -164,15 +163,15 @@ go_on fs m words.Equals = halted fs m
 go_on fs m words.Colon = halted fs m
 go_on fs m w = Fail
 
-abbrev pub step : State → Word → Step
+abbrev pub step : State → Word77 → Step
 step (Wants fs) w = begin fs w
 step (Has fs m) w = go_on fs m w
 
 pub record Read : Type 0 where
   pub operand : Operand
-  pub rest : List Word
+  pub rest : List Word77
 
-abbrev pub stopped : Step → List Word → Option Read
+abbrev pub stopped : Step → List Word77 → Option Read
 stopped (Stop m) ws = Some (record { operand = m; rest = ws })
 stopped (Go s) ws = None
 stopped Fail ws = None
@@ -181,13 +180,13 @@ abbrev pub ended : State → Option Read
 ended (Wants fs) = None
 ended (Has fs m) = stopped (halted fs m) []
 
-abbrev pub went : Step → Word → List Word → (State → Option Read) → Option Read
+abbrev pub went : Step → Word77 → List Word77 → (State → Option Read) → Option Read
 went (Go s) w ws on = on s
 went (Stop m) w ws on = Some (record { operand = m; rest = w ∷ ws })
 went Fail w ws on = None
 
 -- the expression at the front, and what follows it, wherever its signs stand
-abbrev pub run : List Word → State → Option Read
+abbrev pub run : List Word77 → State → Option Read
 run [] s = ended s
 run (w ∷ ws) s = went (step s w) w ws (run ws)
 
@@ -199,5 +198,5 @@ checked None = None
 checked (Some r) = placed_alone r
 
 -- the expression at the front, and what follows it
-abbrev pub read : List Word → Option Read
+abbrev pub read : List Word77 → Option Read
 read ws = checked (run ws (Wants []))

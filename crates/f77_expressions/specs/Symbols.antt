@@ -7,12 +7,12 @@ use Rattle.f77_expressions.specs.declared.symbols.Symbol.{Symbol}
 use Rattle.f77_expressions.specs.declared.symbols.Symbol.TheVariants.{Char, Text, Broken}
 use Rattle.f77_expressions.specs.Scanning as scanning
 
-abbrev pub symbol_of : Symbol → squeezing.Symbol
+abbrev pub symbol_of : Symbol → squeezing.Symbol77
 symbol_of (Char c) = squeezing.Char c
 symbol_of (Text t) = squeezing.Text t
 symbol_of Broken = squeezing.Broken
 
-abbrev pub symbols_of : List Symbol → List squeezing.Symbol
+abbrev pub symbols_of : List Symbol → List squeezing.Symbol77
 symbols_of symbols = map symbol_of symbols
 
 abbrev pub mode_of : Mode → scanning.Mode

@@ -1,12 +1,11 @@
 -- The words that the code holds, as words of the grammar.
 use Rattle.f77_grammar.specs.expressions.Words as words
-use Rattle.f77_grammar.specs.expressions.Words.{Word}
+use Rattle.f77_grammar.specs.expressions.Words.{Word77}
 use Rattle.f77_expressions.specs.declared.tokens.Token.{Token}
 use Rattle.f77_expressions.specs.declared.tokens.Token.TheVariants.{Number, Wide, Truth, Name, Head, Operator, Open}
-use Rattle.f77_expressions.specs.declared.tokens.Token.TheVariants.{Close}
-use Rattle.f77_expressions.specs.declared.tokens.Token.TheVariants.{Comma, Equals, Colon, Constant}
+use Rattle.f77_expressions.specs.declared.tokens.Token.TheVariants.{Close, Comma, Equals, Colon, Constant}
 
-abbrev pub word_of : Token → Word
+abbrev pub word_of : Token → Word77
 word_of (Number n) = words.Number n
 word_of Wide = words.Wide
 word_of (Truth b) = words.Truth b

@@ -12,7 +12,7 @@ use Rattle.reading.specs.declared.stops.Stop.{Stop}
 use Rattle.reading.specs.declared.stops.Stop.TheVariants.{Syntax, Memory}
 use Rattle.f77_expressions.specs.declared.tokens.Token.{Token}
 use Rattle.std.specs.Borrow.{Bor}
-use Rattle.f77_grammar.specs.expressions.Words.{Word}
+use Rattle.f77_grammar.specs.expressions.Words.{Word77}
 use Rattle.f77_expressions.specs.Reader as reader
 use Rattle.f77_expressions.specs.Tokens.{word_of}
 use Rattle.reading.specs.Signs.{sign_view}
@@ -81,7 +81,7 @@ abbrev pub Finishes : Result Operand Stop → reader.State → Type 0
 Finishes (Ok m) state = reader.ended state ≡ Some (record { operand = operand_of m; rest = [] })
 Finishes (Err e) state = Lacks e (reader.ended state)
 
-abbrev pub words_of : List Token → List Word
+abbrev pub words_of : List Token → List Word77
 words_of tokens = map word_of tokens
 
 abbrev pub Reads : Result (Operand × Bor (List Token)) Stop → Option reader.Read → Type 0

@@ -2,11 +2,11 @@
 ghost use Rattle.std.specs.Prelude.{◌≡◌, ◌<◌, ◌↔◌, IfOk, IsTrue, IsErrOf};
 ghost use Rattle.std.specs.List.{list_any};
 ghost use Rattle.tree.specs.View.{expression_of};
-ghost use Rattle.f77_grammar.specs.expressions.Phrases.{Phrase, IsExpression, written};
+ghost use Rattle.f77_grammar.specs.expressions.Phrases.{Phrase77, IsExpression77, written77};
 ghost use Rattle.tree.specs.Plain.{Expression};
 ghost use Rattle.f77_grammar.specs.expressions.Printing.{IsSource, printed};
 ghost use Rattle.f77_grammar.specs.expressions.Reading.{ReadsAs, Spells, IsSpelled, IsWide, IsDeep};
-ghost use Rattle.f77_grammar.specs.expressions.Words.{is_wide};
+ghost use Rattle.f77_grammar.specs.expressions.Words.{is_wide_word};
 ghost use Rattle.f77_grammar.specs.expressions.Words as words;
 ghost use Rattle.f77_expressions.specs.Reading as reading;
 ghost use Rattle.f77_expressions.specs.Reading.{GivesWhole, Answers, ReadsBack};
@@ -57,7 +57,7 @@ impl From<Memory> for Unread {
 
 /// Whether a literal is above 2^127-1.
 pub fn has_wide(tokens: &[Token]) -> bool
-    ensures { result ≡ list_any is_wide (words_of tokens.now) }
+    ensures { result ≡ list_any is_wide_word (words_of tokens.now) }
 {
     for token in tokens {
         if token.is_wide() {
@@ -70,7 +70,7 @@ pub fn has_wide(tokens: &[Token]) -> bool
 /// All words as one expression.
 pub fn whole(alloc: Global, tokens: &[Token]) -> Result<Operand, Stop>
     ensures found { IfOk result (reading.Is (words_of tokens.now)) }
-    ensures only { (p : Phrase) → IsExpression p → words_of tokens.now ≡ written p → GivesWhole result p }
+    ensures only { (p : Phrase77) → IsExpression77 p → words_of tokens.now ≡ written77 p → GivesWhole result p }
 {
     match read(alloc, tokens) {
         Ok((operand, rest)) => {
@@ -87,7 +87,7 @@ pub fn whole(alloc: Global, tokens: &[Token]) -> Result<Operand, Stop>
 // The characters as one expression.
 fn read_chars(alloc: Global, chars: &[u8]) -> Result<Expr, Unread>
     ensures read { IfOk result (λ e. ReadsAs chars.now (expression_of e)) }
-    ensures only { (p : Phrase) → Spells chars.now p → Answers result p }
+    ensures only { (p : Phrase77) → Spells chars.now p → Answers result p }
     ensures wide { IsErrOf result Unread.WideLiteral → IsSpelled chars.now }
     ensures deep { IsErrOf result Unread.Deep → IsSpelled chars.now }
 {
@@ -115,7 +115,7 @@ pub fn expression(alloc: Global, chars: &[u8]) -> Result<Expr, Unread>
     ensures deep { IsErrOf result Unread.Deep → IsSpelled chars.now }
 
     // What is so written is read, in one way alone, or is refused by the first cause that holds.
-    ensures only { (p : Phrase) → Spells chars.now p → Answers result p }
+    ensures only { (p : Phrase77) → Spells chars.now p → Answers result p }
 
     // A tree's own text is read as that tree, unless it is too deep.
     ensures printed { (e : Expression) → IsSource e → chars.now ≡ printed e → ReadsBack result e }

@@ -3,7 +3,7 @@ ghost use Rattle.std.specs.Prelude.{◌≡◌, ◌^◌, ◌<◌, ◌+◌, ◌*�
 ghost use Rattle.std.specs.Prelude.{IsTrue};
 ghost use Rattle.f77_grammar.specs.expressions.Words as words;
 ghost use Rattle.f77_grammar.specs.expressions.Spelling as spelling;
-ghost use Rattle.f77_grammar.specs.expressions.Spelling.{Stops, Words};
+ghost use Rattle.f77_grammar.specs.expressions.Spelling.{Stops77, AreWords77};
 ghost use Rattle.f77_grammar.specs.expressions.Squeezing as squeezing;
 ghost use Rattle.f77_expressions.specs.Lexing as lexing;
 ghost use Rattle.f77_expressions.specs.Literals as literals;
@@ -12,6 +12,7 @@ ghost use Rattle.f77_expressions.specs.Tokens.{word_of};
 ghost use Rattle.f77_expressions.specs.Fronts.{NextChar, narrow, BeginsWithLetter, BeginsWith, NameOption, Strips};
 ghost use Rattle.f77_expressions.specs.Fronts.{FrontOption, FrontResult, AfterChar, GivesWords};
 ghost use Rattle.f77_expressions.specs.Views.{words_of};
+ghost use Rattle.reading.specs.Characters as characters;
 
 use crate::symbols::Symbol;
 use crate::tokens::Token;
@@ -20,13 +21,13 @@ use std::alloc::Global;
 use tree::{GREATEST_LITERAL, Name, Op, copy_text};
 
 fn is_letter(c: u8) -> bool
-    ensures { result ≡ spelling.is_letter c }
+    ensures { result ≡ characters.is_letter c }
 {
     c.is_ascii_uppercase()
 }
 
 fn is_digit(c: u8) -> bool
-    ensures { result ≡ spelling.is_digit c }
+    ensures { result ≡ characters.is_digit c }
 {
     c.is_ascii_digit()
 }
@@ -39,7 +40,7 @@ fn is_letter_or_digit(c: u8) -> bool
 
 /// The digit at the front, and what follows it.
 pub fn next_digit(text: &[Symbol]) -> Option<(u8, &[Symbol])>
-    ensures { NextChar spelling.is_digit result (symbols_of text.now) }
+    ensures { NextChar characters.is_digit result (symbols_of text.now) }
 {
     match text {
         [Symbol::Char(c), rest @ ..] if is_digit(*c) => Some((*c, rest)),
@@ -59,7 +60,7 @@ pub fn next_letter_or_digit(text: &[Symbol]) -> Option<(u8, &[Symbol])>
 
 // A literal's value with one more digit, where it is within 2^127-1.
 fn appended(value: u128, digit: u8) -> Option<u128>
-    requires { IsTrue (spelling.is_digit digit) }
+    requires { IsTrue (characters.is_digit digit) }
     ensures { result ≡ narrow (10 * value + (digit - 48)) }
 {
     let units = u128::from(digit - b'0');
@@ -70,7 +71,7 @@ fn appended(value: u128, digit: u8) -> Option<u128>
 }
 
 fn with_digit(value: Option<u128>, digit: u8) -> Option<u128>
-    requires { IsTrue (spelling.is_digit digit) }
+    requires { IsTrue (characters.is_digit digit) }
     ensures { result ≡ literals.with_digit value digit }
 {
     match value {
@@ -89,7 +90,7 @@ fn number(value: u128) -> Token
 // The literal at the front, which begins with a digit, and what follows it.
 #[tactic(auto, using(crate::proofs::LiteralLaws::literals))]
 fn literal(text: &[Symbol]) -> (Token, &[Symbol])
-    ensures { lexing.literal (lexing.run_of spelling.is_digit (symbols_of text.now))
+    ensures { lexing.literal (lexing.run_of characters.is_digit (symbols_of text.now))
         ≡ Some (record { word = word_of result.0; rest = symbols_of result.1.now }) }
 {
     let mut rest = text;
@@ -213,7 +214,7 @@ fn mark(text: &[Symbol]) -> Option<(Token, &[Symbol])>
 // The word of characters at the front, and what follows it.
 fn word_of_chars(text: &[Symbol], first: u8) -> Option<(Token, &[Symbol])>
     requires { BeginsWith first (symbols_of text.now) }
-    ensures { FrontOption result (lexing.word_by (spelling.is_digit first) (spelling.is_letter first)
+    ensures { FrontOption result (lexing.word_by (characters.is_digit first) (characters.is_letter first)
         (symbols_of text.now)) }
 {
     if is_digit(first) {
@@ -252,8 +253,8 @@ fn word(alloc: Global, text: &[Symbol]) -> Result<(Token, &[Symbol]), Stop>
 /// The words of a text.
 #[tactic(auto, using(crate::proofs::WordsLaws::wording))]
 pub fn words(alloc: Global, text: &[Symbol]) -> Result<Vec<Token>, Stop>
-    ensures found { IfOk result (λ tokens. Words (symbols_of text.now) (words_of tokens.items)) }
-    ensures only { (ws : List words.Word) → Words (symbols_of text.now) ws → GivesWords result ws }
+    ensures found { IfOk result (λ tokens. AreWords77 (symbols_of text.now) (words_of tokens.items)) }
+    ensures only { (ws : List words.Word77) → AreWords77 (symbols_of text.now) ws → GivesWords result ws }
 {
     let mut tokens = Vec::new(alloc);
     let mut rest = text;

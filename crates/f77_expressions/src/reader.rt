@@ -3,13 +3,12 @@ ghost use Rattle.std.specs.Prelude.{◌≡◌, ◌<◌, length, List, [], ◌∷
 ghost use Rattle.tree.specs.OperatorTable.{level_of};
 ghost use Rattle.f77_expressions.specs.Reader as reader;
 ghost use Rattle.f77_grammar.specs.expressions.Words as words;
-ghost use Rattle.f77_grammar.specs.expressions.Phrases.{Phrase, IsExpression, written};
+ghost use Rattle.f77_grammar.specs.expressions.Phrases.{Phrase77, IsExpression77, written77};
 ghost use Rattle.f77_expressions.specs.Reading as reading;
 ghost use Rattle.f77_expressions.specs.Reading.{Ends, Gives};
 ghost use Rattle.f77_expressions.specs.Tokens.{word_of};
 ghost use Rattle.f77_expressions.specs.Views.{operand_of, frame_of, stack, held, state_of, words_of, Begins, Turns};
-ghost use Rattle.f77_expressions.specs.Views.{Shuts};
-ghost use Rattle.f77_expressions.specs.Views.{Parts, Halts, Finishes, Reads};
+ghost use Rattle.f77_expressions.specs.Views.{Shuts, Parts, Halts, Finishes, Reads};
 ghost use Rattle.reading.specs.Signs.{sign_of};
 
 use crate::operands::{Frame, Operand};
@@ -277,8 +276,8 @@ pub fn read(alloc: Global, tokens: &[Token]) -> Result<(Operand, &[Token]), Stop
     ensures reads { Reads result (reader.read (words_of tokens.now)) }
     ensures shorter { IfOk result (λ r. length r.1.now < length tokens.now) }
     // An expression is read, in one way alone.
-    ensures only { (p : Phrase) (rest : List words.Word) → IsExpression p → Ends rest
-        → words_of tokens.now ≡ written p ++ rest → Gives result p rest }
+    ensures only { (p : Phrase77) (rest : List words.Word77) → IsExpression77 p → Ends rest
+        → words_of tokens.now ≡ written77 p ++ rest → Gives result p rest }
 {
     run_checked(alloc, tokens)
 }

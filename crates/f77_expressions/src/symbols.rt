@@ -1,7 +1,8 @@
 //! The symbols of a statement: blanks have no meaning, letters are upper case, and each character constant is one
 //! symbol (ANSI X3.9-1978, sections 3.1.6 and 4.8).
 ghost use Rattle.std.specs.Prelude.{◌≡◌, ℕ, List, ◌∷◌, [], ◌++◌, IfOk, OnOk};
-ghost use Rattle.f77_grammar.specs.expressions.Squeezing.{upper, Squeezed};
+ghost use Rattle.f77_grammar.specs.expressions.Squeezing.{Squeezed};
+ghost use Rattle.reading.specs.Characters.{upper};
 ghost use Rattle.f77_grammar.specs.expressions.Squeezing as squeezing;
 ghost use Rattle.f77_expressions.specs.Scanning as scanning;
 ghost use Rattle.f77_expressions.specs.Symbols.{symbol_of, symbols_of, mode_of};
@@ -121,7 +122,7 @@ fn end(mode: Mode, symbols: &mut Vec<Symbol>) -> Result<(), Memory>
 /// The symbols of a statement's characters.
 pub fn squeeze(alloc: Global, chars: &[u8]) -> Result<Vec<Symbol>, Memory>
     ensures found { IfOk result (λ symbols. Squeezed chars.now (symbols_of symbols.items)) }
-    ensures only { IfOk result (λ symbols. (ss : List squeezing.Symbol) → Squeezed chars.now ss
+    ensures only { IfOk result (λ symbols. (ss : List squeezing.Symbol77) → Squeezed chars.now ss
         → symbols_of symbols.items ≡ ss) }
 {
     let mut symbols = Vec::new(alloc);

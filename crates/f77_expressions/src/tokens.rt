@@ -21,11 +21,11 @@ pub enum Token {
 
 impl Token {
     ghost use Rattle.std.specs.Prelude.{◌≡◌};
-    ghost use Rattle.f77_grammar.specs.expressions.Words.{is_wide};
+    ghost use Rattle.f77_grammar.specs.expressions.Words.{is_wide_word};
     ghost use Rattle.f77_expressions.specs.Tokens.{word_of};
 
     pub fn is_wide(&self) -> bool
-        ensures { result ≡ is_wide (word_of self.now) }
+        ensures { result ≡ is_wide_word (word_of self.now) }
     {
         match self {
             Token::Wide => true,

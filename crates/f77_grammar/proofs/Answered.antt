@@ -2,7 +2,7 @@
 use Rattle.std.proofs.Common.{◌≡◌, ◌⊎◌, inl, inr, ℕ, ◌<◌, ◌≤◌, ◌==◌, nat_lt, Bool, true, false, ◌&&◌, ◌||◌, refl, ap, ◌∙◌, arith}
 use Rattle.std.proofs.lemmas.Bool.Decides.{nat_tests}
 use Rattle.tree.specs.declared.refusals.Refusal.{Refusal}
-use Rattle.f77_grammar.specs.Answered.{comes_before, IsAnswered}
+use Rattle.reading.specs.refusal_order.Answered.{comes_before, IsAnswered}
 
 -- ---- the order, on the three numbers alone
 

@@ -9,10 +9,11 @@ use Rattle.tree.specs.declared.refusals.Refusal.{Refusal}
 use Rattle.f77_grammar.proofs.Answered.{answered_by}
 use Rattle.tree.specs.Causes.{number_of_cause, word_of_cause, refusal_at}
 use Rattle.tree.specs.declared.refusals.Cause.TheVariants as causes'
-use Rattle.f77_grammar.specs.Cards.{Line, LineCause, cause_of_line, IsWrong, HasCause, RefusedCards, is_blank, is_comment, is_initial, is_continuation, is_bad_byte, is_tab, is_label_character, label_field, statement_field, numbered, statement_lines, statement_lines_from}
+use Rattle.f77_grammar.specs.Cards.{Line, LineCause, cause_of_line, IsWrong, HasCardCause, RefusedCards, is_comment, is_initial, is_continuation, is_bad_byte77, is_tab, is_label_character, label_field, statement_field, numbered_lines, statement_lines, statement_lines_from}
+use Rattle.reading.specs.Characters.{is_blank}
 use Rattle.f77_grammar.specs.Cards.LineCause.{BadByte, Tab, LineForm, ManyLines}
 use Rattle.f77_grammar.specs.Cards.IsWrong.{HoldsBadByte, HoldsTab, HasNoInitialLine, HasLabelField, HasNoLabel, HasNoStatement, IsTwentieth}
-use Rattle.f77_grammar.specs.Cards.HasCause.{TooLong, AtLine}
+use Rattle.f77_grammar.specs.Cards.HasCardCause.{TooLong, AtLine}
 
 abbrev number_of : LineCause → ℕ
 number_of c = number_of_cause (cause_of_line c)
@@ -140,7 +141,7 @@ abbrev pub is_wrong_continuation : Option ℕ → Line → Bool
 is_wrong_continuation place line = is_none place || not (list_all is_blank (label_field line))
 
 abbrev pub is_wrong : LineCause → Option ℕ → Line → Bool
-is_wrong BadByte place line = list_any is_bad_byte line.columns
+is_wrong BadByte place line = list_any is_bad_byte77 line.columns
 is_wrong Tab place line = list_any is_tab line.columns
 is_wrong LineForm place line = if is_initial line then is_wrong_initial line else is_wrong_continuation place line
 is_wrong ManyLines place line = is_continuation line && is_full place
@@ -249,7 +250,7 @@ RiseFrom-less : (m n : ℕ) (ls : List Line) → m ≤ n → RiseFrom n ls → R
 RiseFrom-less m n [] h r = tt
 RiseFrom-less m n (l ∷ ls) h r = (omega (arith, r.0), r.1)
 
-RiseFrom-numbered : (n : ℕ) (xs : List (List ℕ)) → RiseFrom n (numbered n xs)
+RiseFrom-numbered : (n : ℕ) (xs : List (List ℕ)) → RiseFrom n (numbered_lines n xs)
 RiseFrom-numbered n [] = tt
 RiseFrom-numbered n (x ∷ xs) = (omega arith, RiseFrom-numbered (n + 1) xs)
 
@@ -263,7 +264,7 @@ RiseFrom-filter p n (l ∷ ls) r = RiseFrom-filter_by (p l) p n l ls r.0 (RiseFr
 
 RiseFrom-statement_lines : (n : ℕ) (text : List ℕ) → RiseFrom n (statement_lines_from n text)
 unfolding statement_lines_from
-RiseFrom-statement_lines n text = RiseFrom-filter (λ line. not (is_comment line.columns)) n (numbered n (lines text)) (RiseFrom-numbered n (lines text))
+RiseFrom-statement_lines n text = RiseFrom-filter (λ line. not (is_comment line.columns)) n (numbered_lines n (lines text)) (RiseFrom-numbered n (lines text))
 
 RiseFrom-IsFound : (c : LineCause) (place : Option ℕ) (n k : ℕ) (ls : List Line) → RiseFrom n ls → IsFound c place ls k → n ≤ k
 RiseFrom-IsFound c place n k [] r f = absurd (IsFound-none c place k f.before f.line f.after f.split)
@@ -406,14 +407,14 @@ first_of-None answer e ManyLines =
 abbrev HoldsAs : List ℕ → Refusal → Type 0
 HoldsAs text s = ((2 ^ 20 < length text) × (s ≡ refusal_at causes'.TooLong 0)) ⊎ ((c : LineCause) × (k : ℕ) × IsFound c None (statement_lines text) k × (s ≡ refusal_at (cause_of_line c) k))
 
-HasCause-cases : (text : List ℕ) (s : Refusal) → HasCause text s → HoldsAs text s
+HasCause-cases : (text : List ℕ) (s : Refusal) → HasCardCause text s → HoldsAs text s
 HasCause-cases text _ (TooLong h) = inl (h, refl)
 HasCause-cases text _ (AtLine c before line after e w) =
     inr (c, line.number, record { before = before; line = line; after = after; split = e; wrong = test_from_IsWrong c before line w; number = refl }, refl)
 
-HasCause-IsFound : (text : List ℕ) (c : LineCause) (k : ℕ) → IsFound c None (statement_lines text) k → HasCause text (refusal_at (cause_of_line c) k)
+HasCause-IsFound : (text : List ℕ) (c : LineCause) (k : ℕ) → IsFound c None (statement_lines text) k → HasCardCause text (refusal_at (cause_of_line c) k)
 HasCause-IsFound text c k f =
-    subst (λ n. HasCause text (refusal_at (cause_of_line c) n)) f.number (AtLine c f.before f.line f.after f.split (IsWrong-from_test c f.before f.line f.wrong))
+    subst (λ n. HasCardCause text (refusal_at (cause_of_line c) n)) f.number (AtLine c f.before f.line f.after f.split (IsWrong-from_test c f.before f.line f.wrong))
 
 same_cause : (c d : LineCause) → number_of c ≡ number_of d → c ≡ d
 same_cause BadByte BadByte e = refl
@@ -444,7 +445,7 @@ follows : (r s : Refusal) → r.line ≤ s.line → r.word ≤ s.word → (r.lin
 follows r s h g = elim (cases_lt r.line s.line) [ inl lt ↦ inl lt | inr le ↦ inr (omega arith, g) ]
 
 too_long_first : (text : List ℕ) → 2 ^ 20 < length text → RefusedCards text (refusal_at causes'.TooLong 0)
-too_long_first text h = answered_by (HasCause text) (refusal_at causes'.TooLong 0) (TooLong h) (λ s g. least s (HasCause-cases text s g)) (λ s g e. follows (refusal_at causes'.TooLong 0) s (omega arith) (omega arith))
+too_long_first text h = answered_by (HasCardCause text) (refusal_at causes'.TooLong 0) (TooLong h) (λ s g. least s (HasCause-cases text s g)) (λ s g e. follows (refusal_at causes'.TooLong 0) s (omega arith) (omega arith))
   where
     least : (s : Refusal) → HoldsAs text s → 1 ≤ s.number
     least s (inl g) = omega (arith, ap (λ (x : Refusal). x.number) g.1)
@@ -468,7 +469,7 @@ module _ (text : List ℕ) (short : length text ≤ 2 ^ 20) (r : Refusal) (f : I
 
   first_answered : RefusedCards text (refusal_at (cause_of_line f.cause) f.line)
   first_answered =
-      answered_by (HasCause text) (refusal_at (cause_of_line f.cause) f.line)
+      answered_by (HasCardCause text) (refusal_at (cause_of_line f.cause) f.line)
       (HasCause-IsFound text f.cause f.line (first_wrong-Some f.cause None (statement_lines text) f.line f.found))
       (λ s g. least_number s (HasCause-cases text s g))
       (λ s g e. follows (refusal_at (cause_of_line f.cause) f.line) s (first_number s (HasCause-cases text s g) e) (let w = no_word f.cause in omega (arith, w)))
@@ -491,12 +492,12 @@ none_holds : (text : List ℕ) → length text ≤ 2 ^ 20 → ((c : LineCause) �
 none_holds text short none s (inl g) = omega (arith, g.0, short)
 none_holds text short none s (inr g) = first_wrong-None g.0 None (statement_lines text) g.1 (none g.0) g.2
 
-refusal_of-None_by : (b : Bool) (text : List ℕ) → nat_lt (2 ^ 20) (length text) ≡ b → cond b (Some (refusal_at causes'.TooLong 0)) (first_cause causes (statement_lines text)) ≡ None → (s : Refusal) → HasCause text s → ⊥
+refusal_of-None_by : (b : Bool) (text : List ℕ) → nat_lt (2 ^ 20) (length text) ≡ b → cond b (Some (refusal_at causes'.TooLong 0)) (first_cause causes (statement_lines text)) ≡ None → (s : Refusal) → HasCardCause text s → ⊥
 refusal_of-None_by true text long e s h = cc
 refusal_of-None_by false text short e s h =
     none_holds text (ltb-false (2 ^ 20) (length text) short)
     (first_of-None (λ c. first_wrong c None (statement_lines text)) (sym (first_cause_is causes (statement_lines text)) ∙ e)) s (HasCause-cases text s h)
 
-pub refusal_of-None : (text : List ℕ) → refusal_of text ≡ None → (s : Refusal) → HasCause text s → ⊥
+pub refusal_of-None : (text : List ℕ) → refusal_of text ≡ None → (s : Refusal) → HasCardCause text s → ⊥
 unfolding refusal_of
 refusal_of-None text e s h = refusal_of-None_by (nat_lt (2 ^ 20) (length text)) text refl e s h

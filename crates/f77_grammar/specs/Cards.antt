@@ -11,12 +11,10 @@ use Rattle.tree.specs.Limits.{source_bytes, continuation_lines}
 use Rattle.tree.specs.declared.refusals.Cause.{Cause}
 use Rattle.tree.specs.declared.refusals.Cause.TheVariants as causes
 use Rattle.tree.specs.declared.refusals.Refusal.{Refusal}
-use Rattle.f77_grammar.specs.Answered.{IsAnswered}
+use Rattle.reading.specs.Characters.{is_blank}
+use Rattle.reading.specs.refusal_order.Answered.{IsAnswered}
 
 -- ---- lines
-
-abbrev pub is_blank : ℕ → Bool
-is_blank c = c == 32
 
 -- columns 1 to 72 of a line: a short line is padded with blanks, and what stands from column 73 on is dropped
 unfoldable pub columns_of : List ℕ → List ℕ
@@ -46,14 +44,14 @@ is_initial line = is_blank (slice_index line.columns 5) || (slice_index line.col
 abbrev pub is_continuation : Line → Bool
 is_continuation line = not (is_initial line)
 
-abbrev pub numbered : ℕ → List (List ℕ) → List Line
-numbered n [] = []
-numbered n (line ∷ more) = record { number = n; columns = columns_of line } ∷ numbered (n + 1) more
+abbrev pub numbered_lines : ℕ → List (List ℕ) → List Line
+numbered_lines n [] = []
+numbered_lines n (line ∷ more) = record { number = n; columns = columns_of line } ∷ numbered_lines (n + 1) more
 
 -- The lines of a text that are no comment lines, where its first line has the number n. A line is ended by LF or by the
 -- end of the bytes, and a CR just before an LF is dropped; std's `lines` says so.
 unfoldable pub statement_lines_from : ℕ → List ℕ → List Line
-statement_lines_from n text = filter (λ line. not (is_comment line.columns)) (numbered n (lines text))
+statement_lines_from n text = filter (λ line. not (is_comment line.columns)) (numbered_lines n (lines text))
 
 abbrev pub statement_lines : List ℕ → List Line
 statement_lines text = statement_lines_from 1 text
@@ -83,15 +81,15 @@ number_in [] = None
 number_in (d ∷ digits) = Some (digits_value 10 (d ∷ digits))
 
 -- a label is the digits of its field, wherever they stand in it
-unfoldable pub label_in : List ℕ → Option ℕ
-label_in field = number_in (filter is_ascii_digit field)
+unfoldable pub label_in_field : List ℕ → Option ℕ
+label_in_field field = number_in (filter is_ascii_digit field)
 
 -- its label is that of its initial line, its line the number of that, and its characters are the statement fields of
 -- its lines
 unfoldable pub card_in : StatementLines → PlainCard
 card_in s =
     record {
-      label = label_in (label_field s.initial);
+      label = label_in_field (label_field s.initial);
       line = s.initial.number;
       chars = flat_map statement_field (all_lines s);
     }
@@ -107,8 +105,8 @@ pub record AreCards (text : List ℕ) (cards : List PlainCard) : Type 0 where
 -- ---- refusals
 
 -- a byte outside 32 to 126, other than a tab
-unfoldable pub is_bad_byte : ℕ → Bool
-is_bad_byte b = not (b == 9) && (nat_lt b 32 || nat_lt 126 b)
+unfoldable pub is_bad_byte77 : ℕ → Bool
+is_bad_byte77 b = not (b == 9) && (nat_lt b 32 || nat_lt 126 b)
 
 abbrev pub is_tab : ℕ → Bool
 is_tab b = b == 9
@@ -128,7 +126,7 @@ cause_of_line ManyLines = causes.ManyLines
 
 -- What is wrong with a line, where `before` are the lines before it that are no comment lines.
 pub data IsWrong (before : List Line) (line : Line) : LineCause → Type 0 where
-  HoldsBadByte : IsTrue (list_any is_bad_byte line.columns) → IsWrong before line BadByte
+  HoldsBadByte : IsTrue (list_any is_bad_byte77 line.columns) → IsWrong before line BadByte
   HoldsTab : IsTrue (list_any is_tab line.columns) → IsWrong before line Tab
   -- a continuation line that no initial line comes before
   HasNoInitialLine : IsTrue (is_continuation line) → IsTrue (list_all is_continuation before)
@@ -149,16 +147,16 @@ pub data IsWrong (before : List Line) (line : Line) : LineCause → Type 0 where
       → IsWrong before line ManyLines
 
 -- A cause that holds, with its line: the source is too long, or something is wrong with a line.
-pub data HasCause (text : List ℕ) : Refusal → Type 0 where
-  TooLong : source_bytes < length text → HasCause text (refusal_at causes.TooLong 0)
+pub data HasCardCause (text : List ℕ) : Refusal → Type 0 where
+  TooLong : source_bytes < length text → HasCardCause text (refusal_at causes.TooLong 0)
   AtLine : (cause : LineCause) (before : List Line) (line : Line) (after : List Line)
       → statement_lines text ≡ before ++ line ∷ after
-      → IsWrong before line cause → HasCause text (refusal_at (cause_of_line cause) line.number)
+      → IsWrong before line cause → HasCardCause text (refusal_at (cause_of_line cause) line.number)
 
 abbrev pub RefusedCards : List ℕ → Refusal → Type 0
-RefusedCards text = IsAnswered (HasCause text)
+RefusedCards text = IsAnswered (HasCardCause text)
 
 -- The source is read as these cards: they are its statements, and no cause of a refusal holds.
 pub record ReadsCards (text : List ℕ) (cards : List PlainCard) : Type 0 where
   pub are_cards : AreCards text cards
-  pub unrefused : (r : Refusal) → HasCause text r → ⊥
+  pub unrefused : (r : Refusal) → HasCardCause text r → ⊥

@@ -1,4 +1,3 @@
-pub mod Answered
 pub mod Cards
 pub mod Reading77
 pub mod Statement77

@@ -4,7 +4,7 @@ use Rattle.std.specs.List.{Contains}
 use Rattle.tree.specs.declared.refusals.Refusal.{Refusal}
 use Rattle.tree.specs.Plain.{Program}
 use Rattle.meaning.specs.Dialect.{Dialect}
-use Rattle.f77_grammar.specs.Answered.{IsAnswered}
+use Rattle.reading.specs.refusal_order.Answered.{IsAnswered}
 use Rattle.f77_grammar.specs.Cards.{PlainCard, ReadsCards, RefusedCards}
 use Rattle.f77_grammar.specs.Statement77.{Labelled}
 use Rattle.f77_grammar.specs.statements.Reading.{ReadsStatement, IsRefusedBy}
@@ -37,14 +37,14 @@ pub record ReadsProgram (d : Dialect) (cards : List PlainCard) (p : Program) : T
 
 -- A cause that holds: the characters of a card are no statement, or the cards are statements in which something is
 -- found.
-pub data HasCause (d : Dialect) (cards : List PlainCard) : Refusal → Type 0 where
+pub data HasCause77 (d : Dialect) (cards : List PlainCard) : Refusal → Type 0 where
   AtCard : (card : PlainCard) (number word : ℕ) → Contains cards card → IsRefusedBy card.chars number word
-      → HasCause d cards (record { number = number; line = card.line; word = word })
+      → HasCause77 d cards (record { number = number; line = card.line; word = word })
   InText : (text : List Labelled) (r : Refusal) → AreReadFrom cards text
-      → Contains (findings d (with_loop_labels text)) r → HasCause d cards r
+      → Contains (findings d (with_loop_labels text)) r → HasCause77 d cards r
 
 abbrev pub RefusedProgram : Dialect → List PlainCard → Refusal → Type 0
-RefusedProgram d cards = IsAnswered (HasCause d cards)
+RefusedProgram d cards = IsAnswered (HasCause77 d cards)
 
 -- ---- a source
 

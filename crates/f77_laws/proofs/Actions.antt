@@ -14,10 +14,10 @@ use Rattle.f77_grammar.specs.expressions.Printing.{IsSource}
 use Rattle.meaning.specs.Names.{is_among}
 use Rattle.meaning.specs.Depths.{depth_of, depth_of_item, depth_of_items}
 use Rattle.meaning.specs.Typed77.{number_of_subscripts, dimensions, declared, has_item, HasKind, IsWhole, IsDoVariable, IsOutput, IsInput, IsOutputItem, AreOutputItems, IsInputItem, AreInputItems}
-use Rattle.f77_grammar.specs.program.Uses.{Target, Valued, Use, use_of, uses_in, uses_in_subscripts, uses_in_item, uses_in_items, input_uses, control_uses, uses_of, stands, is_typed, is_bounded, is_bare, is_constant, is_variable, is_array, kind_of_name}
+use Rattle.f77_grammar.specs.program.Uses.{Target, Valued, Use77, use77_of, uses77_in, uses77_in_subscripts, uses_in_item, uses_in_items, input_uses, control_uses, uses77_of, stands, is_typed, is_bounded, is_bare_role, is_constant_name, is_variable, is_array_name, kind_of_name}
 use Rattle.f77_grammar.specs.program.Declarations.{suits_list}
 use Rattle.f77_grammar.specs.program.Kinds.{same_kind, has_kind, has_some_kind, are_subscripts, is_stored_into, suits_output, suits_input, are_numbers, suits_item, suits_items, suits}
-use Rattle.f77_grammar.specs.program.DoVariables.{sets_one_of, reads_one_of, is_integer_scalar, is_wrong_variable, misuses_in_item, misuses_in_items, misuses_variable}
+use Rattle.f77_grammar.specs.program.DoVariables.{sets_one_of, reads_one_of, is_integer_variable, is_wrong_variable, misuses_in_item, misuses_in_items, misuses_variable}
 use Rattle.meaning.specs.Profile77.{Surroundings, IsLine, IsAssignment, IsBlock}
 use Rattle.f77_grammar.specs.program.Tree.{literal, value_or_name, resolved, resolved_subscripts, resolved_input, resolved_value, resolved_item, resolved_items, simple, target}
 use Rattle.f77_laws.specs.Source.{IsShallow, IsSourceVariable, IsSourceItem, AreSourceItems, IsSourceAction}
@@ -35,41 +35,41 @@ shown : {A : Type 0} (P : A → Type 0) (o : Option A) → IsSomeAnd o P → IsS
 shown P None h = h
 shown P (Some d) h = tt
 
-module _ (us : List Use) (s : Store) (ds : List Declaration) (knows : Knows us s ds) where
+module _ (us : List Use77) (s : Store) (ds : List Declaration) (knows : Knows us s ds) where
   -- `vs` are DO variables of the loops round a place in the tree, `around` of those round it in the text
   pub record IsWithin (vs around : List (List ℕ)) : Type 0 where
     pub inside : (x : List ℕ) → Contains vs x → Contains around x
-    pub scalars : AllByRecursion (λ x. is_array us x ≡ false) around
+    pub scalars : AllByRecursion (λ x. is_array_name us x ≡ false) around
 
   pub record IsScalar (x : List ℕ) : Type 0 where
     pub variable : is_variable us x ≡ true
-    pub no_array : is_array us x ≡ false
-    pub no_constant : is_constant us x ≡ false
+    pub no_array : is_array_name us x ≡ false
+    pub no_constant : is_constant_name us x ≡ false
     pub integer : kind_of_name us x ≡ Integer
 
-  pub integer_scalar : (x : List ℕ) → is_integer_scalar us x ≡ true → IsScalar x
+  pub integer_scalar : (x : List ℕ) → is_integer_variable us x ≡ true → IsScalar x
   integer_scalar x h =
-      let front = left_true (is_variable us x && not (is_array us x)) (same_kind (kind_of_name us x) Integer) h in
-      let v = left_true (is_variable us x) (not (is_array us x)) front in
+      let front = left_true (is_variable us x && not (is_array_name us x)) (same_kind (kind_of_name us x) Integer) h in
+      let v = left_true (is_variable us x) (not (is_array_name us x)) front in
       record {
         variable = v;
-        no_array = negated (is_array us x) (right_true (is_variable us x) (not (is_array us x)) front);
-        no_constant = negated (is_constant us x) (right_true (stands is_typed us x || stands is_bounded us x || stands is_bare us x) (not (is_constant us x)) v);
-        integer = kinds_same (kind_of_name us x) Integer (right_true (is_variable us x && not (is_array us x)) (same_kind (kind_of_name us x) Integer) h);
+        no_array = negated (is_array_name us x) (right_true (is_variable us x) (not (is_array_name us x)) front);
+        no_constant = negated (is_constant_name us x) (right_true (stands is_typed us x || stands is_bounded us x || stands is_bare_role us x) (not (is_constant_name us x)) v);
+        integer = kinds_same (kind_of_name us x) Integer (right_true (is_variable us x && not (is_array_name us x)) (same_kind (kind_of_name us x) Integer) h);
       }
 
   pub scalar_of : (x : List ℕ) (around : List (List ℕ)) → is_wrong_variable us x around ≡ false → IsScalar x
-  scalar_of x around h = integer_scalar x (affirmed (is_integer_scalar us x) (left_false (not (is_integer_scalar us x)) (is_among around x) h))
+  scalar_of x around h = integer_scalar x (affirmed (is_integer_variable us x) (left_false (not (is_integer_variable us x)) (is_among around x) h))
 
   pub do_variable : (x : List ℕ) (vs around : List (List ℕ)) → IsWithin vs around → is_wrong_variable us x around ≡ false → IsDoVariable ds x vs
   do_variable x vs around w h =
       let k = scalar_of x around h in
       record {
         integer = subst (λ (j : Kind). HasKind ds (Named x no_subscripts) j) k.integer (scalar_kind us s ds knows x k.variable k.no_array k.no_constant);
-        free = λ c. not_among around x (right_false (not (is_integer_scalar us x)) (is_among around x) h) (w.inside x c);
+        free = λ c. not_among around x (right_false (not (is_integer_variable us x)) (is_among around x) h) (w.inside x c);
       }
 
-  pub within_more : (x : List ℕ) (vs around : List (List ℕ)) → IsWithin vs around → is_array us x ≡ false → IsWithin (x ∷ vs) (x ∷ around)
+  pub within_more : (x : List ℕ) (vs around : List (List ℕ)) → IsWithin vs around → is_array_name us x ≡ false → IsWithin (x ∷ vs) (x ∷ around)
   within_more x vs around w h = record { inside = λ y c. by y (cases_of x vs y c); scalars = (h, w.scalars) }
     where
       by : (y : List ℕ) → (x ≡ y) ⊎ Contains vs y → Contains (x ∷ around) y
@@ -92,23 +92,23 @@ module _ (us : List Use) (s : Store) (ds : List Declaration) (knows : Knows us s
   some_kind e Integer h = inl h
   some_kind e Logical h = inr h
 
-  some_output : (e : Expression) → IsSource e → AreGood us (uses_in e) → has_some_kind us e ≡ true → IsOutput ds (resolved us s e)
+  some_output : (e : Expression) → IsSource e → AreGood us (uses77_in e) → has_some_kind us e ≡ true → IsOutput ds (resolved us s e)
   some_output e h u g = output_of (resolved us s e) (by (or_cases (has_kind us e Integer) (has_kind us e Logical) g))
     where
       by : (has_kind us e Integer ≡ true) ⊎ (has_kind us e Logical ≡ true) → HasKind ds (resolved us s e) Integer ⊎ HasKind ds (resolved us s e) Logical
       by (inl f) = inl (kinds us s ds knows e Integer h u f)
       by (inr f) = inr (kinds us s ds knows e Logical h u f)
 
-  whole_output : (x : List ℕ) (b : Bool) → is_constant us x ≡ b → Contains us (use_of x (Valued 0)) → IsOutput ds (value_or_name b x s)
+  whole_output : (x : List ℕ) (b : Bool) → is_constant_name us x ≡ b → Contains us (use77_of x (Valued 0)) → IsOutput ds (value_or_name b x s)
   whole_output x true c h =
       let v = s.held (record { name = x; subscripts = [] }) in
       output_of (literal v) (some_kind (literal v) (kind_of_name us x) (literal_kind ds v (kind_of_name us x) (knows.constant x c).kind (knows.constant x c).range))
-  whole_output x false c h = declared_variable us s ds knows x (bare_variable us x (stands_so us is_bare x (Valued 0) h refl) c)
+  whole_output x false c h = declared_variable us s ds knows x (bare_variable us x (stands_so us is_bare_role x (Valued 0) h refl) c)
 
-  output_expression : (e : Expression) → IsSource e → AreGood us (uses_in e) → suits_output us e ≡ true → IsOutput ds (resolved us s e)
+  output_expression : (e : Expression) → IsSource e → AreGood us (uses77_in e) → suits_output us e ≡ true → IsOutput ds (resolved us s e)
   output_expression (Number n) h u g = some_output (Number n) h u g
   output_expression (Logic b) h u g = some_output (Logic b) h u g
-  output_expression (Named x no_subscripts) h u g = whole_output x (is_constant us x) refl u.0.among
+  output_expression (Named x no_subscripts) h u g = whole_output x (is_constant_name us x) refl u.0.among
   output_expression (Named x (subscript p ps)) h u g = some_output (Named x (subscript p ps)) h u g
   output_expression (Unary o a) h u g = some_output (Unary o a) h u g
   output_expression (Binary o a b) h u g = some_output (Binary o a b) h u g
@@ -126,11 +126,11 @@ module _ (us : List Use) (s : Store) (ds : List Declaration) (knows : Knows us s
   parameters : (x : List ℕ) (a b c : Expression) → IsSource a → IsSource b → IsSource c → AreGood us (control_uses x a b c) → are_numbers us a b c ≡ true → AreParameters a b c
   parameters x a b c h k l u g =
       let front = left_true (has_kind us a Integer && has_kind us b Integer) (has_kind us c Integer) g in
-      let uses = all_left (IsGood us) (uses_in a ++ uses_in b) (uses_in c) u.1 in
+      let uses = all_left (IsGood us) (uses77_in a ++ uses77_in b) (uses77_in c) u.1 in
       record {
-        first = kinds us s ds knows a Integer h (all_left (IsGood us) (uses_in a) (uses_in b) uses) (left_true (has_kind us a Integer) (has_kind us b Integer) front);
-        last = kinds us s ds knows b Integer k (all_right (IsGood us) (uses_in a) (uses_in b) uses) (right_true (has_kind us a Integer) (has_kind us b Integer) front);
-        step = kinds us s ds knows c Integer l (all_right (IsGood us) (uses_in a ++ uses_in b) (uses_in c) u.1) (right_true (has_kind us a Integer && has_kind us b Integer) (has_kind us c Integer) g);
+        first = kinds us s ds knows a Integer h (all_left (IsGood us) (uses77_in a) (uses77_in b) uses) (left_true (has_kind us a Integer) (has_kind us b Integer) front);
+        last = kinds us s ds knows b Integer k (all_right (IsGood us) (uses77_in a) (uses77_in b) uses) (right_true (has_kind us a Integer) (has_kind us b Integer) front);
+        step = kinds us s ds knows c Integer l (all_right (IsGood us) (uses77_in a ++ uses77_in b) (uses77_in c) u.1) (right_true (has_kind us a Integer && has_kind us b Integer) (has_kind us c Integer) g);
       }
 
   mutual
@@ -161,26 +161,26 @@ module _ (us : List Use) (s : Store) (ds : List Declaration) (knows : Knows us s
   -- ---- input lists
 
   -- a name without a list, that is assigned or read into, is a variable
-  target_variable : (x : List ℕ) → IsGood us (use_of x (Target 0)) → is_variable us x ≡ true
-  target_variable x u = bare_variable us x (stands_so us is_bare x (Target 0) u.among refl) (right_false (not (suits_list us x 0)) (is_constant us x) u.suits)
+  target_variable : (x : List ℕ) → IsGood us (use77_of x (Target 0)) → is_variable us x ≡ true
+  target_variable x u = bare_variable us x (stands_so us is_bare_role x (Target 0) u.among refl) (right_false (not (suits_list us x 0)) (is_constant_name us x) u.suits)
 
-  target_element : (x : List ℕ) (p : Subscript) (ps : Subscripts) → IsSource (Named x (subscript p ps)) → IsGood us (use_of x (Target (1 + number_of_subscripts ps))) → AreGood us (uses_in_subscripts (subscript p ps)) → is_array us x ≡ true → are_subscripts us (subscript p ps) ≡ true
+  target_element : (x : List ℕ) (p : Subscript) (ps : Subscripts) → IsSource (Named x (subscript p ps)) → IsGood us (use77_of x (Target (1 + number_of_subscripts ps))) → AreGood us (uses77_in_subscripts (subscript p ps)) → is_array_name us x ≡ true → are_subscripts us (subscript p ps) ≡ true
       → HasKind ds (Named x (resolved_subscripts us s (subscript p ps))) (kind_of_name us x)
   target_element x p ps h u v a g =
-      let u' = subst (λ (n : ℕ). IsGood us (use_of x (Target n))) (one-add (number_of_subscripts ps)) u in
+      let u' = subst (λ (n : ℕ). IsGood us (use77_of x (Target n))) (one-add (number_of_subscripts ps)) u in
       element_kind us s ds knows x (number_of_subscripts ps) (resolved_subscripts us s (subscript p ps)) a
-      (affirmed (suits_list us x (suc (number_of_subscripts ps))) (left_false (not (suits_list us x (suc (number_of_subscripts ps)))) (is_constant us x) u'.suits))
+      (affirmed (suits_list us x (suc (number_of_subscripts ps))) (left_false (not (suits_list us x (suc (number_of_subscripts ps)))) (is_constant_name us x) u'.suits))
       (as_many us s ds knows (subscript p ps) ∙ one-add (number_of_subscripts ps))
       (subscript_kinds us s ds knows (subscript p ps) h.1 v g)
 
-  no_do_variable : (x : List ℕ) (vs around : List (List ℕ)) → IsWithin vs around → is_array us x ≡ true → Contains vs x → ⊥
-  no_do_variable x vs around w a c = not_both (is_array us x) a (all_at (λ y. is_array us y ≡ false) around x w.scalars (w.inside x c))
+  no_do_variable : (x : List ℕ) (vs around : List (List ℕ)) → IsWithin vs around → is_array_name us x ≡ true → Contains vs x → ⊥
+  no_do_variable x vs around w a c = not_both (is_array_name us x) a (all_at (λ y. is_array_name us y ≡ false) around x w.scalars (w.inside x c))
 
   input_expression : (e : Expression) (vs around : List (List ℕ)) → IsWithin vs around → IsSourceVariable e → AreGood us (input_uses e) → suits_input us e ≡ true → reads_one_of around e ≡ false → IsInput ds (resolved_input us s e) vs
   input_expression (Named x no_subscripts) vs around w h u g m = (declared_variable us s ds knows x (target_variable x u.0), λ c. not_among around x m (w.inside x c))
   input_expression (Named x (subscript p ps)) vs around w h u g m =
-      let a = left_true (is_array us x) (are_subscripts us (subscript p ps)) g in (
-        some_kind (Named x (resolved_subscripts us s (subscript p ps))) (kind_of_name us x) (target_element x p ps h u.0 u.1 a (right_true (is_array us x) (are_subscripts us (subscript p ps)) g)),
+      let a = left_true (is_array_name us x) (are_subscripts us (subscript p ps)) g in (
+        some_kind (Named x (resolved_subscripts us s (subscript p ps))) (kind_of_name us x) (target_element x p ps h u.0 u.1 a (right_true (is_array_name us x) (are_subscripts us (subscript p ps)) g)),
         no_do_variable x vs around w a,
       )
   input_expression e vs around w h u g m = absurd h
@@ -237,7 +237,7 @@ module _ (us : List Use) (s : Store) (ds : List Declaration) (knows : Knows us s
 
   -- ---- statements
 
-  pub whole : (e : Expression) (k : Kind) → IsShallow e → AreGood us (uses_in e) → has_kind us e k ≡ true → IsWhole ds (resolved us s e) k
+  pub whole : (e : Expression) (k : Kind) → IsShallow e → AreGood us (uses77_in e) → has_kind us e k ≡ true → IsWhole ds (resolved us s e) k
   whole e k h u g = record { suits = kinds us s ds knows e k h.0 u g; depth = (let a = depths us s ds knows e in let b = h.1 in omega (arith, a, b)) }
 
   pub record AreWholeParameters (a b c : Expression) : Type 0 where
@@ -266,15 +266,15 @@ module _ (us : List Use) (s : Store) (ds : List Declaration) (knows : Knows us s
   left_depth x ps h = let d = subscript_depths us s ds knows ps in omega (arith, d, h)
 
   assignment : (x : List ℕ) (ps : Subscripts) (e : Expression) (w : Surroundings) (around : List (List ℕ)) → IsWithin w.variables around → IsShallow (Named x ps) → IsShallow e
-      → AreGood us (use_of x (Target (number_of_subscripts ps)) ∷ uses_in_subscripts ps ++ uses_in e)
+      → AreGood us (use77_of x (Target (number_of_subscripts ps)) ∷ uses77_in_subscripts ps ++ uses77_in e)
       → (is_stored_into us x (number_of_subscripts ps) && are_subscripts us ps && has_kind us e (kind_of_name us x)) ≡ true → sets_one_of around x ps ≡ false
       → IsAssignment ds (record { name = x; subscripts = resolved_subscripts us s ps }) (resolved us s e) w
   assignment x no_subscripts e w around v h k u g m =
-      let a = negated (is_array us x) (left_true (not (is_array us x)) true (left_true (not (is_array us x) && true) (has_kind us e (kind_of_name us x)) g)) in
+      let a = negated (is_array_name us x) (left_true (not (is_array_name us x)) true (left_true (not (is_array_name us x) && true) (has_kind us e (kind_of_name us x)) g)) in
       let x' = target_variable x u.0 in (
         stored x no_subscripts (resolved us s e) x'
-            (record { suits = scalar_kind us s ds knows x x' a (right_false (not (suits_list us x 0)) (is_constant us x) u.0.suits); depth = omega arith })
-            (whole e (kind_of_name us x) k u.1 (right_true (not (is_array us x) && true) (has_kind us e (kind_of_name us x)) g)),
+            (record { suits = scalar_kind us s ds knows x x' a (right_false (not (suits_list us x 0)) (is_constant_name us x) u.0.suits); depth = omega arith })
+            (whole e (kind_of_name us x) k u.1 (right_true (not (is_array_name us x) && true) (has_kind us e (kind_of_name us x)) g)),
         λ c. not_among around x m (v.inside x c),
       )
   assignment x (subscript p ps) e w around v h k u g m =
@@ -282,15 +282,15 @@ module _ (us : List Use) (s : Store) (ds : List Declaration) (knows : Knows us s
       let a = sym (ap (is_stored_into us x) (one-add (number_of_subscripts ps))) ∙ left_true (is_stored_into us x (1 + number_of_subscripts ps)) (are_subscripts us (subscript p ps)) front in (
         stored x (resolved_subscripts us s (subscript p ps)) (resolved us s e) (array_variable us x a)
             (record {
-              suits = target_element x p ps h.0 u.0 (all_left (IsGood us) (uses_in_subscripts (subscript p ps)) (uses_in e) u.1) a (right_true (is_stored_into us x (1 + number_of_subscripts ps)) (are_subscripts us (subscript p ps)) front);
+              suits = target_element x p ps h.0 u.0 (all_left (IsGood us) (uses77_in_subscripts (subscript p ps)) (uses77_in e) u.1) a (right_true (is_stored_into us x (1 + number_of_subscripts ps)) (are_subscripts us (subscript p ps)) front);
               depth = left_depth x (subscript p ps) h.1;
             })
-            (whole e (kind_of_name us x) k (all_right (IsGood us) (uses_in_subscripts (subscript p ps)) (uses_in e) u.1) (right_true (is_stored_into us x (1 + number_of_subscripts ps) && are_subscripts us (subscript p ps)) (has_kind us e (kind_of_name us x)) g)),
+            (whole e (kind_of_name us x) k (all_right (IsGood us) (uses77_in_subscripts (subscript p ps)) (uses77_in e) u.1) (right_true (is_stored_into us x (1 + number_of_subscripts ps) && are_subscripts us (subscript p ps)) (has_kind us e (kind_of_name us x)) g)),
         no_do_variable x w.variables around v a,
       )
 
   -- a statement that stands alone or in a logical IF
-  pub action_holds : (line : ℕ) (c : Statement77) (w : Surroundings) (around : List (List ℕ)) → IsWithin w.variables around → IsLine line → IsSourceAction c → AreGood us (uses_of c)
+  pub action_holds : (line : ℕ) (c : Statement77) (w : Surroundings) (around : List (List ℕ)) → IsWithin w.variables around → IsLine line → IsSourceAction c → AreGood us (uses77_of c)
       → suits us c ≡ true → misuses_variable us c around ≡ false → AllByRecursion (Contains w.ahead) (target c) → IsBlock ds (block (simple us s line c)) w
   action_holds line (Assign left e) w around v l h u g m a = ((l, refl, assignment left.name left.subscripts e w around v h.0 h.1 u g m), tt)
   action_holds line (Go n) w around v l h u g m a = ((l, a.0), tt)

@@ -6,12 +6,12 @@ use Rattle.std.proofs.lemmas.List.Elements.{Contains-append_left, Contains-appen
 use Rattle.tree.specs.Plain as tree
 use Rattle.meaning.specs.Store.{Store}
 use Rattle.f77_grammar.specs.Statement77.{Labelled, Statement77, If, ElseIf, Else, EndIf, Do}
-use Rattle.f77_grammar.specs.program.Text.{Place, places_from, is_label, bears, stands_in, ends_in, loop_ends_in, left_over, without_ended}
+use Rattle.f77_grammar.specs.program.Text.{Place77, places_from, is_label, bears, label_stands_in, ends_in, loop_ends_in, left_over, without_ended}
 use Rattle.f77_grammar.specs.program.Nesting.{nests_wrongly, ends_loops_wrongly, is_left_open, is_closed_wrongly}
 use Rattle.f77_grammar.specs.program.Jumps.{place_of_label, opens_arm, enters_block, is_no_target, leads_wrongly}
-use Rattle.f77_grammar.specs.program.Uses.{Use}
+use Rattle.f77_grammar.specs.program.Uses.{Use77}
 use Rattle.meaning.specs.Profile77.{labels_of}
-use Rattle.f77_grammar.specs.program.Tree.{mark_of, resolved, simple}
+use Rattle.f77_grammar.specs.program.Tree.{label_before, resolved, simple}
 use Rattle.f77_laws.specs.trees.Steps.{Piece, Rest, Outermost, InArm, block_of, up_to, beyond, preceded, loop_begun, begun, rest_from}
 use Rattle.f77_laws.proofs.Lists.{left_false, right_false, both_false, affirmed, here, not_both}
 use Rattle.f77_laws.proofs.Sound.{IsRight}
@@ -103,7 +103,7 @@ labels_appended [] ds = refl
 labels_appended (tree.Label n ∷ cs) ds = ap (λ ns. n ∷ ns) (labels_appended cs ds)
 labels_appended (c ∷ cs) ds = labels_appended cs ds
 
-module _ (us : List Use) (s : Store) (named : List ℕ) where
+module _ (us : List Use77) (s : Store) (named : List ℕ) where
   -- ---- the way back from a label, over one statement
 
   no_level : (d : ℕ) (ps : List Piece) (b : Piece) (bs : List Piece) → IsBehind (b ∷ bs) (level (suc d) (Outermost ps)) → ⊥
@@ -147,7 +147,7 @@ module _ (us : List Use) (s : Store) (named : List ℕ) where
   opened_here y c ys e a h = or_true (opens_arm y.statement) (opens ys) (ap opens_arm e ∙ a) h
 
   passes : (c : Statement77) (y : Labelled) (W pre : List Labelled) (d : ℕ) (r : Rest) (b : Piece) (bs : List Piece) → y.statement ≡ c
-      → opens (left_over c y (without_ended pre) d) ≡ false → ends_in W c ≡ false → ((m : ℕ) → stands_in W m ≡ false → ends_loop m (b ∷ bs) ≡ false) → DoEnds c r
+      → opens (left_over c y (without_ended pre) d) ≡ false → ends_in W c ≡ false → ((m : ℕ) → label_stands_in W m ≡ false → ends_loop m (b ∷ bs) ≡ false) → DoEnds c r
       → IsBehind (b ∷ bs) (level d r) → IsBehind (b ∷ bs) (level (outwards c d) (begun us s named y c r))
   passes EndIf y W pre d r b bs e o l n t h = h
   passes (If c) y W pre zero r b bs e o l n t h = absurd (opened_here y (If c) (without_ended pre 0) e refl o)
@@ -157,7 +157,7 @@ module _ (us : List Use) (s : Store) (named : List ℕ) where
   passes (ElseIf c) y W pre zero r b bs e o l n t h = absurd (opened_here y (ElseIf c) (without_ended pre 0) e refl o)
   passes (ElseIf c) y W pre (suc d) r b bs e o l n t h = passes_else_if y c d r b bs h
   passes (Do (Some k) v x z c) y W pre d r b bs e o l n t h =
-      loop_level (tree.Do y.line v (resolved us s x) (resolved us s z) (resolved us s c)) (mark_of named y.label) k d r (b ∷ bs) h t (n k l)
+      loop_level (tree.Do y.line v (resolved us s x) (resolved us s z) (resolved us s c)) (label_before named y.label) k d r (b ∷ bs) h t (n k l)
   passes c y W pre d r b bs e o l n t h = preceded_level (record { ends = y.label; made = _ }) d r (b ∷ bs) h
 
   opens_later : (c : Statement77) (y : Labelled) (pre : List Labelled) (d : ℕ) → y.statement ≡ c → opens (left_over c y (without_ended pre) d) ≡ false → opens (without_ended pre (outwards c d)) ≡ false
@@ -195,7 +195,7 @@ module _ (us : List Use) (s : Store) (named : List ℕ) where
     outer : ℕ
     behind : IsBehind bs (level outer r)
 
-  walk : (text before W pre ys : List Labelled) (d : ℕ) (b : Piece) (bs : List Piece) → IsFree text before (unwound pre ys) → ((m : ℕ) → stands_in W m ≡ false → ends_loop m (b ∷ bs) ≡ false)
+  walk : (text before W pre ys : List Labelled) (d : ℕ) (b : Piece) (bs : List Piece) → IsFree text before (unwound pre ys) → ((m : ℕ) → label_stands_in W m ≡ false → ends_loop m (b ∷ bs) ≡ false)
       → opens (without_ended pre d) ≡ false → list_any (loop_ends_in W) pre ≡ false → IsBehind (b ∷ bs) (level d (rest_from us s named ys)) → IsOnWay (b ∷ bs) (rest_from us s named (unwound pre ys))
   walk text before W [] ys d b bs k n o l h = record { outer = d; behind = h }
   walk text before W (y ∷ pre) ys d b bs k n o l h =
@@ -242,30 +242,30 @@ module _ (us : List Use) (s : Store) (named : List ℕ) where
   endless_step (Do (Some n) v a b c) x m (suc d) (InArm ps arms other r) h o k = k (suc d)
   endless_step c x m d r h o k = preceded_none m (record { ends = x.label; made = _ }) d r h k
 
-  do_other : (m : ℕ) (before xs : List Labelled) (x : Labelled) (c : Statement77) → nests_wrongly c (record { before = before; here = x; after = xs }) ≡ false → stands_in xs m ≡ false → DoOther m c
+  do_other : (m : ℕ) (before xs : List Labelled) (x : Labelled) (c : Statement77) → nests_wrongly c (record { before = before; here = x; after = xs }) ≡ false → label_stands_in xs m ≡ false → DoOther m c
   do_other m before xs x (Do (Some k) v a b c) h g = by (k == m) refl
     where
       by : (b : Bool) → (k == m) ≡ b → (k == m) ≡ false
-      by true e = absurd (not_both (stands_in xs m) (sym (ap (stands_in xs) (let t : k ≡ m = grind (arith, nat_tests) in t)) ∙ affirmed (stands_in xs k) h) g)
+      by true e = absurd (not_both (label_stands_in xs m) (sym (ap (label_stands_in xs) (let t : k ≡ m = grind (arith, nat_tests) in t)) ∙ affirmed (label_stands_in xs k) h) g)
       by false e = e
   do_other m before xs x c h g = tt
 
-  endless : (text before xs : List Labelled) (m : ℕ) → AllByRecursion (IsRight text) (places_from before xs) → stands_in xs m ≡ false → AreEndless m (rest_from us s named xs)
+  endless : (text before xs : List Labelled) (m : ℕ) → AllByRecursion (IsRight text) (places_from before xs) → label_stands_in xs m ≡ false → AreEndless m (rest_from us s named xs)
   endless text before [] m r h = nothing
     where
       nothing : (d : ℕ) → ends_loop m (level d (Outermost [])) ≡ false
       nothing zero = refl
       nothing (suc d) = refl
   endless text before (x ∷ xs) m r h = λ d.
-      let p : Place = record { before = before; here = x; after = xs } in
+      let p : Place77 = record { before = before; here = x; after = xs } in
       let closed = right_false (is_left_open p) (is_closed_wrongly p) r.0.nesting in
-      endless_step x.statement x m d (rest_from us s named xs) (left_false (bears m x) (stands_in xs m) h)
-      (do_other m before xs x x.statement (left_false (nests_wrongly x.statement p) (ends_loops_wrongly p x.label) closed) (right_false (bears m x) (stands_in xs m) h))
-      (endless text (x ∷ before) xs m r.1 (right_false (bears m x) (stands_in xs m) h))
+      endless_step x.statement x m d (rest_from us s named xs) (left_false (bears m x) (label_stands_in xs m) h)
+      (do_other m before xs x x.statement (left_false (nests_wrongly x.statement p) (ends_loops_wrongly p x.label) closed) (right_false (bears m x) (label_stands_in xs m) h))
+      (endless text (x ∷ before) xs m r.1 (right_false (bears m x) (label_stands_in xs m) h))
 
   -- ---- the label itself
 
-  marks : (n : ℕ) → list_any (λ m. m == n) named ≡ true → (end : Option ℕ) → end ≡ Some n → (cs : List tree.Statement) → Contains (labels_of (tree.block (mark_of named end ++ cs))) n
+  marks : (n : ℕ) → list_any (λ m. m == n) named ≡ true → (end : Option ℕ) → end ≡ Some n → (cs : List tree.Statement) → Contains (labels_of (tree.block (label_before named end ++ cs))) n
   marks n h None e cs = absurd cc
   marks n h (Some m) e cs = by (list_any (λ k. k == m) named) (ap (λ j. list_any (λ k. k == j) named) same ∙ h)
     where
@@ -291,19 +291,19 @@ module _ (us : List Use) (s : Store) (named : List ℕ) where
   loop_arrives n make mark m (Outermost ps) h = record { first = record { ends = Some m; made = mark ++ make (block_of (up_to m ps)) ∷ [] }; more = beyond m ps; is = refl; has = h (make (block_of (up_to m ps)) ∷ []) }
   loop_arrives n make mark m (InArm ps arms other r) h = record { first = record { ends = Some m; made = mark ++ make (block_of (up_to m ps)) ∷ [] }; more = beyond m ps; is = refl; has = h (make (block_of (up_to m ps)) ∷ []) }
 
-  if_arrives : (n : ℕ) (y : Labelled) (c : tree.Expression) (f : Frames) (r : Rest) → IsShaped (Inner [] false f) r → ((cs : List tree.Statement) → Contains (labels_of (tree.block (mark_of named y.label ++ cs))) n)
+  if_arrives : (n : ℕ) (y : Labelled) (c : tree.Expression) (f : Frames) (r : Rest) → IsShaped (Inner [] false f) r → ((cs : List tree.Statement) → Contains (labels_of (tree.block (label_before named y.label ++ cs))) n)
       → Arrives n (begun us s named y (If c) r)
   if_arrives n y c f (Outermost ps) h m = absurd h
   if_arrives n y c f (InArm ps arms other r) h m = preceded_arrives n (record { ends = None; made = _ }) r (m (tree.If y.line (tree.arm (resolved us s c) (block_of ps) arms) other ∷ []))
 
-  arrives_by : (n : ℕ) (y : Labelled) (c : Statement77) (f g : Frames) (r : Rest) → Moves c y.label f g → IsShaped g r → is_no_target c ≡ false → ((cs : List tree.Statement) → Contains (labels_of (tree.block (mark_of named y.label ++ cs))) n)
+  arrives_by : (n : ℕ) (y : Labelled) (c : Statement77) (f g : Frames) (r : Rest) → Moves c y.label f g → IsShaped g r → is_no_target c ≡ false → ((cs : List tree.Statement) → Contains (labels_of (tree.block (label_before named y.label ++ cs))) n)
       → Arrives n (begun us s named y c r)
   arrives_by n y EndIf f g r m h t k = absurd cc
   arrives_by n y Else f g r m h t k = absurd cc
   arrives_by n y (ElseIf c) f g r m h t k = absurd cc
   arrives_by n y (If c) f g r m h t k = if_arrives n y c f r (subst (λ (e : Frames). IsShaped e r) m h) k
-  arrives_by n y (Do (Some i) v a b c) f g r m h t k = loop_arrives n (tree.Do y.line v (resolved us s a) (resolved us s b) (resolved us s c)) (mark_of named y.label) i r k
-  arrives_by n y c f g r m h t k = preceded_arrives n (record { ends = y.label; made = mark_of named y.label ++ simple us s y.line c }) r (k (simple us s y.line c))
+  arrives_by n y (Do (Some i) v a b c) f g r m h t k = loop_arrives n (tree.Do y.line v (resolved us s a) (resolved us s b) (resolved us s c)) (label_before named y.label) i r k
+  arrives_by n y c f g r m h t k = preceded_arrives n (record { ends = y.label; made = label_before named y.label ++ simple us s y.line c }) r (k (simple us s y.line c))
 
   arrives : (text before ys : List Labelled) (y : Labelled) (n : ℕ) → IsFree text before (y ∷ ys) → bears n y ≡ true → is_no_target y.statement ≡ false → list_any (λ m. m == n) named ≡ true → Arrives n (rest_from us s named (y ∷ ys))
   arrives text before ys y n k e t h =
@@ -327,19 +327,19 @@ module _ (us : List Use) (s : Store) (named : List ℕ) where
 
   -- ---- a GO TO
 
-  record IsFound (n : ℕ) (b xs : List Labelled) (way : Place) : Type 0 where
+  record IsFound (n : ℕ) (b xs : List Labelled) (way : Place77) : Type 0 where
     whole : unwound way.before (way.here ∷ way.after) ≡ unwound b xs
     bears' : bears n way.here ≡ true
 
-  found_way : (n : ℕ) (b xs : List Labelled) (way : Place) → find (λ (p : Place). bears n p.here) (places_from b xs) ≡ Some way → IsFound n b xs way
+  found_way : (n : ℕ) (b xs : List Labelled) (way : Place77) → find (λ (p : Place77). bears n p.here) (places_from b xs) ≡ Some way → IsFound n b xs way
   found_way n b [] way h = absurd cc
   found_way n b (x ∷ xs) way h = by (bears n x) refl (found_way n (x ∷ b) xs way) h
     where
       at : (record { before = b; here = x; after = xs }) ≡ way → bears n x ≡ true → IsFound n b (x ∷ xs) way
-      at e t = subst (λ (w : Place). IsFound n b (x ∷ xs) w) e (record { whole = refl; bears' = t })
+      at e t = subst (λ (w : Place77). IsFound n b (x ∷ xs) w) e (record { whole = refl; bears' = t })
 
-      by : (t : Bool) → bears n x ≡ t → (find (λ (p : Place). bears n p.here) (places_from (x ∷ b) xs) ≡ Some way → IsFound n (x ∷ b) xs way)
-          → cond t (Some (record { before = b; here = x; after = xs })) (find (λ (p : Place). bears n p.here) (places_from (x ∷ b) xs)) ≡ Some way → IsFound n b (x ∷ xs) way
+      by : (t : Bool) → bears n x ≡ t → (find (λ (p : Place77). bears n p.here) (places_from (x ∷ b) xs) ≡ Some way → IsFound n (x ∷ b) xs way)
+          → cond t (Some (record { before = b; here = x; after = xs })) (find (λ (p : Place77). bears n p.here) (places_from (x ∷ b) xs)) ≡ Some way → IsFound n b (x ∷ xs) way
       by true e more h = at (cc) e
       by false e more h = let f = more h in record { whole = f.whole; bears' = f.bears' }
 
@@ -348,7 +348,7 @@ module _ (us : List Use) (s : Store) (named : List ℕ) where
       → leads_wrongly (place_of_label n xs) ≡ false → Contains (ahead_of (rest_from us s named xs)) n
   leads_ahead text before xs n r e k l = by (place_of_label n xs) refl l
     where
-      go : (way : Place) → IsFound n [] xs way → enters_block way ≡ false → is_no_target way.here.statement ≡ false → Contains (ahead_of (rest_from us s named xs)) n
+      go : (way : Place77) → IsFound n [] xs way → enters_block way ≡ false → is_no_target way.here.statement ≡ false → Contains (ahead_of (rest_from us s named xs)) n
       go way f o t =
           let W = way.here ∷ way.after in
           let free : IsFree text before (unwound way.before W) = subst (λ (ys : List Labelled). IsFree text before ys) (sym f.whole) (record { right = r; end = e }) in
@@ -359,6 +359,6 @@ module _ (us : List Use) (s : Store) (named : List ℕ) where
           (record { passed = []; is = a.is }) in
           subst (λ (ys : List Labelled). Contains (ahead_of (rest_from us s named ys)) n) f.whole (in_ahead n w.outer (rest_from us s named (unwound way.before W)) a.first a.more w.behind a.has)
 
-      by : (o : Option Place) → place_of_label n xs ≡ o → leads_wrongly o ≡ false → Contains (ahead_of (rest_from us s named xs)) n
+      by : (o : Option Place77) → place_of_label n xs ≡ o → leads_wrongly o ≡ false → Contains (ahead_of (rest_from us s named xs)) n
       by None g h = absurd cc
       by (Some way) g h = go way (found_way n [] xs way g) (left_false (enters_block way) (is_no_target way.here.statement) h) (right_false (enters_block way) (is_no_target way.here.statement) h)

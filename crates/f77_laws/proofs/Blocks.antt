@@ -8,9 +8,9 @@ use Rattle.meaning.specs.Store.{Store}
 use Rattle.f77_grammar.specs.Statement77.{Labelled, If, ElseIf, Else}
 use Rattle.f77_grammar.specs.program.Text.{is_label}
 use Rattle.meaning.specs.Typed77.{IsWhole, IsDoVariable}
-use Rattle.f77_grammar.specs.program.Uses.{Use}
+use Rattle.f77_grammar.specs.program.Uses.{Use77}
 use Rattle.meaning.specs.Profile77.{labels_of, blocks_in_arms, blocks_in, Surroundings, IsLine, IsLabel, IsStatement, AreArms, IsBlock}
-use Rattle.f77_grammar.specs.program.Tree.{mark_of, resolved}
+use Rattle.f77_grammar.specs.program.Tree.{label_before, resolved}
 use Rattle.f77_laws.specs.trees.Steps.{Piece, Rest, Outermost, InArm, block_of, up_to, beyond, preceded, loop_in, loop_begun, begun}
 use Rattle.f77_laws.proofs.Frames.{Loop, Frames, Base, Inner, pushed, closed, top_closed, names_in, variables, depth, top_kept}
 use Rattle.f77_laws.proofs.Shapes.{label_is}
@@ -129,7 +129,7 @@ module _ (ds : List Declaration) where
 
   -- ---- the mark before a statement
 
-  pub marked_fine : (named : List ℕ) (end : Option ℕ) (cs : List tree.Statement) (w : Surroundings) (k : ℕ) → IsMark named end → IsFine (tree.block cs) w k → IsFine (tree.block (mark_of named end ++ cs)) w k
+  pub marked_fine : (named : List ℕ) (end : Option ℕ) (cs : List tree.Statement) (w : Surroundings) (k : ℕ) → IsMark named end → IsFine (tree.block cs) w k → IsFine (tree.block (label_before named end ++ cs)) w k
   marked_fine named None cs w k m h = h
   marked_fine named (Some n) cs w k m h = by (list_any (λ j. j == n) named) refl
     where
@@ -161,7 +161,7 @@ module _ (ds : List Declaration) where
 
   loop_piece : (line : ℕ) (a b c : Expression) (named : List ℕ) (end : Option ℕ) (l : Loop) (ls : List Loop) (vs : List (List ℕ)) (ahead : List ℕ) (n : ℕ) (ps : List Piece)
       → IsMark named end → IsHead line l.variable a b c (names_in ls ++ vs) → 1 + (length ls + n) ≤ 100 → ArePieces (l ∷ ls) vs ahead n ps
-      → ArePieces ls vs ahead n (loop_in (tree.Do line l.variable a b c) (mark_of named end) l.label ps)
+      → ArePieces ls vs ahead n (loop_in (tree.Do line l.variable a b c) (label_before named end) l.label ps)
   loop_piece line a b c named end l ls vs ahead n ps m h k g =
       let t = loop_pieces l ls vs ahead n ps k g in (
         marked_fine named end (tree.Do line l.variable a b c (block_of (up_to l.label ps)) ∷ []) (around (names_in ls ++ vs) (labels_of (block_of (beyond l.label ps)) ++ ahead)) (length ls + n) m
@@ -170,7 +170,7 @@ module _ (ds : List Declaration) where
       )
 
   pub loop_fine : (line : ℕ) (a b c : Expression) (named : List ℕ) (end : Option ℕ) (l : Loop) (f : Frames) (r : Rest) → IsMark named end → IsHead line l.variable a b c (variables f) → 1 + depth f ≤ 100 → AreFine (pushed l f) r
-      → AreFine f (loop_begun (tree.Do line l.variable a b c) (mark_of named end) l.label r)
+      → AreFine f (loop_begun (tree.Do line l.variable a b c) (label_before named end) l.label r)
   loop_fine line a b c named end l (Base ls) (Outermost ps) m h k g =
       loop_piece line a b c named end l ls [] [] 0 ps m (subst (λ (vs : List (List ℕ)). IsHead line l.variable a b c vs) (sym (append-nil (names_in ls))) h) (omega (arith, k)) g
   loop_fine line a b c named end l (Base ls) (InArm ps arms other r) m h k g = absurd g
@@ -180,12 +180,12 @@ module _ (ds : List Declaration) where
 
   -- ---- a block IF
 
-  pub if_fine : (us : List Use) (s : Store) (named : List ℕ) (x : Labelled) (c : Expression) (f : Frames) (r : Rest) → IsMark named x.label → IsLine x.line → IsWhole ds (resolved us s c) Logical → 1 + depth f ≤ 100
+  pub if_fine : (us : List Use77) (s : Store) (named : List ℕ) (x : Labelled) (c : Expression) (f : Frames) (r : Rest) → IsMark named x.label → IsLine x.line → IsWhole ds (resolved us s c) Logical → 1 + depth f ≤ 100
       → AreFine (Inner [] false f) r → AreFine f (begun us s named x (If c) r)
   if_fine us s named x c f (Outermost ps) m l e k h = absurd h
   if_fine us s named x c f (InArm ps arms other r) m l e k h =
       let body = whole_block (variables f) (ahead_of r) (1 + depth f) ps k h.0 in
-      preceded_fine (record { ends = None; made = mark_of named x.label ++ tree.If x.line (tree.arm (resolved us s c) (block_of ps) arms) other ∷ [] }) f r
+      preceded_fine (record { ends = None; made = label_before named x.label ++ tree.If x.line (tree.arm (resolved us s c) (block_of ps) arms) other ∷ [] }) f r
       (marked_fine named x.label (tree.If x.line (tree.arm (resolved us s c) (block_of ps) arms) other ∷ []) (around (variables f) (ahead_of r)) (depth f) m
       (record {
         statements = ((l, refl, (e, body.statements, h.1), h.3.statements), tt);
@@ -193,11 +193,11 @@ module _ (ds : List Declaration) where
       }))
       (subst (λ (g : Frames). AreFine g r) (sym (top_kept f)) h.4)
 
-  pub else_fine : (us : List Use) (s : Store) (named : List ℕ) (x : Labelled) (f : Frames) (r : Rest) → 1 + depth f ≤ 100 → AreFine (Inner [] true f) r → AreFine (Inner [] false f) (begun us s named x Else r)
+  pub else_fine : (us : List Use77) (s : Store) (named : List ℕ) (x : Labelled) (f : Frames) (r : Rest) → 1 + depth f ≤ 100 → AreFine (Inner [] true f) r → AreFine (Inner [] false f) (begun us s named x Else r)
   else_fine us s named x f (Outermost ps) k h = absurd h
   else_fine us s named x f (InArm ps arms other r) k h = (tt, h.1, h.2, whole_block (variables f) (ahead_of r) (1 + depth f) ps k h.0, h.4)
 
-  pub else_if_fine : (us : List Use) (s : Store) (named : List ℕ) (x : Labelled) (c : Expression) (had : Bool) (f : Frames) (r : Rest) → IsWhole ds (resolved us s c) Logical → 1 + depth f ≤ 100
+  pub else_if_fine : (us : List Use77) (s : Store) (named : List ℕ) (x : Labelled) (c : Expression) (had : Bool) (f : Frames) (r : Rest) → IsWhole ds (resolved us s c) Logical → 1 + depth f ≤ 100
       → AreFine (Inner [] had f) r → AreFine (Inner [] had f) (begun us s named x (ElseIf c) r)
   else_if_fine us s named x c had f (Outermost ps) e k h = absurd h
   else_if_fine us s named x c had f (InArm ps arms other r) e k h =

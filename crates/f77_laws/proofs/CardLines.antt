@@ -7,10 +7,10 @@ use Rattle.std.proofs.lemmas.Bool.{ltb-false}
 use Rattle.std.proofs.lemmas.List.{append_assoc, take-append-drop}
 use Rattle.tree.specs.Causes.{refusal_at}
 use Rattle.tree.specs.declared.refusals.Refusal.{Refusal}
-use Rattle.f77_grammar.specs.Cards.{Line, HasCause, columns_of, is_bad_byte, is_tab, is_comment, cause_of_line, numbered, statement_field, statement_lines, statement_lines_from}
+use Rattle.f77_grammar.specs.Cards.{Line, HasCardCause, columns_of, is_bad_byte77, is_tab, is_comment, cause_of_line, numbered_lines, statement_field, statement_lines, statement_lines_from}
 use Rattle.f77_grammar.specs.Cards.LineCause.{BadByte, Tab}
 use Rattle.f77_grammar.specs.Cards.IsWrong.{HoldsBadByte, HoldsTab}
-use Rattle.f77_grammar.specs.Cards.HasCause.{AtLine}
+use Rattle.f77_grammar.specs.Cards.HasCardCause.{AtLine}
 use Rattle.f77_laws.proofs.Lists.{left_false, right_false, all_right, all_both, all_weaker, none_any}
 use Rattle.f77_laws.specs.SourceCards.{AreCardCharacters}
 
@@ -23,29 +23,29 @@ denied false h = refl
 abbrev IsCardCharacter : ℕ → Type 0
 IsCardCharacter c = (32 ≤ c) × (c ≤ 126)
 
-character : (b : ℕ) → is_bad_byte b ≡ false → is_tab b ≡ false → IsCardCharacter b
-unfolding is_bad_byte
+character : (b : ℕ) → is_bad_byte77 b ≡ false → is_tab b ≡ false → IsCardCharacter b
+unfolding is_bad_byte77
 character b h e =
     let k : (nat_lt b 32 || nat_lt 126 b) ≡ false = subst (λ t. (not t && (nat_lt b 32 || nat_lt 126 b)) ≡ false) e h in
     (ltb-false b 32 (left_false (nat_lt b 32) (nat_lt 126 b) k), ltb-false 126 b (right_false (nat_lt b 32) (nat_lt 126 b) k))
 
-characters : (cs : List ℕ) → AllByRecursion (λ c. is_bad_byte c ≡ false) cs → AllByRecursion (λ c. is_tab c ≡ false) cs → AreCardCharacters cs
+characters : (cs : List ℕ) → AllByRecursion (λ c. is_bad_byte77 c ≡ false) cs → AllByRecursion (λ c. is_tab c ≡ false) cs → AreCardCharacters cs
 characters [] h k = tt
 characters (c ∷ cs) h k = (character c h.0 k.0, characters cs h.1 k.1)
 
 abbrev pub HasCardColumns : Line → Type 0
 HasCardColumns line = AreCardCharacters line.columns
 
-column_characters : (text : List ℕ) (before ls : List Line) → statement_lines text ≡ before ++ ls → ((r : Refusal) → HasCause text r → ⊥) → AllByRecursion HasCardColumns ls
+column_characters : (text : List ℕ) (before ls : List Line) → statement_lines text ≡ before ++ ls → ((r : Refusal) → HasCardCause text r → ⊥) → AllByRecursion HasCardColumns ls
 column_characters text before [] e none = tt
 column_characters text before (l ∷ ls) e none = (
   characters l.columns
-      (none_any is_bad_byte l.columns (denied (list_any is_bad_byte l.columns) (λ h. none (refusal_at (cause_of_line BadByte) l.number) (AtLine BadByte before l ls e (HoldsBadByte h)))))
+      (none_any is_bad_byte77 l.columns (denied (list_any is_bad_byte77 l.columns) (λ h. none (refusal_at (cause_of_line BadByte) l.number) (AtLine BadByte before l ls e (HoldsBadByte h)))))
       (none_any is_tab l.columns (denied (list_any is_tab l.columns) (λ h. none (refusal_at (cause_of_line Tab) l.number) (AtLine Tab before l ls e (HoldsTab h))))),
   column_characters text (before ++ l ∷ []) ls (e ∙ sym (append_assoc before (l ∷ []) ls)) none,
 )
 
-pub card_columns : (text : List ℕ) → ((r : Refusal) → HasCause text r → ⊥) → AllByRecursion HasCardColumns (statement_lines text)
+pub card_columns : (text : List ℕ) → ((r : Refusal) → HasCardCause text r → ⊥) → AllByRecursion HasCardColumns (statement_lines text)
 card_columns text none = column_characters text [] (statement_lines text) refl none
 
 -- columns 7 to 72 of lines
@@ -88,11 +88,11 @@ kept_by false n line ls l kept e h = record {
   rising = h.rising;
 }
 
-kept_numbered : (test : Line → Bool) (n : ℕ) (ls : List (List ℕ)) → AreNumbered n (length ls) (filter test (numbered n ls))
+kept_numbered : (test : Line → Bool) (n : ℕ) (ls : List (List ℕ)) → AreNumbered n (length ls) (filter test (numbered_lines n ls))
 kept_numbered test n [] = record { each = tt; rising = tt }
 kept_numbered test n (line ∷ ls) =
     let l : Line = record { number = n; columns = columns_of line } in
-    kept_by (test l) n line ls l (filter test (numbered (n + 1) ls)) refl (kept_numbered test (n + 1) ls)
+    kept_by (test l) n line ls l (filter test (numbered_lines (n + 1) ls)) refl (kept_numbered test (n + 1) ls)
 
 pub lines_numbered : (text : List ℕ) → AreNumbered 1 (length (lines text)) (statement_lines text)
 unfolding statement_lines_from

@@ -9,7 +9,7 @@ use Rattle.std.specs.Str.Parse.{AllDigits}
 use Rattle.std.proofs.lemmas.Bool.{and_parts, leb-true}
 use Rattle.std.proofs.lemmas.List.{length-take}
 use Rattle.std.proofs.lemmas.Str.{digit_value_digit}
-use Rattle.f77_grammar.specs.Cards.{Line, StatementLines, PlainCard, all_lines, card_in, label_field, label_in, number_in, statement_lines}
+use Rattle.f77_grammar.specs.Cards.{Line, StatementLines, PlainCard, all_lines, card_in, label_field, label_in_field, number_in, statement_lines}
 use Rattle.f77_grammar.proofs.CardLaws.{unrefused, unrefused_short}
 use Rattle.f77_grammar.proofs.FirstLine.{lines-le}
 use Rattle.f77_laws.specs.Source.{IsSourceLabel}
@@ -48,13 +48,13 @@ short_number (a ∷ b ∷ c ∷ d ∷ e ∷ []) h l =
     let p = h.0 in let q = h.1.0 in let r = h.1.1.0 in let s = h.1.1.1.0 in let t = h.1.1.1.1.0 in omega (arith, p, q, r, s, t)
 short_number (a ∷ b ∷ c ∷ d ∷ e ∷ f ∷ digits) h l = absurd (omega (arith, l))
 
-field_label : (field : List ℕ) → length field ≤ 5 → IfSome (label_in field) IsSourceLabel
-unfolding label_in
+field_label : (field : List ℕ) → length field ≤ 5 → IfSome (label_in_field field) IsSourceLabel
+unfolding label_in_field
 field_label field l =
     let digits = filter is_ascii_digit field in
     short_number digits (all_digits field) (omega (arith, l, fewer field))
 
-line_label : (line : Line) → IfSome (label_in (label_field line)) IsSourceLabel
+line_label : (line : Line) → IfSome (label_in_field (label_field line)) IsSourceLabel
 line_label line = field_label (label_field line) (omega (arith, length-take 5 line.columns))
 
 -- ---- a card

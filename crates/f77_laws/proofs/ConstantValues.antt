@@ -21,11 +21,11 @@ use Rattle.meaning.specs.Value.{value_of, values_of, subscript_values, subscript
 use Rattle.meaning.specs.Dialect.{Dialect}
 use Rattle.f77_grammar.specs.Statement77.{NamedConstant, Labelled}
 use Rattle.meaning.specs.Typed77.{number_of_arguments}
-use Rattle.f77_grammar.specs.program.Uses.{Use, is_array, kind_of_name}
+use Rattle.f77_grammar.specs.program.Uses.{Use77, is_array_name, kind_of_name}
 use Rattle.f77_grammar.specs.program.Kinds.{same_kind, has_kind, name_has_kind, are_arguments}
 use Rattle.tree.specs.OperatorTable.{result_kind_of, operand_kind, is_unary}
 use Rattle.tree.specs.Functions.{suits_number}
-use Rattle.f77_grammar.specs.program.Limits.{in_range, constant_value, no_values, with_value, with_constant, with_constants, definitions_of, constants_of}
+use Rattle.f77_grammar.specs.program.Limits.{in_range, named_constant_value, no_values, with_named_value, with_named_constant, with_constants, definitions_of, constants_of}
 use Rattle.f77_laws.proofs.Lists.{left_true, right_true}
 use Rattle.f77_laws.proofs.Variables.{same_name}
 
@@ -100,7 +100,7 @@ binary_kind o (Err f) t v h = absurd cc
 
 -- ---- the constants that a store has
 
-module _ (d : Dialect) (us : List Use) where
+module _ (d : Dialect) (us : List Use77) where
   -- a name has no value, or one of its kind and in range
   pub record IsKept (s : Store) (x : List ℕ) (bs : List (ℤ × ℤ)) : Type 0 where
     pub scalar : bs ≡ []
@@ -154,7 +154,7 @@ module _ (d : Dialect) (us : List Use) where
     value_kind (Number n) k v h g = let e : Int n ≡ v = cc in sym (ap kind_of e) ∙ kinds_same Integer k h
     value_kind (Logic b) k v h g = let e : Truth b ≡ v = cc in sym (ap kind_of e) ∙ kinds_same Logical k h
     value_kind (Named x no_subscripts) k v h g =
-        bare_kind x v g ∙ kinds_same (kind_of_name us x) k (right_true (not (is_array us x)) (same_kind (kind_of_name us x) k) (left_true (name_has_kind us x 0 k) true h))
+        bare_kind x v g ∙ kinds_same (kind_of_name us x) k (right_true (not (is_array_name us x)) (same_kind (kind_of_name us x) k) (left_true (name_has_kind us x 0 k) true h))
     value_kind (Named x (subscript p ps)) k v h g = absurd (no_element x p ps v g)
     value_kind (Unary o a) k v h g =
         unary_kind o (value_of d a s) v g
@@ -168,7 +168,7 @@ module _ (d : Dialect) (us : List Use) where
 
   -- ---- one constant more
 
-  value_kept : (s : Store) (x : List ℕ) (r : Result Value Fault) → KeepsKinds s → ((v : Value) → r ≡ Ok v → (kind_of v ≡ kind_of_name us x) × (is_in_range d.bits v ≡ true)) → KeepsKinds (with_value x r s)
+  value_kept : (s : Store) (x : List ℕ) (r : Result Value Fault) → KeepsKinds s → ((v : Value) → r ≡ Ok v → (kind_of v ≡ kind_of_name us x) × (is_in_range d.bits v ≡ true)) → KeepsKinds (with_named_value x r s)
   value_kept s x (Err f) keeps h = keeps
   value_kept s x (Ok v) keeps h = λ y bs e. by y bs (bytes_eq x y) refl e
     where
@@ -178,7 +178,7 @@ module _ (d : Dialect) (us : List Use) where
       other : (y : List ℕ) → bytes_eq x y ≡ false → (c : Cell) → c.name ≡ y → cond (bytes_eq x c.name) v (s.held c) ≡ s.held c
       other y f c g = ap (λ b. cond b v (s.held c)) (ap (bytes_eq x) g ∙ f)
 
-      by : (y : List ℕ) (bs : List (ℤ × ℤ)) (b : Bool) → bytes_eq x y ≡ b → cond b (Some []) (s.bounds y) ≡ Some bs → IsKept (with_value x (Ok v) s) y bs
+      by : (y : List ℕ) (bs : List (ℤ × ℤ)) (b : Bool) → bytes_eq x y ≡ b → cond b (Some []) (s.bounds y) ≡ Some bs → IsKept (with_named_value x (Ok v) s) y bs
       by y bs true f e = record {
         scalar = cc;
         kind = λ c g. ap kind_of (same y f c g) ∙ (h v refl).0 ∙ ap (kind_of_name us) (same_name x y f);
@@ -190,7 +190,7 @@ module _ (d : Dialect) (us : List Use) where
         range = λ c g. ap (is_in_range d.bits) (other y f c g) ∙ (keeps y bs e).range c g;
       }
 
-  constant_kind : (s : Store) (e : Expression) (k : Kind) (v : Value) → KeepsKinds s → has_kind us e k ≡ true → constant_value d e s ≡ Ok v → (kind_of v ≡ k) × (is_in_range d.bits v ≡ true)
+  constant_kind : (s : Store) (e : Expression) (k : Kind) (v : Value) → KeepsKinds s → has_kind us e k ≡ true → named_constant_value d e s ≡ Ok v → (kind_of v ≡ k) × (is_in_range d.bits v ≡ true)
   constant_kind s e k v keeps h g = by (value_of d e s) refl g
     where
       tested : (w : Value) (b : Bool) → value_of d e s ≡ Ok w → is_in_range d.bits w ≡ b → cond b (Ok w) (Err Overflow) ≡ Ok v → (kind_of v ≡ k) × (is_in_range d.bits v ≡ true)
@@ -207,8 +207,8 @@ module _ (d : Dialect) (us : List Use) where
   constants_kept : (cs : List NamedConstant) (s : Store) → DefinesKinds cs → KeepsKinds s → KeepsKinds (with_constants d cs s)
   constants_kept [] s h keeps = keeps
   constants_kept (c ∷ cs) s h keeps =
-      constants_kept cs (with_constant d c s) h.1
-      (value_kept s c.name (constant_value d c.value s) keeps (λ v e. constant_kind s c.value (kind_of_name us c.name) v keeps h.0 e))
+      constants_kept cs (with_named_constant d c s) h.1
+      (value_kept s c.name (named_constant_value d c.value s) keeps (λ v e. constant_kind s c.value (kind_of_name us c.name) v keeps h.0 e))
 
   no_constants : KeepsKinds no_values
   no_constants x bs e = absurd cc

@@ -10,9 +10,9 @@ use Rattle.meaning.specs.Dialect.{Dialect}
 use Rattle.meaning.specs.Store.{Store, size_of}
 use Rattle.f77_grammar.specs.Statement77.{Entity, Labelled}
 use Rattle.meaning.specs.Names.{IsInByteOrder, is_among}
-use Rattle.f77_grammar.specs.program.Limits.{once, entities_of, has_bounds, bounds_among, bounds_declared, bounds_of_name, elements, product_of_sizes, size_in, dimension_of, all_elements}
+use Rattle.f77_grammar.specs.program.Limits.{once, entities_of, has_bounds, bounds_among, bounds_declared, bounds_of_name, elements, product_of_sizes, size_in, dimension_of, declared_elements}
 use Rattle.meaning.specs.Extents.{array_elements, elements_of}
-use Rattle.f77_grammar.specs.program.Tree.{bounds_in}
+use Rattle.f77_grammar.specs.program.Tree.{bounds_or_empty}
 use Rattle.std.proofs.lemmas.List.{map-append}
 use Rattle.std.proofs.lemmas.List.Sums.{sum_by-append, sum_by-cons}
 use Rattle.f77_laws.proofs.Places.{onto}
@@ -70,16 +70,16 @@ once_has (x ∷ xs) z h = by (is_among xs x) refl (once_has xs) (cases_of x xs z
 
 -- ---- elements
 
-size_is : (r : Result (ℤ × ℤ) Fault) → size_of (bounds_in r) ≡ size_in r
+size_is : (r : Result (ℤ × ℤ) Fault) → size_of (bounds_or_empty r) ≡ size_in r
 size_is (Ok b) = refl
 size_is (Err fault) = refl
 
-sizes_are : (d : Dialect) (s : Store) (bs : List (Expression × Expression)) → elements_of (map (λ b. bounds_in (dimension_of d s b)) bs) ≡ product_of_sizes d s bs
+sizes_are : (d : Dialect) (s : Store) (bs : List (Expression × Expression)) → elements_of (map (λ b. bounds_or_empty (dimension_of d s b)) bs) ≡ product_of_sizes d s bs
 sizes_are d s [] = refl
 sizes_are d s (b ∷ bs) =
-    ap (λ n. n * elements_of (map (λ c. bounds_in (dimension_of d s c)) bs)) (size_is (dimension_of d s b)) ∙ ap (λ n. size_in (dimension_of d s b) * n) (sizes_are d s bs)
+    ap (λ n. n * elements_of (map (λ c. bounds_or_empty (dimension_of d s c)) bs)) (size_is (dimension_of d s b)) ∙ ap (λ n. size_in (dimension_of d s b) * n) (sizes_are d s bs)
 
-pub elements_are : (d : Dialect) (s : Store) (bs : List (Expression × Expression)) → array_elements (map (λ b. bounds_in (dimension_of d s b)) bs) ≡ elements d s bs
+pub elements_are : (d : Dialect) (s : Store) (bs : List (Expression × Expression)) → array_elements (map (λ b. bounds_or_empty (dimension_of d s b)) bs) ≡ elements d s bs
 elements_are d s [] = refl
 elements_are d s (b ∷ bs) = sizes_are d s (b ∷ bs)
 
@@ -93,12 +93,12 @@ module _ (d : Dialect) (s : Store) where
       ∙ ap sum (map-append (elements d s) (map (λ (e : Entity). e.bounds) es) (map (λ (e : Entity). e.bounds) fs))
       ∙ sum_by-append (λ n. n) (map (elements d s) (map (λ (e : Entity). e.bounds) es)) (map (elements d s) (map (λ (e : Entity). e.bounds) fs))
 
-  more_elements : (x : Labelled) (xs : List Labelled) → all_elements d s (x ∷ xs) ≡ of_entities (entities_of x.statement) + all_elements d s xs
+  more_elements : (x : Labelled) (xs : List Labelled) → declared_elements d s (x ∷ xs) ≡ of_entities (entities_of x.statement) + declared_elements d s xs
   more_elements x xs =
       ap sum (map-append (elements d s) (bounds_declared x.statement) (flat_map (λ (y : Labelled). bounds_declared y.statement) xs))
       ∙ sum_by-append (λ n. n) (map (elements d s) (bounds_declared x.statement)) (map (elements d s) (flat_map (λ (y : Labelled). bounds_declared y.statement) xs))
 
-  text_elements : (text : List Labelled) → of_entities (flat_map (λ (y : Labelled). entities_of y.statement) text) ≡ all_elements d s text
+  text_elements : (text : List Labelled) → of_entities (flat_map (λ (y : Labelled). entities_of y.statement) text) ≡ declared_elements d s text
   text_elements [] = refl
   text_elements (x ∷ xs) =
       entities_appended (entities_of x.statement) (flat_map (λ (y : Labelled). entities_of y.statement) xs)
@@ -106,7 +106,7 @@ module _ (d : Dialect) (s : Store) where
       ∙ sym (more_elements x xs)
 
   -- the order of the statements doesn't matter
-  pub turned_elements : (before text : List Labelled) → all_elements d s (onto before text) ≡ all_elements d s text + all_elements d s before
+  pub turned_elements : (before text : List Labelled) → declared_elements d s (onto before text) ≡ declared_elements d s text + declared_elements d s before
   turned_elements before [] = omega arith
   turned_elements before (x ∷ xs) =
       let a = turned_elements (x ∷ before) xs in
@@ -183,7 +183,7 @@ module _ (d : Dialect) (s : Store) where
       omega (arith, a, b, c)
 
   -- the arrays of names, none of which stands twice, have no more elements than the text declares
-  pub names_of_text : (text : List Labelled) (xs : List (List ℕ)) → IsInByteOrder xs → of_names (bounds_of_name text) xs ≤ all_elements d s text
+  pub names_of_text : (text : List Labelled) (xs : List (List ℕ)) → IsInByteOrder xs → of_names (bounds_of_name text) xs ≤ declared_elements d s text
   names_of_text text xs h =
       let a = names_within (flat_map (λ (y : Labelled). entities_of y.statement) text) xs h in
       let b = text_elements text in

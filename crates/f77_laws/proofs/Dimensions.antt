@@ -7,7 +7,7 @@ use Rattle.tree.specs.Plain.{Expression, Number, Logic, Named, Unary, Binary, Ap
 use Rattle.f77_grammar.specs.declared.directions.Direction.{Direction}
 use Rattle.f77_grammar.specs.declared.directions.Direction.TheVariants.{Output, Input}
 use Rattle.f77_grammar.specs.Statement77.{Entity, NamedConstant, Labelled, Statement77, Program, Declare, Dimension, Constants, Assign, Test, If, ElseIf, Do, Read, Print}
-use Rattle.f77_grammar.specs.program.Uses.{Role, Title, Typed, Bounded, Defined, Valued, Target, Counter, Use, uses_in, uses_in_arguments, uses_in_subscripts, uses_in_subscript, input_uses, value_uses, uses_in_item, uses_in_items, uses_in_bounds, bounded_uses, dimensioned_uses, typed_uses, defined_uses, uses_of, uses_in_text, is_bounded, stands, dimensions_in, dimensions_of_name}
+use Rattle.f77_grammar.specs.program.Uses.{Role, Title, Typed, Bounded, Defined, Valued, Target, Counter, Use77, uses77_in, uses_in_arguments, uses77_in_subscripts, uses77_in_subscript, input_uses, value_uses, uses_in_item, uses_in_items, uses_in_bounds, bounded_uses, dimensioned_uses, typed_uses, defined_uses, uses77_of, uses_in_text, is_bounded, stands, dimensions_in, dimensions_of_name}
 use Rattle.f77_grammar.specs.program.Limits.{entities_of, has_bounds, bounds_among, bounds_of_name}
 use Rattle.f77_laws.proofs.Lists.{all_both, all_weaker, left_false, right_false}
 
@@ -22,34 +22,34 @@ IsPlainRole (Typed k) = ⊥
 IsPlainRole (Bounded n) = ⊥
 IsPlainRole Defined = ⊥
 
-abbrev pub IsPlainUse : Use → Type 0
+abbrev pub IsPlainUse : Use77 → Type 0
 IsPlainUse u = IsPlainRole u.role
 
-abbrev pub ArePlain : List Use → Type 0
+abbrev pub ArePlain : List Use77 → Type 0
 ArePlain us = AllByRecursion IsPlainUse us
 
-abbrev plain_both : (us vs : List Use) → ArePlain us → ArePlain vs → ArePlain (us ++ vs)
+abbrev plain_both : (us vs : List Use77) → ArePlain us → ArePlain vs → ArePlain (us ++ vs)
 plain_both us vs h g = all_both IsPlainUse us vs h g
 
 mutual
-  pub plain_in : (e : Expression) → ArePlain (uses_in e)
+  pub plain_in : (e : Expression) → ArePlain (uses77_in e)
   plain_in (Number n) = tt
   plain_in (Logic b) = tt
   plain_in (Named x ps) = (tt, plain_in_subscripts ps)
   plain_in (Unary o a) = plain_in a
-  plain_in (Binary o a b) = plain_both (uses_in a) (uses_in b) (plain_in a) (plain_in b)
+  plain_in (Binary o a b) = plain_both (uses77_in a) (uses77_in b) (plain_in a) (plain_in b)
   plain_in (Apply f es) = plain_in_arguments es
   plain_in e = tt
 
   plain_in_arguments : (es : Expressions) → ArePlain (uses_in_arguments es)
   plain_in_arguments no_expressions = tt
-  plain_in_arguments (expression e es) = plain_both (uses_in e) (uses_in_arguments es) (plain_in e) (plain_in_arguments es)
+  plain_in_arguments (expression e es) = plain_both (uses77_in e) (uses_in_arguments es) (plain_in e) (plain_in_arguments es)
 
-  pub plain_in_subscripts : (ps : Subscripts) → ArePlain (uses_in_subscripts ps)
+  pub plain_in_subscripts : (ps : Subscripts) → ArePlain (uses77_in_subscripts ps)
   plain_in_subscripts no_subscripts = tt
-  plain_in_subscripts (subscript p ps) = plain_both (uses_in_subscript p) (uses_in_subscripts ps) (plain_in_subscript p) (plain_in_subscripts ps)
+  plain_in_subscripts (subscript p ps) = plain_both (uses77_in_subscript p) (uses77_in_subscripts ps) (plain_in_subscript p) (plain_in_subscripts ps)
 
-  plain_in_subscript : (p : Subscript) → ArePlain (uses_in_subscript p)
+  plain_in_subscript : (p : Subscript) → ArePlain (uses77_in_subscript p)
   plain_in_subscript (Only e) = plain_in e
   plain_in_subscript p = tt
 
@@ -62,8 +62,8 @@ plain_input (Binary o a b) = plain_in (Binary o a b)
 plain_input (Apply f es) = plain_in (Apply f es)
 plain_input e = tt
 
-plain_control : (a b c : Expression) → ArePlain (uses_in a ++ uses_in b ++ uses_in c)
-plain_control a b c = plain_both (uses_in a ++ uses_in b) (uses_in c) (plain_both (uses_in a) (uses_in b) (plain_in a) (plain_in b)) (plain_in c)
+plain_control : (a b c : Expression) → ArePlain (uses77_in a ++ uses77_in b ++ uses77_in c)
+plain_control a b c = plain_both (uses77_in a ++ uses77_in b) (uses77_in c) (plain_both (uses77_in a) (uses77_in b) (plain_in a) (plain_in b)) (plain_in c)
 
 plain_value : (d : Direction) (e : Expression) → ArePlain (value_uses d e)
 plain_value Output e = plain_in e
@@ -81,38 +81,38 @@ mutual
 
 pub plain_in_bounds : (bs : List (Expression × Expression)) → ArePlain (uses_in_bounds bs)
 plain_in_bounds [] = tt
-plain_in_bounds (b ∷ bs) = plain_both (uses_in b.0 ++ uses_in b.1) (uses_in_bounds bs) (plain_both (uses_in b.0) (uses_in b.1) (plain_in b.0) (plain_in b.1)) (plain_in_bounds bs)
+plain_in_bounds (b ∷ bs) = plain_both (uses77_in b.0 ++ uses77_in b.1) (uses_in_bounds bs) (plain_both (uses77_in b.0) (uses77_in b.1) (plain_in b.0) (plain_in b.1)) (plain_in_bounds bs)
 
 -- ---- uses without bounds
 
-abbrev AreUnbounded : List Use → Type 0
-AreUnbounded us = AllByRecursion (λ (u : Use). is_bounded u.role ≡ false) us
+abbrev AreUnbounded : List Use77 → Type 0
+AreUnbounded us = AllByRecursion (λ (u : Use77). is_bounded u.role ≡ false) us
 
 unbounded_role : (r : Role) → IsPlainRole r → is_bounded r ≡ false
 unbounded_role (Bounded n) h = absurd h
 unbounded_role r h = refl
 
-unbounded : (us : List Use) → ArePlain us → AreUnbounded us
-unbounded us h = all_weaker IsPlainUse (λ (u : Use). is_bounded u.role ≡ false) (λ u. unbounded_role u.role) us h
+unbounded : (us : List Use77) → ArePlain us → AreUnbounded us
+unbounded us h = all_weaker IsPlainUse (λ (u : Use77). is_bounded u.role ≡ false) (λ u. unbounded_role u.role) us h
 
-unbounded_both : (us vs : List Use) → AreUnbounded us → AreUnbounded vs → AreUnbounded (us ++ vs)
-unbounded_both us vs h g = all_both (λ (u : Use). is_bounded u.role ≡ false) us vs h g
+unbounded_both : (us vs : List Use77) → AreUnbounded us → AreUnbounded vs → AreUnbounded (us ++ vs)
+unbounded_both us vs h g = all_both (λ (u : Use77). is_bounded u.role ≡ false) us vs h g
 
 defined_unbounded : (ds : List NamedConstant) → AreUnbounded (flat_map defined_uses ds)
 defined_unbounded [] = tt
-defined_unbounded (d ∷ ds) = (refl, unbounded_both (uses_in d.value) (flat_map defined_uses ds) (unbounded (uses_in d.value) (plain_in d.value)) (defined_unbounded ds))
+defined_unbounded (d ∷ ds) = (refl, unbounded_both (uses77_in d.value) (flat_map defined_uses ds) (unbounded (uses77_in d.value) (plain_in d.value)) (defined_unbounded ds))
 
 -- ---- dimensions by uses, and `o` where no use has any
 
-abbrev dimensions_or : List Use → List ℕ → ℕ → ℕ
+abbrev dimensions_or : List Use77 → List ℕ → ℕ → ℕ
 dimensions_or [] x o = o
 dimensions_or (u ∷ us) x o = dimensions_in u.role (bytes_eq u.name x) (dimensions_or us x o)
 
-or_none : (us : List Use) (x : List ℕ) → dimensions_or us x 0 ≡ dimensions_of_name us x
+or_none : (us : List Use77) (x : List ℕ) → dimensions_or us x 0 ≡ dimensions_of_name us x
 or_none [] x = refl
 or_none (u ∷ us) x = ap (dimensions_in u.role (bytes_eq u.name x)) (or_none us x)
 
-or_appended : (us vs : List Use) (x : List ℕ) (o : ℕ) → dimensions_or (us ++ vs) x o ≡ dimensions_or us x (dimensions_or vs x o)
+or_appended : (us vs : List Use77) (x : List ℕ) (o : ℕ) → dimensions_or (us ++ vs) x o ≡ dimensions_or us x (dimensions_or vs x o)
 or_appended [] vs x o = refl
 or_appended (u ∷ us) vs x o = ap (dimensions_in u.role (bytes_eq u.name x)) (or_appended us vs x o)
 
@@ -120,7 +120,7 @@ passed_over : (r : Role) (b : Bool) (o : ℕ) → is_bounded r ≡ false → dim
 passed_over (Bounded n) b o h = absurd cc
 passed_over r b o h = refl
 
-or_unbounded : (us : List Use) (x : List ℕ) (o : ℕ) → AreUnbounded us → dimensions_or us x o ≡ o
+or_unbounded : (us : List Use77) (x : List ℕ) (o : ℕ) → AreUnbounded us → dimensions_or us x o ≡ o
 or_unbounded [] x o h = refl
 or_unbounded (u ∷ us) x o h = passed_over u.role (bytes_eq u.name x) (dimensions_or us x o) h.0 ∙ or_unbounded us x o h.1
 
@@ -183,13 +183,13 @@ IsProper s = Unit {0}
 abbrev pub AreProper : List Labelled → Type 0
 AreProper text = AllByRecursion (λ (x : Labelled). IsProper x.statement) text
 
-pub plain_of : (s : Statement77) → IsAction s → ArePlain (uses_of s)
+pub plain_of : (s : Statement77) → IsAction s → ArePlain (uses77_of s)
 plain_of (Program x) h = absurd h
 plain_of (Declare k es) h = absurd h
 plain_of (Dimension es) h = absurd h
 plain_of (Constants ds) h = absurd h
-plain_of (Assign left e) h = (tt, plain_both (uses_in_subscripts left.subscripts) (uses_in e) (plain_in_subscripts left.subscripts) (plain_in e))
-plain_of (Test c s) h = plain_both (uses_in c) (uses_of s) (plain_in c) (plain_of s h)
+plain_of (Assign left e) h = (tt, plain_both (uses77_in_subscripts left.subscripts) (uses77_in e) (plain_in_subscripts left.subscripts) (plain_in e))
+plain_of (Test c s) h = plain_both (uses77_in c) (uses77_of s) (plain_in c) (plain_of s h)
 plain_of (If c) h = plain_in c
 plain_of (ElseIf c) h = plain_in c
 plain_of (Do n x a b c) h = (tt, plain_control a b c)
@@ -197,18 +197,18 @@ plain_of (Read is) h = plain_items Input is
 plain_of (Print is) h = plain_items Output is
 plain_of s h = tt
 
-of_statement : (s : Statement77) (x : List ℕ) (o : ℕ) → IsProper s → dimensions_or (uses_of s) x o ≡ length_or (entities_of s) x o
+of_statement : (s : Statement77) (x : List ℕ) (o : ℕ) → IsProper s → dimensions_or (uses77_of s) x o ≡ length_or (entities_of s) x o
 of_statement (Declare k es) x o h = of_typed k es x o
 of_statement (Dimension es) x o h = of_dimensioned es x o
 of_statement (Program y) x o h = refl
 of_statement (Constants ds) x o h = or_unbounded (flat_map defined_uses ds) x o (defined_unbounded ds)
-of_statement (Test c s) x o h = or_unbounded (uses_of (Test c s)) x o (unbounded (uses_of (Test c s)) (plain_of (Test c s) h))
-of_statement s x o h = or_unbounded (uses_of s) x o (unbounded (uses_of s) (plain_of s tt))
+of_statement (Test c s) x o h = or_unbounded (uses77_of (Test c s)) x o (unbounded (uses77_of (Test c s)) (plain_of (Test c s) h))
+of_statement s x o h = or_unbounded (uses77_of s) x o (unbounded (uses77_of s) (plain_of s tt))
 
 of_text : (text : List Labelled) (x : List ℕ) (o : ℕ) → AreProper text → dimensions_or (uses_in_text text) x o ≡ length_or (flat_map (λ (y : Labelled). entities_of y.statement) text) x o
 of_text [] x o h = refl
 of_text (y ∷ ys) x o h =
-    or_appended (uses_of y.statement) (uses_in_text ys) x o
+    or_appended (uses77_of y.statement) (uses_in_text ys) x o
     ∙ of_statement y.statement x (dimensions_or (uses_in_text ys) x o) h.0
     ∙ ap (length_or (entities_of y.statement) x) (of_text ys x o h.1)
     ∙ sym (length_appended (entities_of y.statement) (flat_map (λ (z : Labelled). entities_of z.statement) ys) x o)
@@ -219,7 +219,7 @@ number_of_bounds text x h =
     length_none (flat_map (λ (y : Labelled). entities_of y.statement) text) x ∙ sym (of_text text x 0 h) ∙ or_none (uses_in_text text) x
 
 -- a name without bounds has no dimensions
-pub no_dimensions : (us : List Use) (x : List ℕ) → stands is_bounded us x ≡ false → dimensions_of_name us x ≡ 0
+pub no_dimensions : (us : List Use77) (x : List ℕ) → stands is_bounded us x ≡ false → dimensions_of_name us x ≡ 0
 no_dimensions [] x h = refl
 no_dimensions (u ∷ us) x h =
     unbounded_here u.role (bytes_eq u.name x) (dimensions_of_name us x) (left_false (is_bounded u.role && bytes_eq u.name x) (stands is_bounded us x) h)

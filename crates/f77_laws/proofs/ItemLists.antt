@@ -2,13 +2,13 @@
 use Rattle.std.proofs.Common.{◌≡◌, ℕ, ◌≤◌, max, true, IsTrue, Option, None, Some, List, [], ◌∷◌, ◌++◌, refl, arith}
 use Rattle.tree.specs.Plain.{Item, items}
 use Rattle.f77_grammar.specs.expressions.Words as words
-use Rattle.f77_grammar.specs.expressions.Words.{Word}
-use Rattle.f77_grammar.specs.expressions.Phrases.{Phrase, Literal, WideLiteral, Truth, Name, Listed, Paren, Signed, Joined, written, tree}
+use Rattle.f77_grammar.specs.expressions.Words.{Word77}
+use Rattle.f77_grammar.specs.expressions.Phrases.{Phrase77, Literal, WideLiteral, Truth, Name, Listed, Paren, Signed, Joined, written77, tree77_of}
 use Rattle.f77_grammar.specs.expressions.Printing.{IsSource}
 use Rattle.meaning.specs.Depths.{depth_of, depth_of_item, depth_of_items}
 use Rattle.meaning.specs.Typed77.{has_item, IsText}
-use Rattle.f77_grammar.specs.statements.Controls.{Control, IsStep, written_step, written_control, step_tree, step_depth}
-use Rattle.f77_grammar.specs.statements.Items.{ItemPhrase, ItemPhrases, Value, Text, Loop, Sole, More, IsReference, MayStand, takes_text, IsItem, AreItems, written_item, written_items, item_tree, item_trees, item_depth, items_depth}
+use Rattle.f77_grammar.specs.statements.Controls.{Control, IsStep77, written_step77, written_control, step_tree77, step_depth77}
+use Rattle.f77_grammar.specs.statements.Items.{ItemPhrase77, ItemPhrases77, Value, Text, Loop, Sole, More, IsReference77, MayStand77, takes_text, IsItem77, AreItems77, written_item77, written_items77, item_tree77, item_trees77, item_depth77, items_depth77}
 use Rattle.f77_grammar.specs.declared.directions.Direction.{Direction}
 use Rattle.f77_grammar.specs.declared.directions.Direction.TheVariants.{Input, Output}
 use Rattle.f77_laws.specs.Source.{IsSourceVariable, IsSourceValue, IsSourceText, IsSourceItem, AreSourceItems}
@@ -18,41 +18,41 @@ use Rattle.f77_laws.proofs.SourceWords.{AreSourceWords, left_words, right_words,
 
 -- ---- bounds and steps
 
-pub step_source : (c : Option Phrase) → IsStep c → AreSourceWords (written_step c) → IsSource (step_tree c)
+pub step_source : (c : Option Phrase77) → IsStep77 c → AreSourceWords (written_step77 c) → IsSource (step_tree77 c)
 step_source None g h = omega arith
 step_source (Some p) g h = source p g h.1
 
-pub step_within : (c : Option Phrase) → IsStep c → depth_of (step_tree c) ≤ step_depth c
+pub step_within : (c : Option Phrase77) → IsStep77 c → depth_of (step_tree77 c) ≤ step_depth77 c
 step_within None g = omega arith
 step_within (Some p) g = within p g
 
 -- the words of a DO variable and of its parameters
 pub record ControlWords (k : Control) : Type 0 where
   pub variable : AreSourceWords (words.Name k.variable ∷ [])
-  pub first : AreSourceWords (written k.first)
-  pub last : AreSourceWords (written k.last)
-  pub step : AreSourceWords (written_step k.step)
+  pub first : AreSourceWords (written77 k.first)
+  pub last : AreSourceWords (written77 k.last)
+  pub step : AreSourceWords (written_step77 k.step)
 
 pub control_words : (k : Control) → AreSourceWords (written_control k) → ControlWords k
 control_words k h =
-    let behind = (right_words (written k.first) (words.Comma ∷ (written k.last ++ written_step k.step)) h.1.1).1 in record {
+    let behind = (right_words (written77 k.first) (words.Comma ∷ (written77 k.last ++ written_step77 k.step)) h.1.1).1 in record {
       variable = (h.0, tt);
-      first = left_words (written k.first) (words.Comma ∷ (written k.last ++ written_step k.step)) h.1.1;
-      last = left_words (written k.last) (written_step k.step) behind;
-      step = right_words (written k.last) (written_step k.step) behind;
+      first = left_words (written77 k.first) (words.Comma ∷ (written77 k.last ++ written_step77 k.step)) h.1.1;
+      last = left_words (written77 k.last) (written_step77 k.step) behind;
+      step = right_words (written77 k.last) (written_step77 k.step) behind;
     }
 
 -- the words of an implied DO list: its items and its control
-record LoopWords (is : ItemPhrases) (k : Control) : Type 0 where
-  inside : AreSourceWords (written_items is)
+record LoopWords (is : ItemPhrases77) (k : Control) : Type 0 where
+  inside : AreSourceWords (written_items77 is)
   control : ControlWords k
 
-loop_words : (is : ItemPhrases) (k : Control) → AreSourceWords (written_item (Loop is k)) → LoopWords is k
+loop_words : (is : ItemPhrases77) (k : Control) → AreSourceWords (written_item77 (Loop is k)) → LoopWords is k
 loop_words is k h =
-    let behind : List Word = words.Comma ∷ (written_control k ++ words.Close ∷ []) in
+    let behind : List Word77 = words.Comma ∷ (written_control k ++ words.Close ∷ []) in
     record {
-      inside = left_words (written_items is) behind h.1;
-      control = control_words k (left_words (written_control k) (words.Close ∷ []) (right_words (written_items is) behind h.1).1);
+      inside = left_words (written_items77 is) behind h.1;
+      control = control_words k (left_words (written_control k) (words.Close ∷ []) (right_words (written_items77 is) behind h.1).1);
     }
 
 -- ---- one item more
@@ -69,13 +69,13 @@ has_pushed : (is : List Item) (i : Item) → has_item (items (is ++ i ∷ [])) �
 has_pushed [] i = refl
 has_pushed (j ∷ is) i = refl
 
-has_some : (is : ItemPhrases) → has_item (items (item_trees is)) ≡ true
+has_some : (is : ItemPhrases77) → has_item (items (item_trees77 is)) ≡ true
 has_some (Sole i) = refl
-has_some (More is i) = has_pushed (item_trees is) (item_tree i)
+has_some (More is i) = has_pushed (item_trees77 is) (item_tree77 i)
 
 -- ---- lists
 
-variable : (p : Phrase) → IsReference p → IsSource (tree p) → IsSourceVariable (tree p)
+variable : (p : Phrase77) → IsReference77 p → IsSource (tree77_of p) → IsSourceVariable (tree77_of p)
 variable (Name x) g h = h
 variable (Listed x ps) g h = h
 variable (Literal n) g h = absurd g
@@ -85,7 +85,7 @@ variable (Paren p) g h = absurd g
 variable (Signed s p) g h = absurd g
 variable (Joined o a b) g h = absurd g
 
-value : (d : Direction) (p : Phrase) → MayStand d p → IsSource (tree p) → IsSourceValue d (tree p)
+value : (d : Direction) (p : Phrase77) → MayStand77 d p → IsSource (tree77_of p) → IsSourceValue d (tree77_of p)
 value Output p g h = h
 value Input p g h = variable p g h
 
@@ -94,7 +94,7 @@ text Output t g h = h
 text Input t g h = absurd cc
 
 mutual
-  source_item : (d : Direction) (i : ItemPhrase) → IsItem d i → AreSourceWords (written_item i) → IsSourceItem d (item_tree i)
+  source_item : (d : Direction) (i : ItemPhrase77) → IsItem77 d i → AreSourceWords (written_item77 i) → IsSourceItem d (item_tree77 i)
   source_item d (Value p) g h = value d p g.1 (source p g.0 h)
   source_item d (Text t) g h = text d t g h.0
   source_item d (Loop is k) g h =
@@ -107,20 +107,20 @@ mutual
         source_items d is g.0 w.inside,
       )
 
-  pub source_items : (d : Direction) (is : ItemPhrases) → AreItems d is → AreSourceWords (written_items is) → AreSourceItems d (items (item_trees is))
+  pub source_items : (d : Direction) (is : ItemPhrases77) → AreItems77 d is → AreSourceWords (written_items77 is) → AreSourceItems d (items (item_trees77 is))
   source_items d (Sole i) g h = (source_item d i g h, tt)
   source_items d (More is i) g h =
-      item_push d (item_trees is) (item_tree i) (source_items d is g.0 (left_words (written_items is) (words.Comma ∷ written_item i) h))
-      (source_item d i g.1 (right_words (written_items is) (words.Comma ∷ written_item i) h).1)
+      item_push d (item_trees77 is) (item_tree77 i) (source_items d is g.0 (left_words (written_items77 is) (words.Comma ∷ written_item77 i) h))
+      (source_item d i g.1 (right_words (written_items77 is) (words.Comma ∷ written_item77 i) h).1)
 
 -- ---- depth
 
 mutual
-  item_within : (d : Direction) (i : ItemPhrase) → IsItem d i → depth_of_item (item_tree i) ≤ item_depth i
+  item_within : (d : Direction) (i : ItemPhrase77) → IsItem77 d i → depth_of_item (item_tree77 i) ≤ item_depth77 i
   item_within d (Value p) g = within p g.0
   item_within d (Text t) g = omega arith
   item_within d (Loop is k) g = omega (arith, items_within d is g.0, within k.first g.1.0, within k.last g.1.1, step_within k.step g.1.2)
 
-  pub items_within : (d : Direction) (is : ItemPhrases) → AreItems d is → depth_of_items (items (item_trees is)) ≤ items_depth is
+  pub items_within : (d : Direction) (is : ItemPhrases77) → AreItems77 d is → depth_of_items (items (item_trees77 is)) ≤ items_depth77 is
   items_within d (Sole i) g = omega (arith, item_within d i g)
-  items_within d (More is i) g = omega (arith, items_within d is g.0, item_within d i g.1, depth_push (item_trees is) (item_tree i))
+  items_within d (More is i) g = omega (arith, items_within d is g.0, item_within d i g.1, depth_push (item_trees77 is) (item_tree77 i))

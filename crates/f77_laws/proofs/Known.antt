@@ -14,10 +14,10 @@ use Rattle.meaning.specs.Store.{Store, Cell}
 use Rattle.meaning.specs.Value.{is_in_range}
 use Rattle.f77_grammar.specs.Statement77.{Entity, NamedConstant, Labelled, Statement77, Program, Declare, Dimension, Constants, Test}
 use Rattle.f77_grammar.specs.program.Text.{places, places_from}
-use Rattle.f77_grammar.specs.program.Uses.{Role, Title, uses_in_bounds, Defined, Use, use_of, uses_in, bounded_uses, dimensioned_uses, typed_uses, defined_uses, uses_of, uses_in_text, is_typed, is_bounded, is_defined, is_bare, stands, is_constant, is_variable, kind_of_name}
+use Rattle.f77_grammar.specs.program.Uses.{Role, Title, uses_in_bounds, Defined, Use77, use77_of, uses77_in, bounded_uses, dimensioned_uses, typed_uses, defined_uses, uses77_of, uses_in_text, is_typed, is_bounded, is_defined, is_bare_role, stands, is_constant_name, is_variable, kind_of_name}
 use Rattle.f77_grammar.specs.program.Kinds.{has_kind, suits, calls_hidden}
 use Rattle.f77_grammar.specs.program.Limits.{constants_of, dimension_of, definitions_of, bounds_of_name, bounds_declared, is_no_constant}
-use Rattle.f77_grammar.specs.program.Tree.{bounds_in, variables_of, declaration_of}
+use Rattle.f77_grammar.specs.program.Tree.{bounds_or_empty, program_variables_of, declaration_of_name}
 use Rattle.f77_laws.specs.Source.{IsSourceAction, IsSourceStatement, IsSourceCard}
 use Rattle.f77_laws.proofs.Lists.{left_true, right_true, left_false, affirmed, not_both, all_weaker, all_both, all_at, all_true, none_any, found, FromFlat, from_flat, cases_of}
 use Rattle.f77_laws.proofs.Places.{place_of}
@@ -48,22 +48,22 @@ proper_text (x ∷ xs) h = (proper x.statement h.0.statement, proper_text xs h.1
 -- ---- variables
 
 -- a variable has a use
-pub variable_named : (us : List Use) (x : List ℕ) → is_variable us x ≡ true → Contains (variables_of us) x
-variable_named us x h = by (or_cases (stands is_typed us x || stands is_bounded us x) (stands is_bare us x) (left_true (stands is_typed us x || stands is_bounded us x || stands is_bare us x) (not (is_constant us x)) h))
+pub variable_named : (us : List Use77) (x : List ℕ) → is_variable us x ≡ true → Contains (program_variables_of us) x
+variable_named us x h = by (or_cases (stands is_typed us x || stands is_bounded us x) (stands is_bare_role us x) (left_true (stands is_typed us x || stands is_bounded us x || stands is_bare_role us x) (not (is_constant_name us x)) h))
   where
-    of_role : (test : Role → Bool) → stands test us x ≡ true → Contains (variables_of us) x
+    of_role : (test : Role → Bool) → stands test us x ≡ true → Contains (program_variables_of us) x
     of_role test e =
-        let f = found (λ (u : Use). test u.role && bytes_eq u.name x) us e in
+        let f = found (λ (u : Use77). test u.role && bytes_eq u.name x) us e in
         let n = same_name f.it.name x (right_true (test f.it.role) (bytes_eq f.it.name x) f.passes) in
-        subst (λ (y : List ℕ). Contains (variables_of us) y) n (is_among_variables us f.it f.among (ap (is_variable us) n ∙ h))
+        subst (λ (y : List ℕ). Contains (program_variables_of us) y) n (is_among_variables us f.it f.among (ap (is_variable us) n ∙ h))
 
-    first : (stands is_typed us x ≡ true) ⊎ (stands is_bounded us x ≡ true) → Contains (variables_of us) x
+    first : (stands is_typed us x ≡ true) ⊎ (stands is_bounded us x ≡ true) → Contains (program_variables_of us) x
     first (inl e) = of_role is_typed e
     first (inr e) = of_role is_bounded e
 
-    by : ((stands is_typed us x || stands is_bounded us x) ≡ true) ⊎ (stands is_bare us x ≡ true) → Contains (variables_of us) x
+    by : ((stands is_typed us x || stands is_bounded us x) ≡ true) ⊎ (stands is_bare_role us x ≡ true) → Contains (program_variables_of us) x
     by (inl e) = first (or_cases (stands is_typed us x) (stands is_bounded us x) e)
-    by (inr e) = of_role is_bare e
+    by (inr e) = of_role is_bare_role e
 
 -- ---- constants
 
@@ -75,30 +75,30 @@ record IsDefinedIn (text : List Labelled) (x : List ℕ) : Type 0 where
   defines : Contains (definitions_of card.statement) definition
   same : definition.name ≡ x
 
-no_role : (us : List Use) (u : Use) → ArePlain us → Contains us u → is_defined u.role ≡ true → ⊥
+no_role : (us : List Use77) (u : Use77) → ArePlain us → Contains us u → is_defined u.role ≡ true → ⊥
 no_role us u h c e = by u.role (all_at IsPlainUse us u h c) e
   where
     by : (r : Role) → IsPlainRole r → is_defined r ≡ true → ⊥
     by Defined h e = h
     by r h e = cc
 
-record Defines (ds : List NamedConstant) (u : Use) : Type 0 where
+record Defines (ds : List NamedConstant) (u : Use77) : Type 0 where
   definition : NamedConstant
   among : Contains ds definition
   same : definition.name ≡ u.name
 
-in_definitions : (ds : List NamedConstant) (u : Use) → Contains (flat_map defined_uses ds) u → is_defined u.role ≡ true → Defines ds u
+in_definitions : (ds : List NamedConstant) (u : Use77) → Contains (flat_map defined_uses ds) u → is_defined u.role ≡ true → Defines ds u
 in_definitions ds u c e = by (from_flat defined_uses ds u c)
   where
-    here_or : (d : NamedConstant) → Contains ds d → (use_of d.name Defined ≡ u) ⊎ Contains (uses_in d.value) u → Defines ds u
-    here_or d c (inl f) = record { definition = d; among = c; same = ap (λ (v : Use). v.name) f }
-    here_or d c (inr g) = absurd (no_role (uses_in d.value) u (plain_in d.value) g e)
+    here_or : (d : NamedConstant) → Contains ds d → (use77_of d.name Defined ≡ u) ⊎ Contains (uses77_in d.value) u → Defines ds u
+    here_or d c (inl f) = record { definition = d; among = c; same = ap (λ (v : Use77). v.name) f }
+    here_or d c (inr g) = absurd (no_role (uses77_in d.value) u (plain_in d.value) g e)
 
     by : FromFlat defined_uses ds u → Defines ds u
-    by f = here_or f.it f.among (cases_of (use_of f.it.name Defined) (uses_in f.it.value) u f.gives)
+    by f = here_or f.it f.among (cases_of (use77_of f.it.name Defined) (uses77_in f.it.value) u f.gives)
 
-abbrev AreUndefined : List Use → Type 0
-AreUndefined us = AllByRecursion (λ (u : Use). is_defined u.role ≡ false) us
+abbrev AreUndefined : List Use77 → Type 0
+AreUndefined us = AllByRecursion (λ (u : Use77). is_defined u.role ≡ false) us
 
 undefined_role : (r : Role) → IsPlainRole r → is_defined r ≡ false
 undefined_role Defined h = absurd h
@@ -106,31 +106,31 @@ undefined_role r h = refl
 
 undefined_bounds : (x : List ℕ) (bs : List (Expression × Expression)) → AreUndefined (bounded_uses x bs)
 undefined_bounds x [] = tt
-undefined_bounds x (b ∷ bs) = (refl, all_weaker IsPlainUse (λ (u : Use). is_defined u.role ≡ false) (λ u. undefined_role u.role) (uses_in_bounds (b ∷ bs)) (plain_in_bounds (b ∷ bs)))
+undefined_bounds x (b ∷ bs) = (refl, all_weaker IsPlainUse (λ (u : Use77). is_defined u.role ≡ false) (λ u. undefined_role u.role) (uses_in_bounds (b ∷ bs)) (plain_in_bounds (b ∷ bs)))
 
 undefined_typed : (k : Kind) (es : List Entity) → AreUndefined (flat_map (typed_uses k) es)
 undefined_typed k [] = tt
-undefined_typed k (e ∷ es) = (refl, all_both (λ (u : Use). is_defined u.role ≡ false) (dimensioned_uses e) (flat_map (typed_uses k) es) (undefined_bounds e.name e.bounds) (undefined_typed k es))
+undefined_typed k (e ∷ es) = (refl, all_both (λ (u : Use77). is_defined u.role ≡ false) (dimensioned_uses e) (flat_map (typed_uses k) es) (undefined_bounds e.name e.bounds) (undefined_typed k es))
 
 undefined_dimensioned : (es : List Entity) → AreUndefined (flat_map dimensioned_uses es)
 undefined_dimensioned [] = tt
-undefined_dimensioned (e ∷ es) = all_both (λ (u : Use). is_defined u.role ≡ false) (dimensioned_uses e) (flat_map dimensioned_uses es) (undefined_bounds e.name e.bounds) (undefined_dimensioned es)
+undefined_dimensioned (e ∷ es) = all_both (λ (u : Use77). is_defined u.role ≡ false) (dimensioned_uses e) (flat_map dimensioned_uses es) (undefined_bounds e.name e.bounds) (undefined_dimensioned es)
 
-undefined_there : (us : List Use) (u : Use) → AreUndefined us → Contains us u → is_defined u.role ≡ true → ⊥
-undefined_there us u h c e = not_both (is_defined u.role) e (all_at (λ (v : Use). is_defined v.role ≡ false) us u h c)
+undefined_there : (us : List Use77) (u : Use77) → AreUndefined us → Contains us u → is_defined u.role ≡ true → ⊥
+undefined_there us u h c e = not_both (is_defined u.role) e (all_at (λ (v : Use77). is_defined v.role ≡ false) us u h c)
 
-statement_defines : (c : Statement77) (u : Use) → IsProper c → Contains (uses_of c) u → is_defined u.role ≡ true → Defines (definitions_of c) u
-statement_defines (Program y) u p c e = absurd (undefined_there (use_of y Title ∷ []) u (refl, tt) c e)
+statement_defines : (c : Statement77) (u : Use77) → IsProper c → Contains (uses77_of c) u → is_defined u.role ≡ true → Defines (definitions_of c) u
+statement_defines (Program y) u p c e = absurd (undefined_there (use77_of y Title ∷ []) u (refl, tt) c e)
 statement_defines (Declare k es) u p c e = absurd (undefined_there (flat_map (typed_uses k) es) u (undefined_typed k es) c e)
 statement_defines (Dimension es) u p c e = absurd (undefined_there (flat_map dimensioned_uses es) u (undefined_dimensioned es) c e)
 statement_defines (Constants ds) u p c e = in_definitions ds u c e
-statement_defines (Test d b) u p c e = absurd (no_role (uses_of (Test d b)) u (plain_of (Test d b) p) c e)
-statement_defines s u p c e = absurd (no_role (uses_of s) u (plain_of s tt) c e)
+statement_defines (Test d b) u p c e = absurd (no_role (uses77_of (Test d b)) u (plain_of (Test d b) p) c e)
+statement_defines s u p c e = absurd (no_role (uses77_of s) u (plain_of s tt) c e)
 
-defined_in : (text : List Labelled) (x : List ℕ) → AreProper text → is_constant (uses_in_text text) x ≡ true → IsDefinedIn text x
+defined_in : (text : List Labelled) (x : List ℕ) → AreProper text → is_constant_name (uses_in_text text) x ≡ true → IsDefinedIn text x
 defined_in text x p h =
-    let f = found (λ (u : Use). is_defined u.role && bytes_eq u.name x) (uses_in_text text) h in
-    let g = from_flat (λ (y : Labelled). uses_of y.statement) text f.it f.among in
+    let f = found (λ (u : Use77). is_defined u.role && bytes_eq u.name x) (uses_in_text text) h in
+    let g = from_flat (λ (y : Labelled). uses77_of y.statement) text f.it f.among in
     let d = statement_defines g.it.statement f.it (all_at (λ (y : Labelled). IsProper y.statement) text g.it p g.among) g.gives (left_true (is_defined f.it.role) (bytes_eq f.it.name x) f.passes) in
     record {
       card = g.it;
@@ -143,7 +143,7 @@ defined_in text x p h =
 -- ---- kinds of definitions
 
 module _ (d : Dialect) (text : List Labelled) where
-  abbrev us : List Use
+  abbrev us : List Use77
   us = uses_in_text text
 
   abbrev s : Store
@@ -157,7 +157,7 @@ module _ (d : Dialect) (text : List Labelled) where
   defines_kinds before [] r = tt
   defines_kinds before (x ∷ xs) r =
       all_both (λ (c : NamedConstant). has_kind us c.value (kind_of_name us c.name) ≡ true) (definitions_of x.statement) (flat_map (λ (y : Labelled). definitions_of y.statement) xs)
-      (defines_kinds_here x.statement (affirmed (suits us x.statement) (left_false (not (suits us x.statement)) (list_any (calls_hidden us) (uses_of x.statement)) r.0.kinds)))
+      (defines_kinds_here x.statement (affirmed (suits us x.statement) (left_false (not (suits us x.statement)) (list_any (calls_hidden us) (uses77_of x.statement)) r.0.kinds)))
       (defines_kinds (x ∷ before) xs r.1)
 
   pub keeps_kinds : AllByRecursion (IsRight text) (places text) → KeepsKinds d us s
@@ -167,7 +167,7 @@ module _ (d : Dialect) (text : List Labelled) where
   has_bad_bounds c = list_any (λ bs. list_any (λ b. is_no_constant d s b.0 || is_no_constant d s b.1) bs) (bounds_declared c)
 
   -- a symbolic constant has a value
-  has_value : AllByRecursion (HasValues d text) (places text) → AreProper text → (x : List ℕ) → is_constant us x ≡ true → is_none (s.bounds x) ≡ false
+  has_value : AllByRecursion (HasValues d text) (places text) → AreProper text → (x : List ℕ) → is_constant_name us x ≡ true → is_none (s.bounds x) ≡ false
   has_value r p x h =
       let m = defined_in text x p h in
       let q = place_of (HasValues d text) [] text m.card r m.among in
@@ -199,16 +199,16 @@ module _ (d : Dialect) (text : List Labelled) where
           record { kind = k.kind c refl; range = literal_range (s.held c) b (k.range c refl) }
 
   abbrev pub declarations : List Declaration
-  declarations = map (declaration_of d us s text) (variables_of us)
+  declarations = map (declaration_of_name d us s text) (program_variables_of us)
 
   pub knows : d.bits ≤ 126 → AllByRecursion (IsRight text) (places text) → AllByRecursion (HasValues d text) (places text) → AreProper text → Knows us s declarations
   knows b r v p = record {
     variable = λ x h. record {
-      it = declaration_of d us s text x;
-      is = declared_name d us s text (variables_of us) x (variable_named us x h);
+      it = declaration_of_name d us s text x;
+      is = declared_name d us s text (program_variables_of us) x (variable_named us x h);
       kind = refl;
-      many = length-map (bounds_of_name text x) (λ b. bounds_in (dimension_of d s b)) ∙ number_of_bounds text x p;
+      many = length-map (bounds_of_name text x) (λ b. bounds_or_empty (dimension_of d s b)) ∙ number_of_bounds text x p;
     };
-    other = λ x h. undeclared_name d us s text (variables_of us) x (λ c. not_both (is_variable us x) (variable_used us x c).variable h);
+    other = λ x h. undeclared_name d us s text (program_variables_of us) x (λ c. not_both (is_variable us x) (variable_used us x c).variable h);
     constant = λ x h. valued x b (keeps_kinds r) (has_value v p x h);
   }

@@ -6,10 +6,10 @@ use Rattle.tree.specs.Plain as tree
 use Rattle.tree.specs.Plain.{Expression}
 use Rattle.meaning.specs.Store.{Store}
 use Rattle.f77_grammar.specs.Statement77.{Labelled, Statement77, Program, ImplicitNone, Declare, Dimension, Constants, Assign, Go, Test, If, ElseIf, Else, EndIf, Do, EndDo, Continue, Stop, Read, Print, End}
-use Rattle.f77_grammar.specs.program.Text.{places_from, is_label, bears, stands_in, action}
-use Rattle.f77_grammar.specs.program.Uses.{Use}
-use Rattle.meaning.specs.Profile77.{all_labels_of, all_labels_in_arms, all_labels_in, targets_of, targets_in_arms, targets_in, IsWithoutRepeats, statements_in_arms, statements_in}
-use Rattle.f77_grammar.specs.program.Tree.{mark_of, simple, target, targets}
+use Rattle.f77_grammar.specs.program.Text.{places_from, is_label, bears, label_stands_in, action}
+use Rattle.f77_grammar.specs.program.Uses.{Use77}
+use Rattle.meaning.specs.Profile77.{all_labels_of, all_labels_in_arms, all_labels_in, targets_of, targets_in_arms, targets_in, IsWithoutRepeats, statement_count_in_arms, statement_count_in}
+use Rattle.f77_grammar.specs.program.Tree.{label_before, simple, target, targets}
 use Rattle.f77_laws.specs.trees.Steps.{Rest, Outermost, InArm, outermost_block, rest_from}
 use Rattle.f77_laws.specs.Source.{IsSourceAction, IsSourceStatement, IsSourceCard}
 use Rattle.f77_laws.proofs.Lists.{left_false, right_false, here, there, nowhere, cases_of, Found, found, all_of}
@@ -103,14 +103,14 @@ of_targets n = record {
   of_do = λ line v a b c body. (let e = occurs_appended n (targets_in body) [] in omega (arith, e));
 }
 
-statements_appended : (cs es : List tree.Statement) → statements_in (tree.block (cs ++ es)) ≡ statements_in (tree.block cs) + statements_in (tree.block es)
+statements_appended : (cs es : List tree.Statement) → statement_count_in (tree.block (cs ++ es)) ≡ statement_count_in (tree.block cs) + statement_count_in (tree.block es)
 statements_appended [] es = omega arith
 statements_appended (c ∷ cs) es = let a = statements_appended cs es in omega (arith, a)
 
 abbrev of_statements : Measure
 of_statements = record {
-  blocks = statements_in;
-  arms = statements_in_arms;
+  blocks = statement_count_in;
+  arms = statement_count_in_arms;
   own = 1;
   none = refl;
   appended = statements_appended;
@@ -125,7 +125,7 @@ in_outermost : (m : Measure) (ls : List Loop) (r : Rest) → IsShaped (Base ls) 
 in_outermost m ls (Outermost ps) h = refl
 in_outermost m ls (InArm ps arms other r) h = absurd h
 
-module _ (us : List Use) (s : Store) (named : List ℕ) where
+module _ (us : List Use77) (s : Store) (named : List ℕ) where
   -- ---- labels
 
   -- by what the label of each statement adds
@@ -137,7 +137,7 @@ module _ (us : List Use) (s : Store) (named : List ℕ) where
   no_labels line (Test c b) = ap (λ ns. ((ns ++ []) ++ []) ++ []) (no_labels line b)
   no_labels line c = refl
 
-  labels_total : (n : ℕ) (w : Option ℕ → ℕ) → ((end : Option ℕ) → occurs n (all_labels_in (tree.block (mark_of named end))) ≤ w end) → (xs : List Labelled)
+  labels_total : (n : ℕ) (w : Option ℕ → ℕ) → ((end : Option ℕ) → occurs n (all_labels_in (tree.block (label_before named end))) ≤ w end) → (xs : List Labelled)
       → in_rest (of_labels n) (rest_from us s named xs) ≤ total w xs
   labels_total n w h [] = omega arith
   labels_total n w h (x ∷ xs) =
@@ -151,7 +151,7 @@ module _ (us : List Use) (s : Store) (named : List ℕ) where
   label_count n None = 0
   label_count n (Some m) = one_if (m == n)
 
-  mark_counts : (n : ℕ) (end : Option ℕ) → occurs n (all_labels_in (tree.block (mark_of named end))) ≤ label_count n end
+  mark_counts : (n : ℕ) (end : Option ℕ) → occurs n (all_labels_in (tree.block (label_before named end))) ≤ label_count n end
   mark_counts n None = omega arith
   mark_counts n (Some m) = by (list_any (λ k. k == m) named)
     where
@@ -159,7 +159,7 @@ module _ (us : List Use) (s : Store) (named : List ℕ) where
       by true = omega arith
       by false = omega arith
 
-  no_mark : (n : ℕ) (end : Option ℕ) → list_any (λ k. k == n) named ≡ false → occurs n (all_labels_in (tree.block (mark_of named end))) ≤ 0
+  no_mark : (n : ℕ) (end : Option ℕ) → list_any (λ k. k == n) named ≡ false → occurs n (all_labels_in (tree.block (label_before named end))) ≤ 0
   no_mark n None h = omega arith
   no_mark n (Some m) h = by (m == n) refl
     where
@@ -177,11 +177,11 @@ module _ (us : List Use) (s : Store) (named : List ℕ) where
 
   -- in the text each stands once
 
-  none_stand : (n : ℕ) (xs : List Labelled) → stands_in xs n ≡ false → total (label_count n) xs ≡ 0
+  none_stand : (n : ℕ) (xs : List Labelled) → label_stands_in xs n ≡ false → total (label_count n) xs ≡ 0
   none_stand n [] h = refl
   none_stand n (x ∷ xs) h =
-      let a = not_counted x.label (left_false (bears n x) (stands_in xs n) h) in
-      let b = none_stand n xs (right_false (bears n x) (stands_in xs n) h) in
+      let a = not_counted x.label (left_false (bears n x) (label_stands_in xs n) h) in
+      let b = none_stand n xs (right_false (bears n x) (label_stands_in xs n) h) in
       omega (arith, a, b)
     where
       not_counted : (end : Option ℕ) → is_label n end ≡ false → label_count n end ≡ 0
@@ -200,7 +200,7 @@ module _ (us : List Use) (s : Store) (named : List ℕ) where
       by : (b : Bool) → bears n x ≡ b → total (label_count n) xs ≤ 1 → label_count n x.label + total (label_count n) xs ≤ 1
       by true e more =
           let a = counted x.label true e in
-          let d = none_stand n xs (stands_no_more text (x ∷ before) xs n h.1 (ap (λ t. t || stands_in before n) e)) in
+          let d = none_stand n xs (stands_no_more text (x ∷ before) xs n h.1 (ap (λ t. t || label_stands_in before n) e)) in
           omega (arith, a, d)
       by false e more = let a = counted x.label false e in omega (arith, a, more)
 
@@ -237,7 +237,7 @@ module _ (us : List Use) (s : Store) (named : List ℕ) where
 
   -- ---- how many statements there are
 
-  one_action : (line : ℕ) (c : Statement77) → IsSourceAction c → statements_in (tree.block (simple us s line c)) ≤ 1
+  one_action : (line : ℕ) (c : Statement77) → IsSourceAction c → statement_count_in (tree.block (simple us s line c)) ≤ 1
   one_action line (Assign left e) h = omega arith
   one_action line (Go n) h = omega arith
   one_action line Continue h = omega arith
@@ -258,15 +258,15 @@ module _ (us : List Use) (s : Store) (named : List ℕ) where
   one_action line EndDo h = absurd h
   one_action line End h = absurd h
 
-  two_statements : (line : ℕ) (c : Statement77) → IsSourceStatement c → statements_in (tree.block (simple us s line c)) ≤ 2
+  two_statements : (line : ℕ) (c : Statement77) → IsSourceStatement c → statement_count_in (tree.block (simple us s line c)) ≤ 2
   two_statements line (Test c b) h = let a = one_action line b h.1 in omega (arith, a)
   two_statements line c h = omega arith
 
-  one_mark : (end : Option ℕ) → statements_in (tree.block (mark_of named end)) ≤ 1
+  one_mark : (end : Option ℕ) → statement_count_in (tree.block (label_before named end)) ≤ 1
   one_mark None = omega arith
   one_mark (Some m) = by (list_any (λ k. k == m) named)
     where
-      by : (b : Bool) → statements_in (tree.block (cond b (tree.Label m ∷ []) [])) ≤ 1
+      by : (b : Bool) → statement_count_in (tree.block (cond b (tree.Label m ∷ []) [])) ≤ 1
       by true = omega arith
       by false = omega arith
 
@@ -281,7 +281,7 @@ module _ (us : List Use) (s : Store) (named : List ℕ) where
 
 -- ---- the tree of a text
 
-module _ (us : List Use) (s : Store) (text : List Labelled) (right : AllByRecursion (IsRight text) (places_from [] text)) where
+module _ (us : List Use77) (s : Store) (text : List Labelled) (right : AllByRecursion (IsRight text) (places_from [] text)) where
   abbrev pub body : tree.Block
   body = outermost_block (rest_from us s (targets text) text)
 
@@ -325,7 +325,7 @@ module _ (us : List Use) (s : Store) (text : List Labelled) (right : AllByRecurs
   pub each_label_named : AllByRecursion (Contains (targets_in body)) (all_labels_in body)
   each_label_named = all_of (Contains (targets_in body)) (all_labels_in body) is_named
 
-  pub few_statements : AllByRecursion IsSourceCard text → statements_in body ≤ 3 * length text
+  pub few_statements : AllByRecursion IsSourceCard text → statement_count_in body ≤ 3 * length text
   few_statements h =
       let a = three_each us s (targets text) text h in
       let b = in_outermost of_statements [] (rest_from us s (targets text) text) shaped in

@@ -4,8 +4,8 @@ use Rattle.tree.specs.Plain as tree
 use Rattle.tree.specs.Plain.{Expression}
 use Rattle.meaning.specs.Store.{Store}
 use Rattle.f77_grammar.specs.Statement77.{Labelled, Statement77, If, ElseIf, Else, EndIf, Do}
-use Rattle.f77_grammar.specs.program.Uses.{Use}
-use Rattle.f77_grammar.specs.program.Tree.{mark_of, resolved, simple}
+use Rattle.f77_grammar.specs.program.Uses.{Use77}
+use Rattle.f77_grammar.specs.program.Tree.{label_before, resolved, simple}
 use Rattle.f77_laws.specs.trees.Steps.{Piece, Rest, Outermost, InArm, block_of, up_to, beyond, preceded, loop_begun, begun}
 use Rattle.f77_laws.proofs.Frames.{Frames, Inner}
 use Rattle.f77_laws.proofs.Moves.{Moves}
@@ -57,24 +57,24 @@ module _ (m : Measure) where
   begun_loop line v a b c mark n (Outermost ps) = loop_measure line v a b c mark n ps
   begun_loop line v a b c mark n (InArm ps arms other r) = let e = loop_measure line v a b c mark n ps in omega (arith, e)
 
-  module _ (us : List Use) (s : Store) (named : List ℕ) where
+  module _ (us : List Use77) (s : Store) (named : List ℕ) where
     abbrev mark : Labelled → ℕ
-    mark x = m.blocks (tree.block (mark_of named x.label))
+    mark x = m.blocks (tree.block (label_before named x.label))
 
     abbrev alone : Labelled → Statement77 → ℕ
     alone x c = m.blocks (tree.block (simple us s x.line c))
 
-    simple_measure : (x : Labelled) (c : Statement77) (r : Rest) → in_rest (preceded (record { ends = x.label; made = mark_of named x.label ++ simple us s x.line c }) r) ≡ mark x + (alone x c + in_rest r)
+    simple_measure : (x : Labelled) (c : Statement77) (r : Rest) → in_rest (preceded (record { ends = x.label; made = label_before named x.label ++ simple us s x.line c }) r) ≡ mark x + (alone x c + in_rest r)
     simple_measure x c r =
-        let e = preceded_measure (record { ends = x.label; made = mark_of named x.label ++ simple us s x.line c }) r in
-        let f = m.appended (mark_of named x.label) (simple us s x.line c) in
+        let e = preceded_measure (record { ends = x.label; made = label_before named x.label ++ simple us s x.line c }) r in
+        let f = m.appended (label_before named x.label) (simple us s x.line c) in
         omega (arith, e, f)
 
     if_measure : (x : Labelled) (c : Expression) (ps : List Piece) (arms : tree.Arms) (other : tree.Block) (r : Rest)
         → in_rest (begun us s named x (If c) (InArm ps arms other r)) ≡ mark x + (m.own + in_rest (InArm ps arms other r))
     if_measure x c ps arms other r =
-        let e = preceded_measure (record { ends = None; made = mark_of named x.label ++ tree.If x.line (tree.arm (resolved us s c) (block_of ps) arms) other ∷ [] }) r in
-        let f = m.appended (mark_of named x.label) (tree.If x.line (tree.arm (resolved us s c) (block_of ps) arms) other ∷ []) in
+        let e = preceded_measure (record { ends = None; made = label_before named x.label ++ tree.If x.line (tree.arm (resolved us s c) (block_of ps) arms) other ∷ [] }) r in
+        let f = m.appended (label_before named x.label) (tree.If x.line (tree.arm (resolved us s c) (block_of ps) arms) other ∷ []) in
         let g = m.of_if x.line (tree.arm (resolved us s c) (block_of ps) arms) other in
         let h = m.more_arms (resolved us s c) (block_of ps) arms in
         omega (arith, e, f, g, h)
@@ -90,7 +90,7 @@ module _ (m : Measure) where
     at_most x Else n (InArm ps arms other r) h g = let e = m.none in omega (arith, e)
     at_most x (ElseIf c) n (Outermost ps) h g = omega arith
     at_most x (ElseIf c) n (InArm ps arms other r) h g = let e = m.none in let f = m.more_arms (resolved us s c) (block_of ps) arms in omega (arith, e, f)
-    at_most x (Do (Some k) v a b c) n r h g = let e = begun_loop x.line v (resolved us s a) (resolved us s b) (resolved us s c) (mark_of named x.label) k r in omega (arith, e, g)
+    at_most x (Do (Some k) v a b c) n r h g = let e = begun_loop x.line v (resolved us s a) (resolved us s b) (resolved us s c) (label_before named x.label) k r in omega (arith, e, g)
     at_most x c n r h g = let e = simple_measure x c r in omega (arith, e, h)
 
     -- ---- no less than
@@ -115,5 +115,5 @@ module _ (m : Measure) where
     at_least x Else f g r k h = let e = else_measure x k.outer r (subst (λ (i : Frames). IsShaped i r) k.after h) in omega (arith, e)
     at_least x (ElseIf c) f g (Outermost ps) k h = omega arith
     at_least x (ElseIf c) f g (InArm ps arms other r) k h = let e = m.none in let d = m.more_arms (resolved us s c) (block_of ps) arms in omega (arith, e, d)
-    at_least x (Do (Some i) v a b c) f g r k h = let e = begun_loop x.line v (resolved us s a) (resolved us s b) (resolved us s c) (mark_of named x.label) i r in omega (arith, e)
+    at_least x (Do (Some i) v a b c) f g r k h = let e = begun_loop x.line v (resolved us s a) (resolved us s b) (resolved us s c) (label_before named x.label) i r in omega (arith, e)
     at_least x c f g r k h = let e = simple_measure x c r in omega (arith, e)

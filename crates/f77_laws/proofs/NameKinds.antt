@@ -19,10 +19,10 @@ use Rattle.tree.specs.Functions.{function_named, name_of_function, suits_number}
 use Rattle.meaning.specs.Typed77.{number_of_arguments, number_of_subscripts, dimensions, declared, HasKind}
 use Rattle.meaning.specs.Typed77.{AreArguments, AreSubscripts, IsSubscript, IsDeclared}
 use Rattle.tree.specs.OperatorTable.{operand_kind, result_kind_of, is_unary}
-use Rattle.f77_grammar.specs.program.Uses.{Role, Valued, Use, use_of, uses_in, uses_in_subscripts, uses_in_subscript, is_typed, is_bare, is_bounded, stands, is_constant, is_variable, is_array, is_function, kind_of_name, dimensions_of_name}
+use Rattle.f77_grammar.specs.program.Uses.{Role, Valued, Use77, use77_of, uses77_in, uses77_in_subscripts, uses77_in_subscript, is_typed, is_bare_role, is_bounded, stands, is_constant_name, is_variable, is_array_name, is_function, kind_of_name, dimensions_of_name}
 use Rattle.f77_grammar.specs.program.Declarations.{is_misused, suits_list}
 use Rattle.f77_grammar.specs.program.Kinds.{same_kind, takes_so_many, has_kind, name_has_kind, list_has_kind, are_subscripts, is_subscript, is_hidden_name, calls_hidden}
-use Rattle.f77_grammar.specs.program.Tree.{literal, arguments_of, call_of, element_or_call, value_or_name, resolved, resolved_arguments, resolved_subscripts, resolved_subscript}
+use Rattle.f77_grammar.specs.program.Tree.{literal, arguments77_of, call_of, element_or_call, value_or_name, resolved, resolved_arguments, resolved_subscripts, resolved_subscript}
 use Rattle.f77_laws.proofs.Lists.{left_true, right_true, not_both, negated, affirmed, all_left, all_right, any_true}
 use Rattle.f77_laws.proofs.Variables.{same_name, equal_names}
 use Rattle.f77_laws.proofs.Dimensions.{no_dimensions}
@@ -30,36 +30,36 @@ use Rattle.f77_laws.proofs.ConstantValues.{kinds_same}
 
 -- ---- what is known of names: `us` their uses, `s` the values of constants, `ds` the declarations of the tree
 
-pub record IsDeclaredAs (us : List Use) (ds : List Declaration) (x : List ℕ) : Type 0 where
+pub record IsDeclaredAs (us : List Use77) (ds : List Declaration) (x : List ℕ) : Type 0 where
   pub it : Declaration
   pub is : declared ds x ≡ Some it
   pub kind : it.kind ≡ kind_of_name us x
   pub many : length (dimensions it.extent) ≡ dimensions_of_name us x
 
-pub record IsValued (us : List Use) (s : Store) (x : List ℕ) : Type 0 where
+pub record IsValued (us : List Use77) (s : Store) (x : List ℕ) : Type 0 where
   pub kind : kind_of (s.held (record { name = x; subscripts = [] })) ≡ kind_of_name us x
   pub range : is_in_range 126 (s.held (record { name = x; subscripts = [] })) ≡ true
 
-pub record Knows (us : List Use) (s : Store) (ds : List Declaration) : Type 0 where
+pub record Knows (us : List Use77) (s : Store) (ds : List Declaration) : Type 0 where
   pub variable : (x : List ℕ) → is_variable us x ≡ true → IsDeclaredAs us ds x
   pub other : (x : List ℕ) → is_variable us x ≡ false → declared ds x ≡ None
-  pub constant : (x : List ℕ) → is_constant us x ≡ true → IsValued us s x
+  pub constant : (x : List ℕ) → is_constant_name us x ≡ true → IsValued us s x
 
 -- nothing is wrong with a use of a name
-pub record IsGood (us : List Use) (u : Use) : Type 0 where
+pub record IsGood (us : List Use77) (u : Use77) : Type 0 where
   pub among : Contains us u
   pub suits : is_misused us u ≡ false
   pub shown : calls_hidden us u ≡ false
 
-abbrev pub AreGood : List Use → List Use → Type 0
+abbrev pub AreGood : List Use77 → List Use77 → Type 0
 AreGood us vs = AllByRecursion (IsGood us) vs
 
-module _ (us : List Use) where
+module _ (us : List Use77) where
   -- ---- what a name is
 
-  pub stands_so : (test : Role → Bool) (x : List ℕ) (r : Role) → Contains us (use_of x r) → test r ≡ true → stands test us x ≡ true
+  pub stands_so : (test : Role → Bool) (x : List ℕ) (r : Role) → Contains us (use77_of x r) → test r ≡ true → stands test us x ≡ true
   stands_so test x r h e =
-      any_true (λ (u : Use). test u.role && bytes_eq u.name x) us (use_of x r) h (ap (λ b. b && bytes_eq x x) e ∙ equal_names x x refl)
+      any_true (λ (u : Use77). test u.role && bytes_eq u.name x) us (use77_of x r) h (ap (λ b. b && bytes_eq x x) e ∙ equal_names x x refl)
 
   bare_or : (a b c : Bool) → c ≡ true → (a || b || c) ≡ true
   bare_or true b c h = refl
@@ -71,11 +71,11 @@ module _ (us : List Use) where
   and_not true false h g = refl
   and_not false b h g = absurd cc
 
-  pub bare_variable : (x : List ℕ) → stands is_bare us x ≡ true → is_constant us x ≡ false → is_variable us x ≡ true
-  bare_variable x h g = and_not (stands is_typed us x || stands is_bounded us x || stands is_bare us x) (is_constant us x) (bare_or (stands is_typed us x) (stands is_bounded us x) (stands is_bare us x) h) g
+  pub bare_variable : (x : List ℕ) → stands is_bare_role us x ≡ true → is_constant_name us x ≡ false → is_variable us x ≡ true
+  bare_variable x h g = and_not (stands is_typed us x || stands is_bounded us x || stands is_bare_role us x) (is_constant_name us x) (bare_or (stands is_typed us x) (stands is_bounded us x) (stands is_bare_role us x) h) g
 
-  pub array_variable : (x : List ℕ) → is_array us x ≡ true → is_variable us x ≡ true
-  array_variable x h = by (stands is_typed us x) (stands is_bounded us x) (stands is_bare us x) (is_constant us x) h
+  pub array_variable : (x : List ℕ) → is_array_name us x ≡ true → is_variable us x ≡ true
+  array_variable x h = by (stands is_typed us x) (stands is_bounded us x) (stands is_bare_role us x) (is_constant_name us x) h
     where
       by : (a b c d : Bool) → (b && not d) ≡ true → ((a || b || c) && not d) ≡ true
       by true b c true h = absurd (not_both (b && false) h (falls b))
@@ -88,8 +88,8 @@ module _ (us : List Use) where
       by false true c false h = refl
       by false false c d h = absurd cc
 
-  pub no_array : (x : List ℕ) → is_array us x ≡ false → is_constant us x ≡ false → dimensions_of_name us x ≡ 0
-  no_array x h g = no_dimensions us x (by (stands is_bounded us x) (is_constant us x) h g)
+  pub no_array : (x : List ℕ) → is_array_name us x ≡ false → is_constant_name us x ≡ false → dimensions_of_name us x ≡ 0
+  no_array x h g = no_dimensions us x (by (stands is_bounded us x) (is_constant_name us x) h g)
     where
       by : (a b : Bool) → (a && not b) ≡ false → b ≡ false → a ≡ false
       by true true h g = absurd cc
@@ -97,7 +97,7 @@ module _ (us : List Use) where
       by false b h g = refl
 
   pub function_no_variable : (x : List ℕ) → is_function us x ≡ true → is_variable us x ≡ false
-  function_no_variable x h = by (is_some (function_named x)) (is_variable us x) (is_constant us x) h
+  function_no_variable x h = by (is_some (function_named x)) (is_variable us x) (is_constant_name us x) h
     where
       by : (a b c : Bool) → (a && not b && not c) ≡ true → b ≡ false
       by true true c h = absurd cc
@@ -119,30 +119,30 @@ literal_depth (Truth b) = omega arith
 
 -- ---- arguments
 
-arguments_suit : (ds : List Declaration) (ps : Subscripts) → AreSubscripts ds ps → AreArguments ds (arguments_of ps)
+arguments_suit : (ds : List Declaration) (ps : Subscripts) → AreSubscripts ds ps → AreArguments ds (arguments77_of ps)
 arguments_suit ds no_subscripts h = tt
 arguments_suit ds (subscript (Only e) ps) h = (h.0, arguments_suit ds ps h.1)
 arguments_suit ds (subscript p ps) h = absurd h.0
 
-as_many_arguments : (ds : List Declaration) (ps : Subscripts) → AreSubscripts ds ps → number_of_arguments (arguments_of ps) ≡ number_of_subscripts ps
+as_many_arguments : (ds : List Declaration) (ps : Subscripts) → AreSubscripts ds ps → number_of_arguments (arguments77_of ps) ≡ number_of_subscripts ps
 as_many_arguments ds no_subscripts h = refl
 as_many_arguments ds (subscript (Only e) ps) h = ap (λ n. 1 + n) (as_many_arguments ds ps h.1)
 as_many_arguments ds (subscript p ps) h = absurd h.0
 
-arguments_depth : (ps : Subscripts) → 1 + depth_of_each (arguments_of ps) ≤ max 1 (depth_of_subscripts ps)
+arguments_depth : (ps : Subscripts) → 1 + depth_of_each (arguments77_of ps) ≤ max 1 (depth_of_subscripts ps)
 arguments_depth no_subscripts = omega arith
 arguments_depth (subscript (Only e) ps) = let h = arguments_depth ps in omega (arith, h)
 arguments_depth (subscript (Section a b c) ps) = let h = arguments_depth ps in omega (arith, h)
 
 -- ---- kinds
 
-module _ (us : List Use) (s : Store) (ds : List Declaration) (knows : Knows us s ds) where
+module _ (us : List Use77) (s : Store) (ds : List Declaration) (knows : Knows us s ds) where
   pub as_many : (ps : Subscripts) → number_of_subscripts (resolved_subscripts us s ps) ≡ number_of_subscripts ps
   as_many no_subscripts = refl
   as_many (subscript p ps) = ap (λ n. 1 + n) (as_many ps)
 
   -- a scalar variable
-  pub scalar_kind : (x : List ℕ) → is_variable us x ≡ true → is_array us x ≡ false → is_constant us x ≡ false → HasKind ds (Named x no_subscripts) (kind_of_name us x)
+  pub scalar_kind : (x : List ℕ) → is_variable us x ≡ true → is_array_name us x ≡ false → is_constant_name us x ≡ false → HasKind ds (Named x no_subscripts) (kind_of_name us x)
   scalar_kind x v a c = (by (knows.variable x v), tt)
     where
       by : IsDeclaredAs us ds x → IsSomeAnd (declared ds x) (λ d. (kind_of_name us x ≡ d.kind) × (0 ≡ length (dimensions d.extent)))
@@ -155,7 +155,7 @@ module _ (us : List Use) (s : Store) (ds : List Declaration) (knows : Knows us s
       by d = subst (λ (o : Option Declaration). IsSomeAnd o (λ e. Unit {0})) (sym d.is) tt
 
   -- an element
-  pub element_kind : (x : List ℕ) (n : ℕ) (ps : Subscripts) → is_array us x ≡ true → suits_list us x (suc n) ≡ true → number_of_subscripts ps ≡ suc n → AreSubscripts ds ps
+  pub element_kind : (x : List ℕ) (n : ℕ) (ps : Subscripts) → is_array_name us x ≡ true → suits_list us x (suc n) ≡ true → number_of_subscripts ps ≡ suc n → AreSubscripts ds ps
       → HasKind ds (Named x ps) (kind_of_name us x)
   element_kind x n ps a u e h = (by (knows.variable x (array_variable us x a)), h)
     where
@@ -165,7 +165,7 @@ module _ (us : List Use) (s : Store) (ds : List Declaration) (knows : Knows us s
 
       by : IsDeclaredAs us ds x → IsSomeAnd (declared ds x) (λ d. (kind_of_name us x ≡ d.kind) × (number_of_subscripts ps ≡ length (dimensions d.extent)))
       by d = subst (λ (o : Option Declaration). IsSomeAnd o (λ f. (kind_of_name us x ≡ f.kind) × (number_of_subscripts ps ≡ length (dimensions f.extent)))) (sym d.is)
-          (sym d.kind, e ∙ counted (is_array us x) a u ∙ sym d.many)
+          (sym d.kind, e ∙ counted (is_array_name us x) a u ∙ sym d.many)
 
   -- a call
   call_kind : (x : List ℕ) (n : ℕ) (k : Kind) (ps : Subscripts) (f : Option Fun) → function_named x ≡ f → is_function us x ≡ true → takes_so_many f n ≡ true → k ≡ Integer
@@ -177,26 +177,26 @@ module _ (us : List Use) (s : Store) (ds : List Declaration) (knows : Knows us s
       by (inl a) = sym (ap (is_variable us) (same_name x (name_of_function f) (affirmed (bytes_eq x (name_of_function f)) a))) ∙ function_no_variable us x fun
       by (inr b) = b
 
-  bare_kind : (x : List ℕ) (k : Kind) (b : Bool) → is_constant us x ≡ b → Contains us (use_of x (Valued 0)) → (not (is_array us x) && same_kind (kind_of_name us x) k) ≡ true
+  bare_kind : (x : List ℕ) (k : Kind) (b : Bool) → is_constant_name us x ≡ b → Contains us (use77_of x (Valued 0)) → (not (is_array_name us x) && same_kind (kind_of_name us x) k) ≡ true
       → HasKind ds (value_or_name b x s) k
   bare_kind x k true c h g =
-      literal_kind ds (s.held (record { name = x; subscripts = [] })) k ((knows.constant x c).kind ∙ kinds_same (kind_of_name us x) k (right_true (not (is_array us x)) (same_kind (kind_of_name us x) k) g)) (knows.constant x c).range
+      literal_kind ds (s.held (record { name = x; subscripts = [] })) k ((knows.constant x c).kind ∙ kinds_same (kind_of_name us x) k (right_true (not (is_array_name us x)) (same_kind (kind_of_name us x) k) g)) (knows.constant x c).range
   bare_kind x k false c h g =
-      subst (λ (j : Kind). HasKind ds (Named x no_subscripts) j) (kinds_same (kind_of_name us x) k (right_true (not (is_array us x)) (same_kind (kind_of_name us x) k) g))
-      (scalar_kind x (bare_variable us x (stands_so us is_bare x (Valued 0) h refl) c) (negated (is_array us x) (left_true (not (is_array us x)) (same_kind (kind_of_name us x) k) g)) c)
+      subst (λ (j : Kind). HasKind ds (Named x no_subscripts) j) (kinds_same (kind_of_name us x) k (right_true (not (is_array_name us x)) (same_kind (kind_of_name us x) k) g))
+      (scalar_kind x (bare_variable us x (stands_so us is_bare_role x (Valued 0) h refl) c) (negated (is_array_name us x) (left_true (not (is_array_name us x)) (same_kind (kind_of_name us x) k) g)) c)
 
   -- a name with a list: an element or a call
-  list_kind : (x : List ℕ) (n : ℕ) (k : Kind) (ps : Subscripts) (b : Bool) → is_array us x ≡ b → IsGood us (use_of x (Valued (suc n))) → list_has_kind us x (suc n) k ≡ true
+  list_kind : (x : List ℕ) (n : ℕ) (k : Kind) (ps : Subscripts) (b : Bool) → is_array_name us x ≡ b → IsGood us (use77_of x (Valued (suc n))) → list_has_kind us x (suc n) k ≡ true
       → number_of_subscripts ps ≡ suc n → AreSubscripts ds ps → HasKind ds (element_or_call b x ps) k
   list_kind x n k ps true a u g m h =
-      subst (λ (j : Kind). HasKind ds (Named x ps) j) (by (or_cases (is_array us x && same_kind (kind_of_name us x) k) (is_function us x && takes_so_many (function_named x) (suc n) && same_kind Integer k) g))
+      subst (λ (j : Kind). HasKind ds (Named x ps) j) (by (or_cases (is_array_name us x && same_kind (kind_of_name us x) k) (is_function us x && takes_so_many (function_named x) (suc n) && same_kind Integer k) g))
       (element_kind x n ps a (affirmed (suits_list us x (suc n)) u.suits) m h)
     where
-      by : ((is_array us x && same_kind (kind_of_name us x) k) ≡ true) ⊎ ((is_function us x && takes_so_many (function_named x) (suc n) && same_kind Integer k) ≡ true) → kind_of_name us x ≡ k
-      by (inl f) = kinds_same (kind_of_name us x) k (right_true (is_array us x) (same_kind (kind_of_name us x) k) f)
+      by : ((is_array_name us x && same_kind (kind_of_name us x) k) ≡ true) ⊎ ((is_function us x && takes_so_many (function_named x) (suc n) && same_kind Integer k) ≡ true) → kind_of_name us x ≡ k
+      by (inl f) = kinds_same (kind_of_name us x) k (right_true (is_array_name us x) (same_kind (kind_of_name us x) k) f)
       by (inr f) = absurd (not_both (is_variable us x) (array_variable us x a)
           (function_no_variable us x (left_true (is_function us x) (takes_so_many (function_named x) (suc n)) (left_true (is_function us x && takes_so_many (function_named x) (suc n)) (same_kind Integer k) f))))
-  list_kind x n k ps false a u g m h = by (or_cases (is_array us x && same_kind (kind_of_name us x) k) (is_function us x && takes_so_many (function_named x) (suc n) && same_kind Integer k) g)
+  list_kind x n k ps false a u g m h = by (or_cases (is_array_name us x && same_kind (kind_of_name us x) k) (is_function us x && takes_so_many (function_named x) (suc n) && same_kind Integer k) g)
     where
       called : is_function us x ≡ true → takes_so_many (function_named x) (suc n) ≡ true → same_kind Integer k ≡ true → HasKind ds (call_of (function_named x) x ps) k
       called f t i = call_kind x (suc n) k ps (function_named x) refl f t (sym (kinds_same Integer k i)) (hidden (is_function us x) f u.shown) m h
@@ -205,8 +205,8 @@ module _ (us : List Use) (s : Store) (ds : List Declaration) (knows : Knows us s
           hidden true f e = e
           hidden false f e = absurd cc
 
-      by : ((is_array us x && same_kind (kind_of_name us x) k) ≡ true) ⊎ ((is_function us x && takes_so_many (function_named x) (suc n) && same_kind Integer k) ≡ true) → HasKind ds (call_of (function_named x) x ps) k
-      by (inl f) = absurd (not_both (is_array us x) (left_true (is_array us x) (same_kind (kind_of_name us x) k) f) a)
+      by : ((is_array_name us x && same_kind (kind_of_name us x) k) ≡ true) ⊎ ((is_function us x && takes_so_many (function_named x) (suc n) && same_kind Integer k) ≡ true) → HasKind ds (call_of (function_named x) x ps) k
+      by (inl f) = absurd (not_both (is_array_name us x) (left_true (is_array_name us x) (same_kind (kind_of_name us x) k) f) a)
       by (inr f) =
           let both = left_true (is_function us x && takes_so_many (function_named x) (suc n)) (same_kind Integer k) f in
           called (left_true (is_function us x) (takes_so_many (function_named x) (suc n)) both) (right_true (is_function us x) (takes_so_many (function_named x) (suc n)) both) (right_true (is_function us x && takes_so_many (function_named x) (suc n)) (same_kind Integer k) f)
@@ -216,13 +216,13 @@ module _ (us : List Use) (s : Store) (ds : List Declaration) (knows : Knows us s
   number_kind (negsuc n) k h g = absurd h
 
   mutual
-    pub kinds : (e : Expression) (k : Kind) → IsSource e → AreGood us (uses_in e) → has_kind us e k ≡ true → HasKind ds (resolved us s e) k
+    pub kinds : (e : Expression) (k : Kind) → IsSource e → AreGood us (uses77_in e) → has_kind us e k ≡ true → HasKind ds (resolved us s e) k
     kinds (Number n) k h u g = number_kind n k h g
     kinds (Logic b) k h u g = sym (kinds_same Logical k g)
-    kinds (Named x no_subscripts) k h u g = bare_kind x k (is_constant us x) refl u.0.among (left_true (name_has_kind us x 0 k) true g)
+    kinds (Named x no_subscripts) k h u g = bare_kind x k (is_constant_name us x) refl u.0.among (left_true (name_has_kind us x 0 k) true g)
     kinds (Named x (subscript p ps)) k h u g =
-        list_kind x (number_of_subscripts ps) k (resolved_subscripts us s (subscript p ps)) (is_array us x) refl
-        (subst (λ (n : ℕ). IsGood us (use_of x (Valued n))) (one-add (number_of_subscripts ps)) u.0)
+        list_kind x (number_of_subscripts ps) k (resolved_subscripts us s (subscript p ps)) (is_array_name us x) refl
+        (subst (λ (n : ℕ). IsGood us (use77_of x (Valued n))) (one-add (number_of_subscripts ps)) u.0)
         (sym (ap (λ n. name_has_kind us x n k) (one-add (number_of_subscripts ps))) ∙ left_true (name_has_kind us x (1 + number_of_subscripts ps) k) (are_subscripts us (subscript p ps)) g)
         (as_many (subscript p ps) ∙ one-add (number_of_subscripts ps))
         (subscript_kinds (subscript p ps) h.1 u.1 (right_true (name_has_kind us x (1 + number_of_subscripts ps) k) (are_subscripts us (subscript p ps)) g))
@@ -237,19 +237,19 @@ module _ (us : List Use) (s : Store) (ds : List Declaration) (knows : Knows us s
         let first = left_true (not (is_unary o) && same_kind (result_kind_of o) k) (has_kind us a (operand_kind o)) front in (
           left_true (not (is_unary o)) (same_kind (result_kind_of o) k) first,
           sym (kinds_same (result_kind_of o) k (right_true (not (is_unary o)) (same_kind (result_kind_of o) k) first)),
-          kinds a (operand_kind o) h.1 (all_left (IsGood us) (uses_in a) (uses_in b) u) (right_true (not (is_unary o) && same_kind (result_kind_of o) k) (has_kind us a (operand_kind o)) front),
-          kinds b (operand_kind o) h.2 (all_right (IsGood us) (uses_in a) (uses_in b) u) (right_true (not (is_unary o) && same_kind (result_kind_of o) k && has_kind us a (operand_kind o)) (has_kind us b (operand_kind o)) g),
+          kinds a (operand_kind o) h.1 (all_left (IsGood us) (uses77_in a) (uses77_in b) u) (right_true (not (is_unary o) && same_kind (result_kind_of o) k) (has_kind us a (operand_kind o)) front),
+          kinds b (operand_kind o) h.2 (all_right (IsGood us) (uses77_in a) (uses77_in b) u) (right_true (not (is_unary o) && same_kind (result_kind_of o) k && has_kind us a (operand_kind o)) (has_kind us b (operand_kind o)) g),
         )
     kinds e k h u g = absurd h
 
-    pub subscript_kinds : (ps : Subscripts) → AreSource ps → AreGood us (uses_in_subscripts ps) → are_subscripts us ps ≡ true → AreSubscripts ds (resolved_subscripts us s ps)
+    pub subscript_kinds : (ps : Subscripts) → AreSource ps → AreGood us (uses77_in_subscripts ps) → are_subscripts us ps ≡ true → AreSubscripts ds (resolved_subscripts us s ps)
     subscript_kinds no_subscripts h u g = tt
     subscript_kinds (subscript p ps) h u g = (
-      one_subscript p h.0 (all_left (IsGood us) (uses_in_subscript p) (uses_in_subscripts ps) u) (left_true (is_subscript us p) (are_subscripts us ps) g),
-      subscript_kinds ps h.1 (all_right (IsGood us) (uses_in_subscript p) (uses_in_subscripts ps) u) (right_true (is_subscript us p) (are_subscripts us ps) g),
+      one_subscript p h.0 (all_left (IsGood us) (uses77_in_subscript p) (uses77_in_subscripts ps) u) (left_true (is_subscript us p) (are_subscripts us ps) g),
+      subscript_kinds ps h.1 (all_right (IsGood us) (uses77_in_subscript p) (uses77_in_subscripts ps) u) (right_true (is_subscript us p) (are_subscripts us ps) g),
     )
 
-    one_subscript : (p : Subscript) → IsSourceSubscript p → AreGood us (uses_in_subscript p) → is_subscript us p ≡ true → IsSubscript ds (resolved_subscript us s p)
+    one_subscript : (p : Subscript) → IsSourceSubscript p → AreGood us (uses77_in_subscript p) → is_subscript us p ≡ true → IsSubscript ds (resolved_subscript us s p)
     one_subscript (Only e) h u g = kinds e Integer h u g
     one_subscript p h u g = absurd h
 
@@ -277,8 +277,8 @@ module _ (us : List Use) (s : Store) (ds : List Declaration) (knows : Knows us s
 
   -- an expression keeps its level, but for a symbolic constant
   levels : (e : Expression) → (level (resolved us s e) ≡ level e) ⊎ (depth_of (resolved us s e) ≤ 1)
-  levels (Named x no_subscripts) = inr (bare_depth x (is_constant us x))
-  levels (Named x (subscript p ps)) = inl (list_level x (is_array us x) (resolved_subscripts us s (subscript p ps)))
+  levels (Named x no_subscripts) = inr (bare_depth x (is_constant_name us x))
+  levels (Named x (subscript p ps)) = inl (list_level x (is_array_name us x) (resolved_subscripts us s (subscript p ps)))
   levels e = inl refl
 
   enclosed_le : (least own n : ℕ) → enclosed least own n ≤ 1 + n
@@ -308,9 +308,9 @@ module _ (us : List Use) (s : Store) (ds : List Declaration) (knows : Knows us s
   mutual
     -- the negative of a literal, in parentheses where it needs them, is two deep
     pub depths : (e : Expression) → depth_of (resolved us s e) ≤ 2 + depth_of e
-    depths (Named x no_subscripts) = let a = bare_depth x (is_constant us x) in omega (arith, a)
+    depths (Named x no_subscripts) = let a = bare_depth x (is_constant_name us x) in omega (arith, a)
     depths (Named x (subscript p ps)) =
-        let a = list_depth x (is_array us x) (resolved_subscripts us s (subscript p ps)) in
+        let a = list_depth x (is_array_name us x) (resolved_subscripts us s (subscript p ps)) in
         let b = subscript_depths (subscript p ps) in
         omega (arith, a, b)
     depths (Unary o a) = let h = operand (right_least o) a (depths a) in omega (arith, h)

@@ -9,11 +9,11 @@ use Rattle.meaning.specs.Store.{Store, names_of}
 use Rattle.meaning.specs.Calls.{names_called}
 use Rattle.f77_grammar.specs.program.Text.{places}
 use Rattle.meaning.specs.SymbolicNames.{IsSymbolicName}
-use Rattle.f77_grammar.specs.program.Uses.{Use, uses_in_text, is_title, names_that}
+use Rattle.f77_grammar.specs.program.Uses.{Use77, uses_in_text, is_title_role, names_that}
 use Rattle.f77_grammar.specs.program.Limits.{constants_of}
 use Rattle.f77_grammar.specs.program.Program77.{findings}
 use Rattle.meaning.specs.Profile77.{IsProgram77}
-use Rattle.f77_grammar.specs.program.Tree.{targets, variables_of, first_of_names}
+use Rattle.f77_grammar.specs.program.Tree.{targets, program_variables_of, first_of_names}
 use Rattle.f77_laws.proofs.trees.Trees.{read_tree}
 use Rattle.f77_laws.specs.trees.Steps.{Rest, Outermost, InArm, outermost_block, rest_from, tree_of}
 use Rattle.f77_laws.specs.Source.{IsSourceCard, AreSourceStatements}
@@ -44,7 +44,7 @@ module _ (d : Dialect) (x : Labelled) (xs : List Labelled) (small : d.bits ≤ 1
   abbrev text : List Labelled
   text = x ∷ xs
 
-  abbrev us : List Use
+  abbrev us : List Use77
   us = uses_in_text text
 
   abbrev s : Store
@@ -75,17 +75,17 @@ module _ (d : Dialect) (x : Labelled) (xs : List Labelled) (small : d.bits ≤ 1
   body : IsFine (declarations d text) p.body (around [] []) 0
   body = whole_program (declarations d text) (rest_from us s (targets text) text) (fine text s (declarations d text) known [] text is_at)
 
-  no_name : (y : List ℕ) → Contains (names_that is_title us) y → Contains (names_of p) y → ⊥
+  no_name : (y : List ℕ) → Contains (names_that is_title_role us) y → Contains (names_of p) y → ⊥
   no_name y c m =
       no_variable text y rights (proper_text text source.each) c
-      (variable_used us y (subst (λ (ys : List (List ℕ)). Contains ys y) (names_again d text rights valued source.each (variables_of us)) m)).variable
+      (variable_used us y (subst (λ (ys : List (List ℕ)). Contains ys y) (names_again d text rights valued source.each (program_variables_of us)) m)).variable
 
-  not_called : (y : List ℕ) → Contains (names_that is_title us) y → Contains (names_called p) y → ⊥
+  not_called : (y : List ℕ) → Contains (names_that is_title_role us) y → Contains (names_called p) y → ⊥
   not_called y c m = no_call s (targets text) text y rights source.each (proper_text text source.each) c m
 
   is_program : HasFewStatements text → IsProgram77 d p
   is_program few = record {
-    name = named_well (names_that is_title us) (λ y. IsSymbolicName y × (Contains (names_of p) y → ⊥) × (Contains (names_called p) y → ⊥))
+    name = named_well (names_that is_title_role us) (λ y. IsSymbolicName y × (Contains (names_of p) y → ⊥) × (Contains (names_called p) y → ⊥))
         (λ y c. (title_symbolic us y (names_in_text text source.each) c, no_name y c, not_called y c));
     declarations = are_declarations d text rights valued source.each (last_place (IsRight text) [] x xs rights) (last_place (HasValues d text) [] x xs valued);
     statements = body.statements;

@@ -3,7 +3,7 @@ use Rattle.std.proofs.Common.{◌≡◌, false, List, [], Contains}
 use Rattle.std.specs.List.{AllByRecursion}
 use Rattle.meaning.specs.Dialect.{Dialect}
 use Rattle.f77_grammar.specs.Statement77.{Labelled}
-use Rattle.f77_grammar.specs.program.Text.{Place, places}
+use Rattle.f77_grammar.specs.program.Text.{Place77, places}
 use Rattle.f77_grammar.specs.program.Uses.{uses_in_text}
 use Rattle.f77_grammar.specs.program.Labels.{has_wrong_label}
 use Rattle.f77_grammar.specs.program.Nesting.{is_nested_wrongly}
@@ -20,7 +20,7 @@ use Rattle.f77_laws.proofs.Lists.{left_false, right_false, all_at, all_of}
 pub use Rattle.f77_laws.proofs.trees.Sound.{IsFree, sound}
 
 -- nothing is wrong at a place, its values aside
-pub record IsRight (text : List Labelled) (p : Place) : Type 0 where
+pub record IsRight (text : List Labelled) (p : Place77) : Type 0 where
   pub label : has_wrong_label text p ≡ false
   pub nesting : is_nested_wrongly p ≡ false
   pub order : is_out_of_order p ≡ false
@@ -33,16 +33,16 @@ pub record IsRight (text : List Labelled) (p : Place) : Type 0 where
   pub blocks : has_many_blocks p ≡ false
 
 -- nothing is wrong with the values of constants and bounds at a place
-pub record HasValues (d : Dialect) (text : List Labelled) (p : Place) : Type 0 where
+pub record HasValues (d : Dialect) (text : List Labelled) (p : Place77) : Type 0 where
   pub bounds : has_reversed_bounds d (constants_of d text) p ≡ false
   pub elements : has_many_elements d (constants_of d text) p ≡ false
   pub constants : has_bad_constant d (constants_of d text) p ≡ false
 
 module _ (d : Dialect) (text : List Labelled) (e : findings d text ≡ []) where
-  free_at : (c : Cause) (p : Place) → IsFree d text c → Contains (places text) p → holds_at d c text (uses_in_text text) (constants_of d text) p ≡ false
-  free_at c p h m = all_at (λ (q : Place). holds_at d c text (uses_in_text text) (constants_of d text) q ≡ false) (places text) p h m
+  free_at : (c : Cause) (p : Place77) → IsFree d text c → Contains (places text) p → holds_at d c text (uses_in_text text) (constants_of d text) p ≡ false
+  free_at c p h m = all_at (λ (q : Place77). holds_at d c text (uses_in_text text) (constants_of d text) q ≡ false) (places text) p h m
 
-  right_at : (p : Place) → Contains (places text) p → AllByRecursion (IsFree d text) program_causes → IsRight text p
+  right_at : (p : Place77) → Contains (places text) p → AllByRecursion (IsFree d text) program_causes → IsRight text p
   right_at p m h =
       let nesting = free_at Nesting p h.1.0 m in
       record {
@@ -61,7 +61,7 @@ module _ (d : Dialect) (text : List Labelled) (e : findings d text ≡ []) where
   pub right : AllByRecursion (IsRight text) (places text)
   right = all_of (IsRight text) (places text) (λ p c. right_at p c (sound d text e))
 
-  values_at : (p : Place) → Contains (places text) p → AllByRecursion (IsFree d text) program_causes → HasValues d text p
+  values_at : (p : Place77) → Contains (places text) p → AllByRecursion (IsFree d text) program_causes → HasValues d text p
   values_at p m h = record {
     bounds = free_at ReversedBounds p h.1.1.1.1.1.1.1.1.1.1.0 m;
     elements = free_at ManyElements p h.1.1.1.1.1.1.1.1.1.1.1.0 m;

@@ -5,7 +5,7 @@ use Rattle.tree.specs.Plain.{Expression, Subscript, Only, subscripts}
 use Rattle.meaning.specs.Depths as printing
 use Rattle.meaning.specs.Depths.{enclosed, depth_of, depth_of_subscripts}
 use Rattle.tree.specs.OperatorTable.{Plus, Minus, Negation, left_least, right_least}
-use Rattle.f77_grammar.specs.expressions.Phrases.{Phrase, Literal, WideLiteral, Truth, Name, Listed, Paren, Signed, Joined, Phrases, One, Then, IsExpression, AreExpressions, level, tree, trees, depth, depths}
+use Rattle.f77_grammar.specs.expressions.Phrases.{Phrase77, Literal, WideLiteral, Truth, Name, Listed, Paren, Signed, Joined, Phrases77, One, Then, IsExpression77, AreExpressions77, phrase_level77, tree77_of, trees77_of, phrase_depth77, depths}
 use Rattle.f77_grammar.proofs.expressions.SourceLaws.{read_source}
 use Rattle.f77_laws.specs.Reading.{ReadExpressionIsSource}
 
@@ -28,16 +28,16 @@ in_parentheses least own n = by (nat_le least own)
     by false = omega arith
 
 -- the tree of a phrase is no deeper than the phrase; so it is as an operand, in parentheses where it needs them
-record IsWithin (p : Phrase) : Type 0 where
-  whole : depth_of (tree p) ≤ depth p
-  operand : (least : ℕ) → least ≤ level p → enclosed least (printing.level (tree p)) (depth_of (tree p)) ≤ depth p
+record IsWithin (p : Phrase77) : Type 0 where
+  whole : depth_of (tree77_of p) ≤ phrase_depth77 p
+  operand : (least : ℕ) → least ≤ phrase_level77 p → enclosed least (printing.level (tree77_of p)) (depth_of (tree77_of p)) ≤ phrase_depth77 p
 
 -- a primary, and an operand with an operator of its level, needs no parentheses
-at_level : (p : Phrase) → level p ≤ printing.level (tree p) → depth_of (tree p) ≤ depth p → IsWithin p
-at_level p l h = record { whole = h; operand = λ least k. let e = bare least (printing.level (tree p)) (depth_of (tree p)) (omega (arith, l, k)) in omega (arith, e, h) }
+at_level : (p : Phrase77) → phrase_level77 p ≤ printing.level (tree77_of p) → depth_of (tree77_of p) ≤ phrase_depth77 p → IsWithin p
+at_level p l h = record { whole = h; operand = λ least k. let e = bare least (printing.level (tree77_of p)) (depth_of (tree77_of p)) (omega (arith, l, k)) in omega (arith, e, h) }
 
 mutual
-  within_of : (p : Phrase) → IsExpression p → IsWithin p
+  within_of : (p : Phrase77) → IsExpression77 p → IsWithin p
   within_of (Literal n) g = at_level (Literal n) (omega arith) (omega arith)
   within_of WideLiteral g = at_level WideLiteral (omega arith) (omega arith)
   within_of (Truth b) g = at_level (Truth b) (omega arith) (omega arith)
@@ -45,7 +45,7 @@ mutual
   within_of (Listed x ps) g = at_level (Listed x ps) (omega arith) (lists_within ps g)
   within_of (Paren p) g =
       let h = (within_of p g).whole in
-      record { whole = omega (arith, h); operand = λ least k. let e = in_parentheses least (printing.level (tree p)) (depth_of (tree p)) in omega (arith, e, h) }
+      record { whole = omega (arith, h); operand = λ least k. let e = in_parentheses least (printing.level (tree77_of p)) (depth_of (tree77_of p)) in omega (arith, e, h) }
   within_of (Signed Plus p) g =
       let h = within_of p g.2 in
       record { whole = (let k = h.whole in omega (arith, k)); operand = λ least l. let k = h.operand least (let m = g.0 in omega (arith, l, m)) in omega (arith, k) }
@@ -56,15 +56,15 @@ mutual
       let k = (within_of b g.5).operand (right_least o) g.2 in
       at_level (Joined o a b) (omega arith) (omega (arith, h, k))
 
-  lists_within : (ps : Phrases) → AreExpressions ps → depth_of_subscripts (subscripts (trees ps)) ≤ depths ps + 1
+  lists_within : (ps : Phrases77) → AreExpressions77 ps → depth_of_subscripts (subscripts (trees77_of ps)) ≤ depths ps + 1
   lists_within (One p) g = let h = (within_of p g).whole in omega (arith, h)
   lists_within (Then ps p) g =
       let h = lists_within ps g.0 in
-      let k = one_more (trees ps) (tree p) in
+      let k = one_more (trees77_of ps) (tree77_of p) in
       let l = (within_of p g.1).whole in
       omega (arith, h, k, l)
 
-pub within : (p : Phrase) → IsExpression p → depth_of (tree p) ≤ depth p
+pub within : (p : Phrase77) → IsExpression77 p → depth_of (tree77_of p) ≤ phrase_depth77 p
 within p g = (within_of p g).whole
 
 -- ---- the law
@@ -74,5 +74,5 @@ not_more n h = omega (arith, h)
 
 pub read_is_source : ReadExpressionIsSource
 read_is_source chars e h =
-    let d : depth_of (tree h.phrase) ≤ 400 = (let a = within h.phrase h.spells.good in let b = not_more (depth h.phrase) h.shallow in omega (arith, a, b)) in
+    let d : depth_of (tree77_of h.phrase) ≤ 400 = (let a = within h.phrase h.spells.good in let b = not_more (phrase_depth77 h.phrase) h.shallow in omega (arith, a, b)) in
     (read_source chars e h, subst (λ (q : Expression). depth_of q ≤ 400) (sym h.same) d)

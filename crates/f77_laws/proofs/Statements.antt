@@ -7,16 +7,16 @@ use Rattle.tree.specs.Plain as tree
 use Rattle.tree.specs.Plain.{Expression, Declaration}
 use Rattle.meaning.specs.Store.{Store}
 use Rattle.f77_grammar.specs.Statement77.{Labelled, Statement77, Program, ImplicitNone, Declare, Dimension, Constants, Assign, Go, Test, If, ElseIf, Else, EndIf, Do, EndDo, Continue, Stop, Read, Print, End}
-use Rattle.f77_grammar.specs.program.Text.{Place, places_from, is_label, action, stands_in, loop_ends_in, open_ifs, open_loops}
-use Rattle.f77_grammar.specs.program.Uses.{Use, uses_in, uses_of, uses_in_text, is_typed, is_defined, is_array, names_that}
-use Rattle.f77_grammar.specs.program.Labels.{is_wrong_label, is_unknown, label_named}
+use Rattle.f77_grammar.specs.program.Text.{Place77, places_from, is_label, action, label_stands_in, loop_ends_in, open_ifs, open_loops}
+use Rattle.f77_grammar.specs.program.Uses.{Use77, uses77_in, uses77_of, uses_in_text, is_typed, is_defined, is_array_name, names_that}
+use Rattle.f77_grammar.specs.program.Labels.{is_wrong_label77, is_unknown, label_named}
 use Rattle.f77_grammar.specs.program.Declarations.{is_misused, has_misused_name, is_declared_again, is_array_or_constant, uses_title, has_unknown_constant}
 use Rattle.f77_grammar.specs.program.Kinds.{has_kind, suits, calls_hidden}
 use Rattle.f77_grammar.specs.program.Jumps.{jumps_wrongly}
 use Rattle.f77_grammar.specs.program.DoVariables.{loop_variable, loop_variables, misuses_variable}
-use Rattle.f77_grammar.specs.program.Limits.{opens_block, has_many_blocks}
+use Rattle.f77_grammar.specs.program.Limits.{opens_block77, has_many_blocks}
 use Rattle.meaning.specs.Profile77.{blocks_in, IsLine}
-use Rattle.f77_grammar.specs.program.Tree.{mark_of, target, targets, resolved, simple}
+use Rattle.f77_grammar.specs.program.Tree.{label_before, target, targets, resolved, simple}
 use Rattle.f77_laws.specs.trees.Steps.{Rest, Outermost, InArm, preceded, begun, rest_from}
 use Rattle.f77_laws.specs.Source.{IsShallow, IsSourceLabel, IsSourceAction, IsSourceStatement, IsSourceCard}
 use Rattle.f77_laws.proofs.Lists.{left_true, right_true, left_false, right_false, affirmed, all_at, all_of, all_both, all_left, all_right, none_any, any_true, found, in_flat, from_flat, here, nowhere, cases_of}
@@ -58,9 +58,9 @@ named_written text h n e =
     same : (j : ℕ) → (j == n) ≡ true → j ≡ n
     same j e = grind (arith, nat_tests)
 
-mark_is : (named : List ℕ) (before : List Labelled) (end : Option ℕ) → is_wrong_label before end ≡ false → AreWritten named → IsMark named end
+mark_is : (named : List ℕ) (before : List Labelled) (end : Option ℕ) → is_wrong_label77 before end ≡ false → AreWritten named → IsMark named end
 mark_is named before None h g = tt
-mark_is named before (Some n) h g = λ e. (above n (left_false (n == 0) (stands_in before n) h), g n e)
+mark_is named before (Some n) h g = λ e. (above n (left_false (n == 0) (label_stands_in before n) h), g n e)
   where
     above : (n : ℕ) → (n == 0) ≡ false → 0 < n
     above n h = grind (arith, nat_tests)
@@ -71,10 +71,10 @@ mark_is named before (Some n) h g = λ e. (above n (left_false (n == 0) (stands_
 below_hundred : (a b n : ℕ) → n ≤ b + a → nat_le 100 (a + b) ≡ false → 1 + n ≤ 100
 below_hundred a b n h g = let l : a + b < 100 = leb-false 100 (a + b) g in omega (arith, h, l)
 
-opened_depth : (before xs : List Labelled) (x : Labelled) → opens_block x.statement ≡ true → has_many_blocks (record { before = before; here = x; after = xs }) ≡ false → 1 + depth (frames (x ∷ xs) before 0) ≤ 100
+opened_depth : (before xs : List Labelled) (x : Labelled) → opens_block77 x.statement ≡ true → has_many_blocks (record { before = before; here = x; after = xs }) ≡ false → 1 + depth (frames (x ∷ xs) before 0) ≤ 100
 opened_depth before xs x o h =
-    let p : Place = record { before = before; here = x; after = xs } in
-    below_hundred (length (open_ifs p)) (length (open_loops p)) (depth (frames (x ∷ xs) before 0)) (depth_within (x ∷ xs) before 0) (by (opens_block x.statement) o h)
+    let p : Place77 = record { before = before; here = x; after = xs } in
+    below_hundred (length (open_ifs p)) (length (open_loops p)) (depth (frames (x ∷ xs) before 0)) (depth_within (x ∷ xs) before 0) (by (opens_block77 x.statement) o h)
   where
     by : (b : Bool) → b ≡ true → (b && nat_le 100 (length (open_ifs (record { before = before; here = x; after = xs })) + length (open_loops (record { before = before; here = x; after = xs })))) ≡ false
         → nat_le 100 (length (open_ifs (record { before = before; here = x; after = xs })) + length (open_loops (record { before = before; here = x; after = xs }))) ≡ false
@@ -93,7 +93,7 @@ closed_depth : (end : Option ℕ) (f : Frames) → depth (top_closed end f) ≤ 
 closed_depth end (Base ls) = closed_length end ls
 closed_depth end (Inner ls had f) = let h = closed_length end ls in omega (arith, h)
 
-depth_after : (c : Statement77) (end : Option ℕ) (f g : Frames) → Moves c end f g → (opens_block c ≡ true → 1 + depth f ≤ 100) → depth f ≤ 100 → depth g ≤ 100
+depth_after : (c : Statement77) (end : Option ℕ) (f g : Frames) → Moves c end f g → (opens_block77 c ≡ true → 1 + depth f ≤ 100) → depth f ≤ 100 → depth g ≤ 100
 depth_after (If c) end f g m o h = let e = ap depth m in let k = o refl in omega (arith, e, k)
 depth_after EndIf end f g m o h = let e = ap depth m.is in omega (arith, e, h)
 depth_after Else end f g m o h = let e = ap depth m.before in let d = ap depth m.after in omega (arith, e, d, h)
@@ -109,7 +109,7 @@ IsExecuted (Dimension es) = ⊥
 IsExecuted (Constants ds) = ⊥
 IsExecuted c = Unit {0}
 
-misused : (us : List Use) (c : Statement77) → IsExecuted c → has_misused_name us c ≡ false → list_any (is_misused us) (uses_of c) ≡ false
+misused : (us : List Use77) (c : Statement77) → IsExecuted c → has_misused_name us c ≡ false → list_any (is_misused us) (uses77_of c) ≡ false
 misused us (Declare k es) h g = absurd h
 misused us (Dimension es) h g = absurd h
 misused us (Constants ds) h g = absurd h
@@ -117,21 +117,21 @@ misused us c h g = g
 
 -- ---- loops round a place have scalars
 
-abbrev pub HasScalar : List Use → Labelled → Type 0
-HasScalar us y = AllByRecursion (λ v. is_array us v ≡ false) (loop_variable y.statement)
+abbrev pub HasScalar : List Use77 → Labelled → Type 0
+HasScalar us y = AllByRecursion (λ v. is_array_name us v ≡ false) (loop_variable y.statement)
 
-scalars_open : (us : List Use) (test : Labelled → Bool) (ys : List Labelled) → AllByRecursion (HasScalar us) ys → AllByRecursion (λ v. is_array us v ≡ false) (flat_map (λ (y : Labelled). loop_variable y.statement) (filter test ys))
+scalars_open : (us : List Use77) (test : Labelled → Bool) (ys : List Labelled) → AllByRecursion (HasScalar us) ys → AllByRecursion (λ v. is_array_name us v ≡ false) (flat_map (λ (y : Labelled). loop_variable y.statement) (filter test ys))
 scalars_open us test [] h = tt
 scalars_open us test (y ∷ ys) h = by (test y) (scalars_open us test ys h.1)
   where
-    by : (b : Bool) → AllByRecursion (λ v. is_array us v ≡ false) (flat_map (λ (z : Labelled). loop_variable z.statement) (filter test ys))
-        → AllByRecursion (λ v. is_array us v ≡ false) (flat_map (λ (z : Labelled). loop_variable z.statement) (cond b (y ∷ filter test ys) (filter test ys)))
-    by true more = all_both (λ v. is_array us v ≡ false) (loop_variable y.statement) (flat_map (λ (z : Labelled). loop_variable z.statement) (filter test ys)) h.0 more
+    by : (b : Bool) → AllByRecursion (λ v. is_array_name us v ≡ false) (flat_map (λ (z : Labelled). loop_variable z.statement) (filter test ys))
+        → AllByRecursion (λ v. is_array_name us v ≡ false) (flat_map (λ (z : Labelled). loop_variable z.statement) (cond b (y ∷ filter test ys) (filter test ys)))
+    by true more = all_both (λ v. is_array_name us v ≡ false) (loop_variable y.statement) (flat_map (λ (z : Labelled). loop_variable z.statement) (filter test ys)) h.0 more
     by false more = more
 
 -- ---- simple statements have no blocks but a logical IF
 
-flat_action : (us : List Use) (s : Store) (line : ℕ) (c : Statement77) → IsSourceAction c → blocks_in (tree.block (simple us s line c)) ≡ 0
+flat_action : (us : List Use77) (s : Store) (line : ℕ) (c : Statement77) → IsSourceAction c → blocks_in (tree.block (simple us s line c)) ≡ 0
 flat_action us s line (Assign left e) h = omega arith
 flat_action us s line (Go n) h = omega arith
 flat_action us s line Continue h = refl
@@ -153,7 +153,7 @@ flat_action us s line EndDo h = absurd h
 flat_action us s line End h = absurd h
 
 module _ (text : List Labelled) (s : Store) (ds : List Declaration) (knows : Knows (uses_in_text text) s ds) where
-  abbrev us : List Use
+  abbrev us : List Use77
   us = uses_in_text text
 
   abbrev named : List ℕ
@@ -173,15 +173,15 @@ module _ (text : List Labelled) (s : Store) (ds : List Declaration) (knows : Kno
     pub cards : AllByRecursion IsCard xs
     pub written : AreWritten (targets text)
 
-  good_uses : (before xs : List Labelled) (x : Labelled) → IsAt before (x ∷ xs) → IsExecuted x.statement → AreGood us (uses_of x.statement)
+  good_uses : (before xs : List Labelled) (x : Labelled) → IsAt before (x ∷ xs) → IsExecuted x.statement → AreGood us (uses77_of x.statement)
   good_uses before xs x k e =
-      let p : Place = record { before = before; here = x; after = xs } in
+      let p : Place77 = record { before = before; here = x; after = xs } in
       let m = misused us x.statement e (right_false (is_declared_again is_typed p || is_declared_again is_array_or_constant p || uses_title us p || has_unknown_constant (names_that is_defined (uses_in_text before)) x.statement) (has_misused_name us x.statement) k.right.0.declared) in
-      let h = right_false (not (suits us x.statement)) (list_any (calls_hidden us) (uses_of x.statement)) k.right.0.kinds in
-      all_of (IsGood us) (uses_of x.statement) (λ u c. record {
-        among = in_flat (λ (y : Labelled). uses_of y.statement) text x u k.cards.0.among c;
-        suits = all_at (λ v. is_misused us v ≡ false) (uses_of x.statement) u (none_any (is_misused us) (uses_of x.statement) m) c;
-        shown = all_at (λ v. calls_hidden us v ≡ false) (uses_of x.statement) u (none_any (calls_hidden us) (uses_of x.statement) h) c;
+      let h = right_false (not (suits us x.statement)) (list_any (calls_hidden us) (uses77_of x.statement)) k.right.0.kinds in
+      all_of (IsGood us) (uses77_of x.statement) (λ u c. record {
+        among = in_flat (λ (y : Labelled). uses77_of y.statement) text x u k.cards.0.among c;
+        suits = all_at (λ v. is_misused us v ≡ false) (uses77_of x.statement) u (none_any (is_misused us) (uses77_of x.statement) m) c;
+        shown = all_at (λ v. calls_hidden us v ≡ false) (uses77_of x.statement) u (none_any (calls_hidden us) (uses77_of x.statement) h) c;
       })
 
   within : (before xs : List Labelled) (x : Labelled) → IsAt before (x ∷ xs) → IsWithin us s ds knows (variables (frames (x ∷ xs) before 0)) (loop_variables (record { before = before; here = x; after = xs }))
@@ -190,19 +190,19 @@ module _ (text : List Labelled) (s : Store) (ds : List Declaration) (knows : Kno
   -- what is known of a statement
   record AreFacts (c : Statement77) (vars : List (List ℕ)) (deep : ℕ) (xs : List Labelled) : Type 0 where
     suits' : suits us c ≡ true
-    uses : IsExecuted c → AreGood us (uses_of c)
+    uses : IsExecuted c → AreGood us (uses77_of c)
     source : IsSourceStatement c
     variable : misuses_variable us (action c) vars ≡ false
     jump : jumps_wrongly xs (action c) ≡ false
     goes : (n : ℕ) → Contains (target (action c)) n → list_any (λ m. m == n) named ≡ true
-    opened : opens_block c ≡ true → 1 + deep ≤ 100
+    opened : opens_block77 c ≡ true → 1 + deep ≤ 100
 
   equal : (n m : ℕ) → n ≡ m → (n == m) ≡ true
   equal n m e = grind (arith, nat_tests)
 
   facts : (before xs : List Labelled) (x : Labelled) → IsAt before (x ∷ xs) → AreFacts x.statement (loop_variables (record { before = before; here = x; after = xs })) (depth (frames (x ∷ xs) before 0)) xs
   facts before xs x k = record {
-    suits' = affirmed (suits us x.statement) (left_false (not (suits us x.statement)) (list_any (calls_hidden us) (uses_of x.statement)) k.right.0.kinds);
+    suits' = affirmed (suits us x.statement) (left_false (not (suits us x.statement)) (list_any (calls_hidden us) (uses77_of x.statement)) k.right.0.kinds);
     uses = good_uses before xs x k;
     source = k.cards.0.source.statement;
     variable = k.right.0.do_variable;
@@ -218,7 +218,7 @@ module _ (text : List Labelled) (s : Store) (ds : List Declaration) (knows : Kno
   goes_ahead (Go n) before xs r e j g = (leads_ahead us s named text before xs n r e (g n (here n [])) j, tt)
   goes_ahead c before xs r e j g = tt
 
-  action_fine : (line : ℕ) (c : Statement77) (vs vars : List (List ℕ)) (ahead : List ℕ) (deep : ℕ) → IsWithin us s ds knows vs vars → IsLine line → IsSourceAction c → AreGood us (uses_of c) → suits us c ≡ true
+  action_fine : (line : ℕ) (c : Statement77) (vs vars : List (List ℕ)) (ahead : List ℕ) (deep : ℕ) → IsWithin us s ds knows vs vars → IsLine line → IsSourceAction c → AreGood us (uses77_of c) → suits us c ≡ true
       → misuses_variable us c vars ≡ false → AllByRecursion (Contains ahead) (target c) → deep ≤ 100 → IsFine ds (tree.block (simple us s line c)) (around vs ahead) deep
   action_fine line c vs vars ahead deep w l h u g m a d = record {
     statements = action_holds us s ds knows line c (around vs ahead) vars w l h u g m a;
@@ -229,12 +229,12 @@ module _ (text : List Labelled) (s : Store) (ds : List Declaration) (knows : Kno
   own_action (Test c b) h = absurd h
   own_action c h = refl
 
-  test_fine : (line : ℕ) (c : Expression) (b : Statement77) (vs vars : List (List ℕ)) (ahead : List ℕ) (deep : ℕ) → IsWithin us s ds knows vs vars → IsLine line → IsShallow c → IsSourceAction b → AreGood us (uses_in c ++ uses_of b)
+  test_fine : (line : ℕ) (c : Expression) (b : Statement77) (vs vars : List (List ℕ)) (ahead : List ℕ) (deep : ℕ) → IsWithin us s ds knows vs vars → IsLine line → IsShallow c → IsSourceAction b → AreGood us (uses77_in c ++ uses77_of b)
       → (has_kind us c Logical && suits us b) ≡ true → misuses_variable us b vars ≡ false → AllByRecursion (Contains ahead) (target b) → 1 + deep ≤ 100 → IsFine ds (tree.block (simple us s line (Test c b))) (around vs ahead) deep
   test_fine line c b vs vars ahead deep w l h k u g m a d =
-      let body = action_fine line b vs vars ahead (1 + deep) w l k (all_right (IsGood us) (uses_in c) (uses_of b) u) (right_true (has_kind us c Logical) (suits us b) g) m a d in
+      let body = action_fine line b vs vars ahead (1 + deep) w l k (all_right (IsGood us) (uses77_in c) (uses77_of b) u) (right_true (has_kind us c Logical) (suits us b) g) m a d in
       record {
-        statements = ((l, refl, (whole us s ds knows c Logical h (all_left (IsGood us) (uses_in c) (uses_of b) u) (left_true (has_kind us c Logical) (suits us b) g), body.statements, tt), tt), tt);
+        statements = ((l, refl, (whole us s ds knows c Logical h (all_left (IsGood us) (uses77_in c) (uses77_of b) u) (left_true (has_kind us c Logical) (suits us b) g), body.statements, tt), tt), tt);
         depth = (let e = body.depth in omega (arith, e));
       }
 
@@ -251,7 +251,7 @@ module _ (text : List Labelled) (s : Store) (ds : List Declaration) (knows : Kno
     vars = loop_variables (record { before = before; here = x; after = xs })
 
     mark : IsMark named x.label
-    mark = mark_is named before x.label (left_false (is_wrong_label before x.label) (is_unknown text (label_named (action x.statement))) k.right.0.label) k.written
+    mark = mark_is named before x.label (left_false (is_wrong_label77 before x.label) (is_unknown text (label_named (action x.statement))) k.right.0.label) k.written
 
     line : IsLine x.line
     line = k.cards.0.source.line
@@ -263,20 +263,20 @@ module _ (text : List Labelled) (s : Store) (ds : List Declaration) (knows : Kno
     moved g m h = subst (λ (e : Frames). AreFine ds e r) m h
 
     piece : (c : Statement77) (g : Frames) → g ≡ top_closed x.label f → AreFine ds g r → IsFine ds (tree.block (simple us s x.line c)) (around (variables f) (ahead_of r)) (depth f)
-        → AreFine ds f (preceded (record { ends = x.label; made = mark_of named x.label ++ simple us s x.line c }) r)
+        → AreFine ds f (preceded (record { ends = x.label; made = label_before named x.label ++ simple us s x.line c }) r)
     piece c g m h i =
-        preceded_fine ds (record { ends = x.label; made = mark_of named x.label ++ simple us s x.line c }) f r
+        preceded_fine ds (record { ends = x.label; made = label_before named x.label ++ simple us s x.line c }) f r
         (marked_fine ds named x.label (simple us s x.line c) (around (variables f) (ahead_of r)) (depth f) mark i) (moved g m h)
 
-    acts : (c : Statement77) (g : Frames) → IsSourceAction c → AreGood us (uses_of c) → suits us c ≡ true → misuses_variable us c vars ≡ false → jumps_wrongly xs c ≡ false
+    acts : (c : Statement77) (g : Frames) → IsSourceAction c → AreGood us (uses77_of c) → suits us c ≡ true → misuses_variable us c vars ≡ false → jumps_wrongly xs c ≡ false
         → ((n : ℕ) → Contains (target c) n → list_any (λ m. m == n) named ≡ true) → g ≡ top_closed x.label f → AreFine ds g r
-        → AreFine ds f (preceded (record { ends = x.label; made = mark_of named x.label ++ simple us s x.line c }) r)
+        → AreFine ds f (preceded (record { ends = x.label; made = label_before named x.label ++ simple us s x.line c }) r)
     acts c g a u t v j o m h =
         piece c g m h (action_fine x.line c (variables f) vars (ahead_of r) (depth f) (within before xs x k) line a u t v (goes_ahead c (x ∷ before) xs k.right.1 ended j o) k.depth)
 
-    nothing : (g : Frames) → g ≡ top_closed x.label f → AreFine ds g r → AreFine ds f (preceded (record { ends = x.label; made = mark_of named x.label ++ [] }) r)
+    nothing : (g : Frames) → g ≡ top_closed x.label f → AreFine ds g r → AreFine ds f (preceded (record { ends = x.label; made = label_before named x.label ++ [] }) r)
     nothing g m h =
-        preceded_fine ds (record { ends = x.label; made = mark_of named x.label ++ [] }) f r
+        preceded_fine ds (record { ends = x.label; made = label_before named x.label ++ [] }) f r
         (marked_fine ds named x.label [] (around (variables f) (ahead_of r)) (depth f) mark (record { statements = tt; depth = (let d = k.depth in omega (arith, d)) })) (moved g m h)
 
     inner_depth : (had : Bool) (o : Frames) → f ≡ Inner [] had o → 1 + depth o ≤ 100
@@ -321,7 +321,7 @@ module _ (text : List Labelled) (s : Store) (ds : List Declaration) (knows : Kno
     step End g a m h = nothing g m h
 
     -- the place behind the statement
-    scalar_here : (c : Statement77) → AreFacts c vars (depth f) xs → AllByRecursion (λ v. is_array us v ≡ false) (loop_variable c)
+    scalar_here : (c : Statement77) → AreFacts c vars (depth f) xs → AllByRecursion (λ v. is_array_name us v ≡ false) (loop_variable c)
     scalar_here (Do n v b c d) a = ((scalar_of us s ds knows v vars a.variable).no_array, tt)
     scalar_here c a = tt
 

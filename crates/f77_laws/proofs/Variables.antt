@@ -11,8 +11,8 @@ use Rattle.meaning.specs.Store.{Store}
 use Rattle.f77_grammar.specs.Statement77.{Labelled}
 use Rattle.meaning.specs.Names.{IsInByteOrder}
 use Rattle.meaning.specs.Typed77.{declared}
-use Rattle.f77_grammar.specs.program.Uses.{Use, is_variable}
-use Rattle.f77_grammar.specs.program.Tree.{with_name, variables_of, declaration_of}
+use Rattle.f77_grammar.specs.program.Uses.{Use77, is_variable}
+use Rattle.f77_grammar.specs.program.Tree.{with_name, program_variables_of, declaration_of_name}
 use Rattle.meaning.specs.Dialect.{Dialect}
 use Rattle.f77_laws.proofs.Lists.{here, there, nowhere, cases_of, not_both}
 
@@ -170,70 +170,70 @@ passed_by {A} test (x ∷ xs) z h = by (test x) refl (passed_by test xs z) h
     by true f more h = first f more (cases_of x (filter test xs) z h)
     by false f more h = further (more h)
 
-pub named_by : (us : List Use) (u : Use) → Contains us u → Contains (map (λ (v : Use). v.name) us) u.name
+pub named_by : (us : List Use77) (u : Use77) → Contains us u → Contains (map (λ (v : Use77). v.name) us) u.name
 named_by [] u h = absurd (nowhere u h)
 named_by (v ∷ vs) u h = by (named_by vs u) (cases_of v vs u h)
   where
-    by : (Contains vs u → Contains (map (λ (w : Use). w.name) vs) u.name) → (v ≡ u) ⊎ Contains vs u → Contains (v.name ∷ map (λ (w : Use). w.name) vs) u.name
-    by more (inl e) = subst (λ (x : List ℕ). Contains (v.name ∷ map (λ (w : Use). w.name) vs) x) (ap (λ (w : Use). w.name) e) (here v.name (map (λ (w : Use). w.name) vs))
-    by more (inr c) = there v.name (map (λ (w : Use). w.name) vs) u.name (more c)
+    by : (Contains vs u → Contains (map (λ (w : Use77). w.name) vs) u.name) → (v ≡ u) ⊎ Contains vs u → Contains (v.name ∷ map (λ (w : Use77). w.name) vs) u.name
+    by more (inl e) = subst (λ (x : List ℕ). Contains (v.name ∷ map (λ (w : Use77). w.name) vs) x) (ap (λ (w : Use77). w.name) e) (here v.name (map (λ (w : Use77). w.name) vs))
+    by more (inr c) = there v.name (map (λ (w : Use77). w.name) vs) u.name (more c)
 
-pub record UseNamed (us : List Use) (x : List ℕ) : Type 0 where
-  pub use' : Use
+pub record UseNamed (us : List Use77) (x : List ℕ) : Type 0 where
+  pub use' : Use77
   pub among : Contains us use'
   pub same : use'.name ≡ x
 
-pub use_named : (us : List Use) (x : List ℕ) → Contains (map (λ (v : Use). v.name) us) x → UseNamed us x
+pub use_named : (us : List Use77) (x : List ℕ) → Contains (map (λ (v : Use77). v.name) us) x → UseNamed us x
 use_named [] x h = absurd (nowhere x h)
-use_named (v ∷ vs) x h = by (use_named vs x) (cases_of v.name (map (λ (w : Use). w.name) vs) x h)
+use_named (v ∷ vs) x h = by (use_named vs x) (cases_of v.name (map (λ (w : Use77). w.name) vs) x h)
   where
     further : UseNamed vs x → UseNamed (v ∷ vs) x
     further k = record { use' = k.use'; among = there v vs k.use' k.among; same = k.same }
 
-    by : (Contains (map (λ (w : Use). w.name) vs) x → UseNamed vs x) → (v.name ≡ x) ⊎ Contains (map (λ (w : Use). w.name) vs) x → UseNamed (v ∷ vs) x
+    by : (Contains (map (λ (w : Use77). w.name) vs) x → UseNamed vs x) → (v.name ≡ x) ⊎ Contains (map (λ (w : Use77). w.name) vs) x → UseNamed (v ∷ vs) x
     by more (inl e) = record { use' = v; among = here v vs; same = e }
     by more (inr c) = further (more c)
 
 -- ---- the variables
 
-pub variables_in_order : (us : List Use) → IsInByteOrder (variables_of us)
-variables_in_order us = all_in_order [] (filter (is_variable us) (map (λ (u : Use). u.name) us)) tt
+pub variables_in_order : (us : List Use77) → IsInByteOrder (program_variables_of us)
+variables_in_order us = all_in_order [] (filter (is_variable us) (map (λ (u : Use77). u.name) us)) tt
 
-pub is_among_variables : (us : List Use) (u : Use) → Contains us u → is_variable us u.name ≡ true → Contains (variables_of us) u.name
+pub is_among_variables : (us : List Use77) (u : Use77) → Contains us u → is_variable us u.name ≡ true → Contains (program_variables_of us) u.name
 is_among_variables us u h e =
-    all_among [] (filter (is_variable us) (map (λ (v : Use). v.name) us)) u.name (kept_by (is_variable us) (map (λ (v : Use). v.name) us) u.name (named_by us u h) e)
+    all_among [] (filter (is_variable us) (map (λ (v : Use77). v.name) us)) u.name (kept_by (is_variable us) (map (λ (v : Use77). v.name) us) u.name (named_by us u h) e)
 
 -- a variable is named by one of the uses
-pub record IsVariableUsed (us : List Use) (x : List ℕ) : Type 0 where
+pub record IsVariableUsed (us : List Use77) (x : List ℕ) : Type 0 where
   pub used : UseNamed us x
   pub variable : is_variable us x ≡ true
 
-pub variable_used : (us : List Use) (x : List ℕ) → Contains (variables_of us) x → IsVariableUsed us x
-variable_used us x h = by (all_cases [] (filter (is_variable us) (map (λ (v : Use). v.name) us)) x h)
+pub variable_used : (us : List Use77) (x : List ℕ) → Contains (program_variables_of us) x → IsVariableUsed us x
+variable_used us x h = by (all_cases [] (filter (is_variable us) (map (λ (v : Use77). v.name) us)) x h)
   where
-    of_passed : Passed (is_variable us) (map (λ (v : Use). v.name) us) x → IsVariableUsed us x
+    of_passed : Passed (is_variable us) (map (λ (v : Use77). v.name) us) x → IsVariableUsed us x
     of_passed p = record { used = use_named us x p.among; variable = p.passes }
 
-    by : Contains [] x ⊎ Contains (filter (is_variable us) (map (λ (v : Use). v.name) us)) x → IsVariableUsed us x
+    by : Contains [] x ⊎ Contains (filter (is_variable us) (map (λ (v : Use77). v.name) us)) x → IsVariableUsed us x
     by (inl c) = absurd (nowhere x c)
-    by (inr c) = of_passed (passed_by (is_variable us) (map (λ (v : Use). v.name) us) x c)
+    by (inr c) = of_passed (passed_by (is_variable us) (map (λ (v : Use77). v.name) us) x c)
 
 -- ---- their declarations
 
-pub declared_name : (d : Dialect) (us : List Use) (s : Store) (text : List Labelled) (names : List (List ℕ)) (x : List ℕ) → Contains names x
-    → declared (map (declaration_of d us s text) names) x ≡ Some (declaration_of d us s text x)
+pub declared_name : (d : Dialect) (us : List Use77) (s : Store) (text : List Labelled) (names : List (List ℕ)) (x : List ℕ) → Contains names x
+    → declared (map (declaration_of_name d us s text) names) x ≡ Some (declaration_of_name d us s text x)
 declared_name d us s text [] x h = absurd (nowhere x h)
 declared_name d us s text (y ∷ ys) x h = by (bytes_eq y x) refl (declared_name d us s text ys x) (cases_of y ys x h)
   where
-    by : (b : Bool) → bytes_eq y x ≡ b → (Contains ys x → declared (map (declaration_of d us s text) ys) x ≡ Some (declaration_of d us s text x)) → (y ≡ x) ⊎ Contains ys x
-        → cond b (Some (declaration_of d us s text y)) (declared (map (declaration_of d us s text) ys) x) ≡ Some (declaration_of d us s text x)
-    by true e more c = ap (λ z. Some (declaration_of d us s text z)) (same_name y x e)
+    by : (b : Bool) → bytes_eq y x ≡ b → (Contains ys x → declared (map (declaration_of_name d us s text) ys) x ≡ Some (declaration_of_name d us s text x)) → (y ≡ x) ⊎ Contains ys x
+        → cond b (Some (declaration_of_name d us s text y)) (declared (map (declaration_of_name d us s text) ys) x) ≡ Some (declaration_of_name d us s text x)
+    by true e more c = ap (λ z. Some (declaration_of_name d us s text z)) (same_name y x e)
     by false e more (inl f) = absurd (not_both (bytes_eq y x) (equal_names y x f) e)
     by false e more (inr c) = more c
 
-pub undeclared_name : (d : Dialect) (us : List Use) (s : Store) (text : List Labelled) (names : List (List ℕ)) (x : List ℕ) → (Contains names x → ⊥)
-    → declared (map (declaration_of d us s text) names) x ≡ None
+pub undeclared_name : (d : Dialect) (us : List Use77) (s : Store) (text : List Labelled) (names : List (List ℕ)) (x : List ℕ) → (Contains names x → ⊥)
+    → declared (map (declaration_of_name d us s text) names) x ≡ None
 undeclared_name d us s text [] x h = refl
 undeclared_name d us s text (y ∷ ys) x h =
-    ap (λ b. cond b (Some (declaration_of d us s text y)) (declared (map (declaration_of d us s text) ys) x)) (other_names y x (λ e. h (subst (λ (w : List ℕ). Contains (y ∷ ys) w) e (here y ys))))
+    ap (λ b. cond b (Some (declaration_of_name d us s text y)) (declared (map (declaration_of_name d us s text) ys) x)) (other_names y x (λ e. h (subst (λ (w : List ℕ). Contains (y ∷ ys) w) e (here y ys))))
     ∙ undeclared_name d us s text ys x (λ c. h (there y ys x c))

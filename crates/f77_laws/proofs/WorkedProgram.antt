@@ -6,6 +6,7 @@ use Rattle.tree.specs.Plain.{Unary, Binary, Single, Constant, ImpliedDo, items}
 use Rattle.tree.specs.declared.ops.Op.TheVariants.{Neg, Add, Eq, Gt, Not}
 use Rattle.tree.specs.declared.ops.Kind.TheVariants.{Integer, Logical}
 use Rattle.meaning.specs.Dialect.{fortran77}
+use Rattle.tree.specs.declared.width.Width.TheVariants.{Plain}
 use Rattle.f77_grammar.specs.Statement77.{Labelled, Declare, Constants, Assign, Go, Test, If, ElseIf, Else, EndIf, Do, Continue, Stop, Read, Print, End}
 use Rattle.f77_grammar.specs.Statement77 as text
 use Rattle.f77_grammar.specs.program.Program77.{findings}
@@ -41,11 +42,11 @@ search_loop =
     ∷ s 10 End
     ∷ []
 
-search_loop_sound : findings fortran77 search_loop ≡ []
+search_loop_sound : findings (fortran77 Plain) search_loop ≡ []
 search_loop_sound = refl
 
 -- each part by itself, without the law
-search_loop_parts : IsProgram77 fortran77 (tree_of fortran77 search_loop)
+search_loop_parts : IsProgram77 (fortran77 Plain) (tree_of (fortran77 Plain) search_loop)
 search_loop_parts = record {
   name = search rules;
   declarations = search rules;
@@ -59,8 +60,8 @@ search_loop_parts = record {
 search_loop_source : AreSourceStatements search_loop
 search_loop_source = search rules
 
-search_loop_program : IsProgram77 fortran77 (tree_of fortran77 search_loop)
-search_loop_program = read_is_program fortran77 search_loop (tree_of fortran77 search_loop) (omega arith) (tree_is_read fortran77 search_loop (tree_of fortran77 search_loop) refl refl) search_loop_source (omega arith)
+search_loop_program : IsProgram77 (fortran77 Plain) (tree_of (fortran77 Plain) search_loop)
+search_loop_program = read_is_program (fortran77 Plain) search_loop (tree_of (fortran77 Plain) search_loop) (omega arith) (tree_is_read (fortran77 Plain) search_loop (tree_of (fortran77 Plain) search_loop) refl refl) search_loop_source (omega arith)
 
 --       PROGRAM SWEEP
 --       LOGICAL L
@@ -106,20 +107,20 @@ sweep =
     ∷ l 30 20 End
     ∷ []
 
-sweep_sound : findings fortran77 sweep ≡ []
+sweep_sound : findings (fortran77 Plain) sweep ≡ []
 sweep_sound = refl
 
-sweep_declarations : AreDeclarations fortran77 (tree_of fortran77 sweep).declarations
+sweep_declarations : AreDeclarations (fortran77 Plain) (tree_of (fortran77 Plain) sweep).declarations
 sweep_declarations = search rules
 
-sweep_statements : IsBlock (tree_of fortran77 sweep).declarations (tree_of fortran77 sweep).body outermost
+sweep_statements : IsBlock (tree_of (fortran77 Plain) sweep).declarations (tree_of (fortran77 Plain) sweep).body outermost
 sweep_statements = search rules
 
-sweep_named : AllByRecursion (Contains (targets_in (tree_of fortran77 sweep).body)) (all_labels_in (tree_of fortran77 sweep).body)
+sweep_named : AllByRecursion (Contains (targets_in (tree_of (fortran77 Plain) sweep).body)) (all_labels_in (tree_of (fortran77 Plain) sweep).body)
 sweep_named = search rules
 
 sweep_source : AreSourceStatements sweep
 sweep_source = search rules
 
-sweep_program : IsProgram77 fortran77 (tree_of fortran77 sweep)
-sweep_program = read_is_program fortran77 sweep (tree_of fortran77 sweep) (omega arith) (tree_is_read fortran77 sweep (tree_of fortran77 sweep) refl refl) sweep_source (omega arith)
+sweep_program : IsProgram77 (fortran77 Plain) (tree_of (fortran77 Plain) sweep)
+sweep_program = read_is_program (fortran77 Plain) sweep (tree_of (fortran77 Plain) sweep) (omega arith) (tree_is_read (fortran77 Plain) sweep (tree_of (fortran77 Plain) sweep) refl refl) sweep_source (omega arith)

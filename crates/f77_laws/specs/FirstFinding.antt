@@ -2,7 +2,7 @@
 use Rattle.std.specs.Prelude.{◌≡◌, ℕ, false, Some, List, ◌∷◌}
 use Rattle.tree.specs.declared.refusals.Refusal.{Refusal}
 use Rattle.meaning.specs.Dialect.{Dialect}
-use Rattle.f77_grammar.specs.Answered.{comes_before}
+use Rattle.reading.specs.refusal_order.Answered.{comes_before}
 use Rattle.f77_grammar.specs.Statement77.{Labelled}
 use Rattle.tree.specs.Causes.{refusal_at}
 use Rattle.tree.specs.declared.refusals.Cause.{Cause}

@@ -7,7 +7,7 @@ use Rattle.std.proofs.lemmas.List.{length-append, drop_all}
 use Rattle.std.proofs.lemmas.List.Folds.{list_any-append}
 use Rattle.indexmap.specs.IndexSet.{insert_key}
 use Rattle.meaning.specs.Names.{is_among}
-use Rattle.f77_grammar.specs.program.Uses.{Use, is_variable, is_constant, uses_of, uses_in_text}
+use Rattle.f77_grammar.specs.program.Uses.{Use77, is_variable, is_constant_name, uses77_of, uses_in_text}
 use Rattle.f77_grammar.specs.program.Limits.{once, has_many_names}
 use Rattle.f77_grammar.specs.declared.syntax.statements.Labelled.{Labelled as Labelled'}
 use Rattle.f77_grammar.specs.syntax.Views.{text_of, labelled_of, statement_of}
@@ -67,35 +67,35 @@ holds_more old new k xs e h = cases (list_any (bytes_eq k) old.names.keys) refl
 
 -- ---- uses
 
-pub counted_by : (names : Names) (us : List Use) (x : List ℕ) → AreNamesOf names us → is_counted_by (facts_in names x) ≡ (is_variable us x || is_constant us x)
+pub counted_by : (names : Names) (us : List Use77) (x : List ℕ) → AreNamesOf names us → is_counted_by (facts_in names x) ≡ (is_variable us x || is_constant_name us x)
 counted_by names us x h = ap (λ b. b || (facts_in names x).constant) (variable_by_names names us x h) ∙ ap (λ b. is_variable us x || b) (constant_by_names names us x h)
 
-pub is_counted : (names : Names) (us : List Use) (u : Use) (xs : List (List ℕ)) → AreNamesOf names us → is_counted_by (facts_in names u.name) ≡ true
+pub is_counted : (names : Names) (us : List Use77) (u : Use77) (xs : List (List ℕ)) → AreNamesOf names us → is_counted_by (facts_in names u.name) ≡ true
     → u.name ∷ xs ≡ counted_in us (u ∷ []) ++ xs
-is_counted names us u xs h e = ap (λ b. map (λ (v : Use). v.name) (cond b (u ∷ []) []) ++ xs) (sym e ∙ counted_by names us u.name h)
+is_counted names us u xs h e = ap (λ b. map (λ (v : Use77). v.name) (cond b (u ∷ []) []) ++ xs) (sym e ∙ counted_by names us u.name h)
 
-pub is_left_out : (names : Names) (us : List Use) (u : Use) (xs : List (List ℕ)) → AreNamesOf names us → is_counted_by (facts_in names u.name) ≡ false
+pub is_left_out : (names : Names) (us : List Use77) (u : Use77) (xs : List (List ℕ)) → AreNamesOf names us → is_counted_by (facts_in names u.name) ≡ false
     → xs ≡ counted_in us (u ∷ []) ++ xs
-is_left_out names us u xs h e = ap (λ b. map (λ (v : Use). v.name) (cond b (u ∷ []) []) ++ xs) (sym e ∙ counted_by names us u.name h)
+is_left_out names us u xs h e = ap (λ b. map (λ (v : Use77). v.name) (cond b (u ∷ []) []) ++ xs) (sym e ∙ counted_by names us u.name h)
 
-pub counted_append : (us vs ws : List Use) → counted_in us (vs ++ ws) ≡ counted_in us vs ++ counted_in us ws
+pub counted_append : (us vs ws : List Use77) → counted_in us (vs ++ ws) ≡ counted_in us vs ++ counted_in us ws
 counted_append us [] ws = refl
-counted_append us (v ∷ vs) ws = cases (is_variable us v.name || is_constant us v.name) (counted_append us vs ws)
+counted_append us (v ∷ vs) ws = cases (is_variable us v.name || is_constant_name us v.name) (counted_append us vs ws)
   where
     cases : (b : Bool) → counted_in us (vs ++ ws) ≡ counted_in us vs ++ counted_in us ws
-        → map (λ (u : Use). u.name) (cond b (v ∷ filter (λ (u : Use). is_variable us u.name || is_constant us u.name) (vs ++ ws)) (filter (λ (u : Use). is_variable us u.name || is_constant us u.name) (vs ++ ws)))
-        ≡ map (λ (u : Use). u.name) (cond b (v ∷ filter (λ (u : Use). is_variable us u.name || is_constant us u.name) vs) (filter (λ (u : Use). is_variable us u.name || is_constant us u.name) vs)) ++ counted_in us ws
+        → map (λ (u : Use77). u.name) (cond b (v ∷ filter (λ (u : Use77). is_variable us u.name || is_constant_name us u.name) (vs ++ ws)) (filter (λ (u : Use77). is_variable us u.name || is_constant_name us u.name) (vs ++ ws)))
+        ≡ map (λ (u : Use77). u.name) (cond b (v ∷ filter (λ (u : Use77). is_variable us u.name || is_constant_name us u.name) vs) (filter (λ (u : Use77). is_variable us u.name || is_constant_name us u.name) vs)) ++ counted_in us ws
     cases true e = ap (λ xs. v.name ∷ xs) e
     cases false e = e
 
-pub counted_ahead : (us : List Use) (list : List Use') (i : ℕ) (u : Use') (xs : List (List ℕ)) → i < length list → u ≡ get_or list i u
+pub counted_ahead : (us : List Use77) (list : List Use') (i : ℕ) (u : Use') (xs : List (List ℕ)) → i < length list → u ≡ get_or list i u
     → counted_in us (plain_use u ∷ []) ++ (counted_in us (map plain_use (drop (i + 1) list)) ++ xs) ≡ counted_in us (map plain_use (drop i list)) ++ xs
 counted_ahead us list i u xs h e =
     sym (append_assoc (counted_in us (plain_use u ∷ [])) (counted_in us (map plain_use (drop (i + 1) list))) xs)
     ∙ ap (λ ys. ys ++ xs) (sym (counted_append us (plain_use u ∷ []) (map plain_use (drop (i + 1) list))))
     ∙ ap (λ vs. counted_in us vs ++ xs) (sym (ahead_at plain_use list i u h e))
 
-pub counted_back : (us : List Use) (list : List Use') (i : ℕ) (u : Use') (xs : List (List ℕ)) → 0 < i → i ≤ length list → u ≡ get_or list (i - 1) u
+pub counted_back : (us : List Use77) (list : List Use') (i : ℕ) (u : Use') (xs : List (List ℕ)) → 0 < i → i ≤ length list → u ≡ get_or list (i - 1) u
     → counted_in us (plain_use u ∷ []) ++ (counted_in us (map plain_use (drop i list)) ++ xs) ≡ counted_in us (map plain_use (drop (i - 1) list)) ++ xs
 counted_back us list i u xs h k e =
     ap (λ n. counted_in us (plain_use u ∷ []) ++ (counted_in us (map plain_use (drop n list)) ++ xs)) (behind i h) ∙ counted_ahead us list (i - 1) u xs (within i (length list) h k) e
@@ -106,19 +106,19 @@ counted_back us list i u xs h k e =
     within : (i n : ℕ) → 0 < i → i ≤ n → i - 1 < n
     within i n h k = omega (arith, h, k)
 
-pub counted_behind : (us : List Use) (text : List Labelled') (i : ℕ) (x : Labelled') → i < length text → x ≡ get_or text i x
-    → counted_in us (uses_of (statement_of x.statement)) ++ counted_in us (uses_in_text (passed (text_of text) i)) ≡ counted_in us (uses_in_text (passed (text_of text) (i + 1)))
+pub counted_behind : (us : List Use77) (text : List Labelled') (i : ℕ) (x : Labelled') → i < length text → x ≡ get_or text i x
+    → counted_in us (uses77_of (statement_of x.statement)) ++ counted_in us (uses_in_text (passed (text_of text) i)) ≡ counted_in us (uses_in_text (passed (text_of text) (i + 1)))
 counted_behind us text i x h e =
-    sym (counted_append us (uses_of (statement_of x.statement)) (uses_in_text (passed (text_of text) i))) ∙ ap (counted_in us) (sym (text_behind text i x h e))
+    sym (counted_append us (uses77_of (statement_of x.statement)) (uses_in_text (passed (text_of text) i))) ∙ ap (counted_in us) (sym (text_behind text i x h e))
 
-pub none_ahead : (us : List Use) (counted : Counted) (list : List Use') (xs : List (List ℕ)) → Holds counted xs → Holds counted (counted_in us (map plain_use (drop (length list) list)) ++ xs)
+pub none_ahead : (us : List Use77) (counted : Counted) (list : List Use') (xs : List (List ℕ)) → Holds counted xs → Holds counted (counted_in us (map plain_use (drop (length list) list)) ++ xs)
 none_ahead us counted list xs h =
     holds_same counted xs (counted_in us (map plain_use (drop (length list) list)) ++ xs) (sym (ap (λ us'. counted_in us (map plain_use us') ++ xs) (drop_all (length list) list (same (length list))))) h
   where
     same : (n : ℕ) → n ≤ n
     same n = omega arith
 
-pub all_counted : (us : List Use) (counted : Counted) (list : List Use') (i : ℕ) (xs : List (List ℕ)) → i ≤ 0 → Holds counted (counted_in us (map plain_use (drop i list)) ++ xs)
+pub all_counted : (us : List Use77) (counted : Counted) (list : List Use') (i : ℕ) (xs : List (List ℕ)) → i ≤ 0 → Holds counted (counted_in us (map plain_use (drop i list)) ++ xs)
     → Holds counted (counted_in us (map plain_use list) ++ xs)
 all_counted us counted list i xs h known =
     holds_same counted (counted_in us (map plain_use (drop i list)) ++ xs) (counted_in us (map plain_use list) ++ xs) (ap (λ n. counted_in us (map plain_use (drop n list)) ++ xs) (none i h)) known

@@ -9,9 +9,9 @@ use Rattle.tree.specs.declared.exprs.Expr.{Expr}
 use Rattle.f77_grammar.specs.Statement77.{Statement77, Declare, Dimension, Constants, Entity}
 use Rattle.meaning.specs.Names.{is_among}
 use Rattle.f77_grammar.specs.program.Text.{is_declaration}
-use Rattle.f77_grammar.specs.program.Uses.{Role, Title, Typed, Bounded, Defined, Valued, Target, Counter, Use, uses_of, uses_in, uses_in_bounds, uses_in_text, is_typed, is_defined, names_that, is_array}
+use Rattle.f77_grammar.specs.program.Uses.{Role, Title, Typed, Bounded, Defined, Valued, Target, Counter, Use77, uses77_of, uses77_in, uses_in_bounds, uses_in_text, is_typed, is_defined, names_that, is_array_name}
 use Rattle.f77_grammar.specs.program.Limits.{entities_of, definitions_of}
-use Rattle.f77_grammar.specs.program.Declarations.{bears_title, has_repeat, is_array_or_constant, has_unknown, is_listed, bounds_of_entities, defines_from_unknown, has_unknown_constant, suits_list, is_misused, is_misused_as, has_misused_name}
+use Rattle.f77_grammar.specs.program.Declarations.{bears_title, has_repeat, is_array_or_constant, has_unknown, has_list, bounds_of_entities, defines_from_unknown, has_unknown_constant, suits_list, is_misused, is_misused_as, has_misused_name}
 use Rattle.f77_grammar.specs.declared.syntax.statements.Entity.{Entity as Entity'}
 use Rattle.f77_grammar.specs.declared.syntax.statements.Labelled.{Labelled as Labelled'}
 use Rattle.f77_grammar.specs.syntax.Views.{text_of, statement_of, constant_of, entity_of, bounds_of}
@@ -31,24 +31,24 @@ use Rattle.tree.specs.Functions.{function_named}
 
 -- ---- names declared again
 
-pub again_ahead : (names : Names) (seen now : List Use) (list : List Use') (i : ℕ) (u : Use') → i < length list → u ≡ get_or list i u → HaveSeen names now
+pub again_ahead : (names : Names) (seen now : List Use77) (list : List Use') (i : ℕ) (u : Use') → i < length list → u ≡ get_or list i u → HaveSeen names now
     → declares_again seen (map plain_use list) ≡ declares_again now (map plain_use (drop i list))
     → declares_again seen (map plain_use list) ≡ (is_again_by (facts_in names u.name) (role_of u.role) || declares_again (plain_use u ∷ now) (map plain_use (drop (i + 1) list)))
 again_ahead names seen now list i u h e known again =
     again ∙ ap (declares_again now) (ahead_at plain_use list i u h e) ∙ again_step names now u.name (role_of u.role) (map plain_use (drop (i + 1) list)) known
 
-pub again_ends : (seen now : List Use) (list : List Use') (i : ℕ) → length list ≤ i
+pub again_ends : (seen now : List Use77) (list : List Use') (i : ℕ) → length list ≤ i
     → declares_again seen (map plain_use list) ≡ declares_again now (map plain_use (drop i list)) → false ≡ declares_again seen (map plain_use list)
 again_ends seen now list i h again = sym (again ∙ ap (λ us. declares_again now (map plain_use us)) (drop_all i list h))
 
-pub seen_ends : (names : Names) (seen : List Use) (list : List Use') (i : ℕ) → length list ≤ i → HaveSeen names (seen_after list i seen)
+pub seen_ends : (names : Names) (seen : List Use77) (list : List Use') (i : ℕ) → length list ≤ i → HaveSeen names (seen_after list i seen)
     → HaveSeen names (map plain_use list ++ seen)
 seen_ends names seen list i h known =
     seen_turned names (map plain_use list) seen (seen_same names (seen_after list i seen) (reverse (map plain_use list) ++ seen) (ap (λ us. reverse (map plain_use us) ++ seen) (take_all i list h)) known)
 
 -- ---- statements
 
-pub misused_is : (us : List Use) (s : Statement77) → has_misused_name us s ≡ (not (is_declaration s) && list_any (is_misused us) (uses_of s))
+pub misused_is : (us : List Use77) (s : Statement77) → has_misused_name us s ≡ (not (is_declaration s) && list_any (is_misused us) (uses77_of s))
 misused_is us (Declare k es) = refl
 misused_is us (Dimension es) = refl
 misused_is us (Constants ds) = refl
@@ -63,7 +63,7 @@ unknown_is defined s = refl
 
 -- ---- the program's name
 
-pub title_same : (before names : Names) (us seen vs : List Use) → HaveSeen before seen → AreNamesOf names us
+pub title_same : (before names : Names) (us seen vs : List Use77) → HaveSeen before seen → AreNamesOf names us
     → list_any (bears_title_by before names) vs ≡ list_any (bears_title us seen) vs
 title_same before names us seen [] h k = refl
 title_same before names us seen (v ∷ vs) h k =
@@ -72,13 +72,13 @@ title_same before names us seen (v ∷ vs) h k =
 
 -- ---- names that are misused
 
-suits_same : (names : Names) (us : List Use) (x : List ℕ) (n : ℕ) → AreNamesOf names us → suits_list_by (facts_in names x) x n ≡ suits_list us x n
+suits_same : (names : Names) (us : List Use77) (x : List ℕ) (n : ℕ) → AreNamesOf names us → suits_list_by (facts_in names x) x n ≡ suits_list us x n
 suits_same names us x zero h = refl
 suits_same names us x (suc n) h =
     ap (λ b. cond b (suc n == dimensions_by (facts_in names x)) (is_some (function_named x))) (array_by_names names us x h)
-    ∙ ap (λ m. cond (is_array us x) (suc n == m) (is_some (function_named x))) (dimensions_by_names names us x h)
+    ∙ ap (λ m. cond (is_array_name us x) (suc n == m) (is_some (function_named x))) (dimensions_by_names names us x h)
 
-misused_as : (names : Names) (us : List Use) (x : List ℕ) (r : Role) → AreNamesOf names us → is_misused_by (facts_in names x) x r ≡ is_misused_as us x r
+misused_as : (names : Names) (us : List Use77) (x : List ℕ) (r : Role) → AreNamesOf names us → is_misused_by (facts_in names x) x r ≡ is_misused_as us x r
 misused_as names us x (Valued n) h = ap not (suits_same names us x n h)
 misused_as names us x (Target n) h =
     ap (λ b. not b || (facts_in names x).constant) (suits_same names us x n h)
@@ -89,7 +89,7 @@ misused_as names us x (Bounded n) h = refl
 misused_as names us x Defined h = refl
 misused_as names us x Counter h = refl
 
-pub misused_same : (names : Names) (us vs : List Use) → AreNamesOf names us → list_any (is_misused_use names) vs ≡ list_any (is_misused us) vs
+pub misused_same : (names : Names) (us vs : List Use77) → AreNamesOf names us → list_any (is_misused_use names) vs ≡ list_any (is_misused us) vs
 misused_same names us [] h = refl
 misused_same names us (v ∷ vs) h =
     ap (λ b. b || list_any (is_misused_use names) vs) (misused_as names us v.name v.role h)
@@ -97,12 +97,12 @@ misused_same names us (v ∷ vs) h =
 
 -- ---- constants that aren't defined before
 
-pub unknown_same : (before own : Names) (defined : List (List ℕ)) (vs : List Use) → Define before own defined
+pub unknown_same : (before own : Names) (defined : List (List ℕ)) (vs : List Use77) → Define before own defined
     → list_any (is_unknown_use before own) vs ≡ has_unknown defined vs
 unknown_same before own defined [] h = refl
 unknown_same before own defined (v ∷ vs) h =
-    ap (λ b. (not b || (is_listed v.role && is_none (function_named v.name))) || list_any (is_unknown_use before own) vs) (h v.name)
-    ∙ ap (λ b. (not (is_among defined v.name) || (is_listed v.role && is_none (function_named v.name))) || b) (unknown_same before own defined vs h)
+    ap (λ b. (not b || (has_list v.role && is_none (function_named v.name))) || list_any (is_unknown_use before own) vs) (h v.name)
+    ∙ ap (λ b. (not (is_among defined v.name) || (has_list v.role && is_none (function_named v.name))) || b) (unknown_same before own defined vs h)
 
 pub none_own : (before own : Names) (defined : List (List ℕ)) → ((x : List ℕ) → facts_in own x ≡ nothing_known) → AreDefined before defined → Define before own defined
 none_own before own defined h known x = ap (λ (f : Facts). f.constant || (facts_in before x).constant) (h x) ∙ known x
@@ -123,10 +123,10 @@ own_more before own new defined name e h x =
 pub unknown_ahead : (before own : Names) (defined now : List (List ℕ)) (list : List (List ℕ × Expr)) (i : ℕ) (d : List ℕ × Expr) → i < length list → d ≡ get_or list i d → Define before own now
     → defines_from_unknown defined (map constant_of list) ≡ defines_from_unknown now (map constant_of (drop i list))
     → defines_from_unknown defined (map constant_of list)
-    ≡ (list_any (is_unknown_use before own) (uses_in (expression_of d.1)) || defines_from_unknown (d.0 ∷ now) (map constant_of (drop (i + 1) list)))
+    ≡ (list_any (is_unknown_use before own) (uses77_in (expression_of d.1)) || defines_from_unknown (d.0 ∷ now) (map constant_of (drop (i + 1) list)))
 unknown_ahead before own defined now list i d h e known left =
     left ∙ ap (defines_from_unknown now) (ahead_at constant_of list i d h e)
-    ∙ ap (λ b. b || defines_from_unknown (d.0 ∷ now) (map constant_of (drop (i + 1) list))) (sym (unknown_same before own now (uses_in (expression_of d.1)) known))
+    ∙ ap (λ b. b || defines_from_unknown (d.0 ∷ now) (map constant_of (drop (i + 1) list))) (sym (unknown_same before own now (uses77_in (expression_of d.1)) known))
 
 pub unknown_ends : (defined now : List (List ℕ)) (list : List (List ℕ × Expr)) (i : ℕ) → length list ≤ i
     → defines_from_unknown defined (map constant_of list) ≡ defines_from_unknown now (map constant_of (drop i list)) → false ≡ defines_from_unknown defined (map constant_of list)
@@ -188,42 +188,42 @@ first_two true b c d e f g h = refl
 first_two false true c d e f g h = refl
 first_two false false c d e f g h = sym (ap (λ x. x || d || e) f ∙ ap (λ x. x || e) g ∙ h)
 
-pub wrong_misused : (us seen : List Use) (s : Statement77) → has_misused_name us s ≡ true → true ≡ is_wrong_after us seen s
+pub wrong_misused : (us seen : List Use77) (s : Statement77) → has_misused_name us s ≡ true → true ≡ is_wrong_after us seen s
 wrong_misused us seen s h =
-    fifth (has_repeat (names_that is_typed seen) (names_that is_typed (uses_of s))) (has_repeat (names_that is_array_or_constant seen) (names_that is_array_or_constant (uses_of s)))
-    (list_any (bears_title us seen) (uses_of s)) (has_unknown_constant (names_that is_defined seen) s) (has_misused_name us s) h
+    fifth (has_repeat (names_that is_typed seen) (names_that is_typed (uses77_of s))) (has_repeat (names_that is_array_or_constant seen) (names_that is_array_or_constant (uses77_of s)))
+    (list_any (bears_title us seen) (uses77_of s)) (has_unknown_constant (names_that is_defined seen) s) (has_misused_name us s) h
 
-pub wrong_unknown : (us seen : List Use) (s : Statement77) → has_unknown_constant (names_that is_defined seen) s ≡ true → true ≡ is_wrong_after us seen s
+pub wrong_unknown : (us seen : List Use77) (s : Statement77) → has_unknown_constant (names_that is_defined seen) s ≡ true → true ≡ is_wrong_after us seen s
 wrong_unknown us seen s h =
-    fourth (has_repeat (names_that is_typed seen) (names_that is_typed (uses_of s))) (has_repeat (names_that is_array_or_constant seen) (names_that is_array_or_constant (uses_of s)))
-    (list_any (bears_title us seen) (uses_of s)) (has_unknown_constant (names_that is_defined seen) s) (has_misused_name us s) h
+    fourth (has_repeat (names_that is_typed seen) (names_that is_typed (uses77_of s))) (has_repeat (names_that is_array_or_constant seen) (names_that is_array_or_constant (uses77_of s)))
+    (list_any (bears_title us seen) (uses77_of s)) (has_unknown_constant (names_that is_defined seen) s) (has_misused_name us s) h
 
-pub wrong_title : (us seen : List Use) (s : Statement77) → list_any (bears_title us seen) (uses_of s) ≡ true → true ≡ is_wrong_after us seen s
+pub wrong_title : (us seen : List Use77) (s : Statement77) → list_any (bears_title us seen) (uses77_of s) ≡ true → true ≡ is_wrong_after us seen s
 wrong_title us seen s h =
-    third (has_repeat (names_that is_typed seen) (names_that is_typed (uses_of s))) (has_repeat (names_that is_array_or_constant seen) (names_that is_array_or_constant (uses_of s)))
-    (list_any (bears_title us seen) (uses_of s)) (has_unknown_constant (names_that is_defined seen) s) (has_misused_name us s) h
+    third (has_repeat (names_that is_typed seen) (names_that is_typed (uses77_of s))) (has_repeat (names_that is_array_or_constant seen) (names_that is_array_or_constant (uses77_of s)))
+    (list_any (bears_title us seen) (uses77_of s)) (has_unknown_constant (names_that is_defined seen) s) (has_misused_name us s) h
 
-pub wrong_again : (us seen : List Use) (s : Statement77) → list_any (bears_title us seen) (uses_of s) ≡ false
-    → has_unknown_constant (names_that is_defined seen) s ≡ false → has_misused_name us s ≡ false → declares_again seen (uses_of s) ≡ is_wrong_after us seen s
+pub wrong_again : (us seen : List Use77) (s : Statement77) → list_any (bears_title us seen) (uses77_of s) ≡ false
+    → has_unknown_constant (names_that is_defined seen) s ≡ false → has_misused_name us s ≡ false → declares_again seen (uses77_of s) ≡ is_wrong_after us seen s
 wrong_again us seen s f g h =
-    first_two (has_repeat (names_that is_typed seen) (names_that is_typed (uses_of s))) (has_repeat (names_that is_array_or_constant seen) (names_that is_array_or_constant (uses_of s)))
-    (list_any (bears_title us seen) (uses_of s)) (has_unknown_constant (names_that is_defined seen) s) (has_misused_name us s) f g h
+    first_two (has_repeat (names_that is_typed seen) (names_that is_typed (uses77_of s))) (has_repeat (names_that is_array_or_constant seen) (names_that is_array_or_constant (uses77_of s)))
+    (list_any (bears_title us seen) (uses77_of s)) (has_unknown_constant (names_that is_defined seen) s) (has_misused_name us s) f g h
 
 -- what the checks of the code say of the uses in a statement
 
-pub misused_here : (names : Names) (us : List Use) (s : Statement77) (here : List Use') → AreNamesOf names us → map plain_use here ≡ uses_of s
+pub misused_here : (names : Names) (us : List Use77) (s : Statement77) (here : List Use') → AreNamesOf names us → map plain_use here ≡ uses77_of s
     → has_misused_name us s ≡ (not (is_declaration s) && list_any (is_misused_use names) (map plain_use here))
 misused_here names us s here h e =
     misused_is us s ∙ ap (λ vs. not (is_declaration s) && list_any (is_misused us) vs) (sym e)
     ∙ ap (λ b. not (is_declaration s) && b) (sym (misused_same names us (map plain_use here) h))
 
-pub title_here : (before names : Names) (us seen : List Use) (s : Statement77) (here : List Use') → HaveSeen before seen → AreNamesOf names us → map plain_use here ≡ uses_of s
-    → list_any (bears_title us seen) (uses_of s) ≡ list_any (bears_title_by before names) (map plain_use here)
+pub title_here : (before names : Names) (us seen : List Use77) (s : Statement77) (here : List Use') → HaveSeen before seen → AreNamesOf names us → map plain_use here ≡ uses77_of s
+    → list_any (bears_title us seen) (uses77_of s) ≡ list_any (bears_title_by before names) (map plain_use here)
 title_here before names us seen s here h k e =
     ap (list_any (bears_title us seen)) (sym e) ∙ sym (title_same before names us seen (map plain_use here) h k)
 
 -- ---- a statement more
 
 pub text_behind : (xs : List Labelled') (i : ℕ) (x : Labelled') → i < length xs → x ≡ get_or xs i x
-    → uses_in_text (passed (text_of xs) (i + 1)) ≡ uses_of (statement_of x.statement) ++ uses_in_text (passed (text_of xs) i)
+    → uses_in_text (passed (text_of xs) (i + 1)) ≡ uses77_of (statement_of x.statement) ++ uses_in_text (passed (text_of xs) i)
 text_behind xs i x h e = ap uses_in_text (text_passed xs i x h e)

@@ -6,7 +6,7 @@ use Rattle.std.specs.List.{list_any}
 use Rattle.std.proofs.lemmas.List.{map-append}
 use Rattle.tree.specs.declared.ops.Kind.{Kind}
 use Rattle.tree.specs.declared.ops.Kind.TheVariants.{Integer}
-use Rattle.f77_grammar.specs.program.Uses.{Role, Title, Typed, Bounded, Defined, Valued, Target, Counter, Use, uses_of, uses_in_text, is_title, stands, is_typed, is_bounded, is_defined, is_bare, type_of, type_in, is_variable, is_constant, is_array, is_function, kind_of_name, dimensions_of_name, dimensions_in, or_integer}
+use Rattle.f77_grammar.specs.program.Uses.{Role, Title, Typed, Bounded, Defined, Valued, Target, Counter, Use77, uses77_of, uses_in_text, is_title_role, stands, is_typed, is_bounded, is_defined, is_bare_role, type_of, type_in, is_variable, is_constant_name, is_array_name, is_function, kind_of_name, dimensions_of_name, dimensions_in, or_integer}
 use Rattle.f77_names.specs.declared.names.Facts.{Facts}
 use Rattle.f77_names.specs.declared.uses.Use.{Use as Use'}
 use Rattle.meaning.specs.Names.{is_implicit_integer}
@@ -23,7 +23,7 @@ use Rattle.tree.specs.Functions.{function_named}
 
 -- ---- one use more
 
-facts_append : (f : Facts) (us vs : List Use) (x : List ℕ) → facts_of f (us ++ vs) x ≡ facts_of (facts_of f us x) vs x
+facts_append : (f : Facts) (us vs : List Use77) (x : List ℕ) → facts_of f (us ++ vs) x ≡ facts_of (facts_of f us x) vs x
 facts_append f [] vs x = refl
 facts_append f (u ∷ us) vs x = facts_append (cond (bytes_eq u.name x) (facts_with f u.role) f) us vs x
 
@@ -65,7 +65,7 @@ constant_step f (Target zero) = or_false f.constant
 constant_step f (Target (suc n)) = or_false f.constant
 constant_step f Counter = or_false f.constant
 
-bare_step : (f : Facts) (r : Role) → (facts_with f r).bare ≡ (f.bare || is_bare r)
+bare_step : (f : Facts) (r : Role) → (facts_with f r).bare ≡ (f.bare || is_bare_role r)
 bare_step f Defined = or_false f.bare
 bare_step f Title = or_false f.bare
 bare_step f (Typed k) = or_false f.bare
@@ -102,7 +102,7 @@ typed_step f (Target zero) = or_false (is_some f.kind)
 typed_step f (Target (suc n)) = or_false (is_some f.kind)
 typed_step f Counter = or_false (is_some f.kind)
 
-pub title_step : (f : Facts) (r : Role) → (facts_with f r).title ≡ (f.title || is_title r)
+pub title_step : (f : Facts) (r : Role) → (facts_with f r).title ≡ (f.title || is_title_role r)
 title_step f Title = or_true f.title
 title_step f Defined = or_false f.title
 title_step f (Typed k) = or_false f.title
@@ -115,7 +115,7 @@ title_step f Counter = or_false f.title
 
 -- a fact that a use of a role adds is known exactly where the name stands in that role
 stands_as : (part : Facts → Bool) (test : Role → Bool) → ((f : Facts) (r : Role) → part (facts_with f r) ≡ (part f || test r))
-    → (f : Facts) (us : List Use) (x : List ℕ) → part (facts_of f us x) ≡ (part f || stands test us x)
+    → (f : Facts) (us : List Use77) (x : List ℕ) → part (facts_of f us x) ≡ (part f || stands test us x)
 stands_as part test step f [] x = or_false (part f)
 stands_as part test step f (u ∷ us) x =
     stands_as part test step (cond (bytes_eq u.name x) (facts_with f u.role) f) us x ∙ cases (bytes_eq u.name x)
@@ -134,16 +134,16 @@ stands_as part test step f (u ∷ us) x =
     cases true = ap (λ t. t || stands test us x) (step f u.role) ∙ grouped (part f) (test u.role) (stands test us x)
     cases false = none (part f) (test u.role) (stands test us x)
 
-pub constant_is : (us : List Use) (x : List ℕ) → (facts_of nothing_known us x).constant ≡ stands is_defined us x
+pub constant_is : (us : List Use77) (x : List ℕ) → (facts_of nothing_known us x).constant ≡ stands is_defined us x
 constant_is us x = stands_as (λ (f : Facts). f.constant) is_defined constant_step nothing_known us x
 
-pub bare_is : (us : List Use) (x : List ℕ) → (facts_of nothing_known us x).bare ≡ stands is_bare us x
-bare_is us x = stands_as (λ (f : Facts). f.bare) is_bare bare_step nothing_known us x
+pub bare_is : (us : List Use77) (x : List ℕ) → (facts_of nothing_known us x).bare ≡ stands is_bare_role us x
+bare_is us x = stands_as (λ (f : Facts). f.bare) is_bare_role bare_step nothing_known us x
 
-pub bounded_is : (us : List Use) (x : List ℕ) → is_some (facts_of nothing_known us x).dimensions ≡ stands is_bounded us x
+pub bounded_is : (us : List Use77) (x : List ℕ) → is_some (facts_of nothing_known us x).dimensions ≡ stands is_bounded us x
 bounded_is us x = stands_as (λ (f : Facts). is_some f.dimensions) is_bounded bounded_step nothing_known us x
 
-pub typed_is : (us : List Use) (x : List ℕ) → is_some (facts_of nothing_known us x).kind ≡ stands is_typed us x
+pub typed_is : (us : List Use77) (x : List ℕ) → is_some (facts_of nothing_known us x).kind ≡ stands is_typed us x
 typed_is us x = stands_as (λ (f : Facts). is_some f.kind) is_typed typed_step nothing_known us x
 
 -- a name has a type exactly where it stands in a type statement
@@ -157,7 +157,7 @@ type_step (Valued n) b o = refl
 type_step (Target n) b o = refl
 type_step Counter b o = refl
 
-pub type_stands : (us : List Use) (x : List ℕ) → is_some (type_of us x) ≡ stands is_typed us x
+pub type_stands : (us : List Use77) (x : List ℕ) → is_some (type_of us x) ≡ stands is_typed us x
 type_stands [] x = refl
 type_stands (u ∷ us) x = type_step u.role (bytes_eq u.name x) (type_of us x) ∙ ap (λ b. (is_typed u.role && bytes_eq u.name x) || b) (type_stands us x)
 
@@ -166,16 +166,16 @@ type_stands (u ∷ us) x = type_step u.role (bytes_eq u.name x) (type_of us x) �
 three : (a b c d a' b' c' d' : Bool) → a ≡ a' → b ≡ b' → c ≡ c' → d ≡ d' → ((a || b || c) && not d) ≡ ((a' || b' || c') && not d')
 three a b c d a' b' c' d' e f g h = cc
 
-pub variable_known : (us : List Use) (x : List ℕ) → is_variable_by (facts_of nothing_known us x) ≡ is_variable us x
+pub variable_known : (us : List Use77) (x : List ℕ) → is_variable_by (facts_of nothing_known us x) ≡ is_variable us x
 variable_known us x =
     three (is_some (facts_of nothing_known us x).kind) (is_some (facts_of nothing_known us x).dimensions) (facts_of nothing_known us x).bare (facts_of nothing_known us x).constant
-    (stands is_typed us x) (stands is_bounded us x) (stands is_bare us x) (stands is_defined us x)
+    (stands is_typed us x) (stands is_bounded us x) (stands is_bare_role us x) (stands is_defined us x)
     (typed_is us x) (bounded_is us x) (bare_is us x) (constant_is us x)
 
-pub array_known : (us : List Use) (x : List ℕ) → is_array_by (facts_of nothing_known us x) ≡ is_array us x
+pub array_known : (us : List Use77) (x : List ℕ) → is_array_by (facts_of nothing_known us x) ≡ is_array_name us x
 array_known us x = ap (λ b. b && not (facts_of nothing_known us x).constant) (bounded_is us x) ∙ ap (λ b. stands is_bounded us x && not b) (constant_is us x)
 
-pub function_known : (us : List Use) (x : List ℕ) → is_function_by (facts_of nothing_known us x) x ≡ is_function us x
+pub function_known : (us : List Use77) (x : List ℕ) → is_function_by (facts_of nothing_known us x) x ≡ is_function us x
 function_known us x =
     ap (λ b. is_some (function_named x) && not b && not (facts_of nothing_known us x).constant) (variable_known us x)
     ∙ ap (λ b. is_some (function_named x) && not (is_variable us x) && not b) (constant_is us x)
@@ -207,7 +207,7 @@ kind_step f (Target n) false o = refl
 kind_step f Counter true o = refl
 kind_step f Counter false o = refl
 
-kind_from : (f : Facts) (us : List Use) (x : List ℕ) → (facts_of f us x).kind ≡ first_of f.kind (type_of us x)
+kind_from : (f : Facts) (us : List Use77) (x : List ℕ) → (facts_of f us x).kind ≡ first_of f.kind (type_of us x)
 kind_from f [] x = nothing f.kind
   where
     nothing : (p : Option Kind) → p ≡ first_of p None
@@ -215,7 +215,7 @@ kind_from f [] x = nothing f.kind
     nothing (Some k) = refl
 kind_from f (u ∷ us) x = kind_from (cond (bytes_eq u.name x) (facts_with f u.role) f) us x ∙ kind_step f u.role (bytes_eq u.name x) (type_of us x)
 
-pub kind_known : (us : List Use) (x : List ℕ) → kind_by (facts_of nothing_known us x) ≡ kind_of_name us x
+pub kind_known : (us : List Use77) (x : List ℕ) → kind_by (facts_of nothing_known us x) ≡ kind_of_name us x
 kind_known us x = ap or_integer (kind_from nothing_known us x)
 
 abbrev number_of : Option ℕ → ℕ → ℕ
@@ -244,7 +244,7 @@ dimensions_step f (Target m) false n = refl
 dimensions_step f Counter true n = refl
 dimensions_step f Counter false n = refl
 
-dimensions_from : (f : Facts) (us : List Use) (x : List ℕ) → unwrap_or (facts_of f us x).dimensions 0 ≡ number_of f.dimensions (dimensions_of_name us x)
+dimensions_from : (f : Facts) (us : List Use77) (x : List ℕ) → unwrap_or (facts_of f us x).dimensions 0 ≡ number_of f.dimensions (dimensions_of_name us x)
 dimensions_from f [] x = nothing f.dimensions
   where
     nothing : (p : Option ℕ) → unwrap_or p 0 ≡ number_of p 0
@@ -252,7 +252,7 @@ dimensions_from f [] x = nothing f.dimensions
     nothing (Some n) = refl
 dimensions_from f (u ∷ us) x = dimensions_from (cond (bytes_eq u.name x) (facts_with f u.role) f) us x ∙ dimensions_step f u.role (bytes_eq u.name x) (dimensions_of_name us x)
 
-pub dimensions_known : (us : List Use) (x : List ℕ) → dimensions_by (facts_of nothing_known us x) ≡ dimensions_of_name us x
+pub dimensions_known : (us : List Use77) (x : List ℕ) → dimensions_by (facts_of nothing_known us x) ≡ dimensions_of_name us x
 dimensions_known us x = dimensions_from nothing_known us x
 
 pub or_integer_is : (o : Option Kind) → unwrap_or o Integer ≡ or_integer o
@@ -261,25 +261,25 @@ or_integer_is (Some k) = refl
 
 -- ---- the same of names that say what the uses say
 
-pub variable_by_names : (names : Names) (us : List Use) (x : List ℕ) → AreNamesOf names us → is_variable_by (facts_in names x) ≡ is_variable us x
+pub variable_by_names : (names : Names) (us : List Use77) (x : List ℕ) → AreNamesOf names us → is_variable_by (facts_in names x) ≡ is_variable us x
 variable_by_names names us x h = ap is_variable_by (h x) ∙ variable_known us x
 
-pub constant_by_names : (names : Names) (us : List Use) (x : List ℕ) → AreNamesOf names us → (facts_in names x).constant ≡ is_constant us x
+pub constant_by_names : (names : Names) (us : List Use77) (x : List ℕ) → AreNamesOf names us → (facts_in names x).constant ≡ is_constant_name us x
 constant_by_names names us x h = ap (λ (f : Facts). f.constant) (h x) ∙ constant_is us x
 
-pub array_by_names : (names : Names) (us : List Use) (x : List ℕ) → AreNamesOf names us → is_array_by (facts_in names x) ≡ is_array us x
+pub array_by_names : (names : Names) (us : List Use77) (x : List ℕ) → AreNamesOf names us → is_array_by (facts_in names x) ≡ is_array_name us x
 array_by_names names us x h = ap is_array_by (h x) ∙ array_known us x
 
-pub function_by_names : (names : Names) (us : List Use) (x : List ℕ) → AreNamesOf names us → is_function_by (facts_in names x) x ≡ is_function us x
+pub function_by_names : (names : Names) (us : List Use77) (x : List ℕ) → AreNamesOf names us → is_function_by (facts_in names x) x ≡ is_function us x
 function_by_names names us x h = ap (λ f. is_function_by f x) (h x) ∙ function_known us x
 
-pub function_of_names : (names : Names) (us : List Use) (x : List ℕ) → AreNamesOf names us → function_by (facts_in names x) x ≡ function_of us x
+pub function_of_names : (names : Names) (us : List Use77) (x : List ℕ) → AreNamesOf names us → function_by (facts_in names x) x ≡ function_of us x
 function_of_names names us x h = ap (λ b. cond b (function_named x) None) (function_by_names names us x h)
 
-pub kind_by_names : (names : Names) (us : List Use) (x : List ℕ) → AreNamesOf names us → kind_by (facts_in names x) ≡ kind_of_name us x
+pub kind_by_names : (names : Names) (us : List Use77) (x : List ℕ) → AreNamesOf names us → kind_by (facts_in names x) ≡ kind_of_name us x
 kind_by_names names us x h = ap kind_by (h x) ∙ kind_known us x
 
-pub dimensions_by_names : (names : Names) (us : List Use) (x : List ℕ) → AreNamesOf names us → dimensions_by (facts_in names x) ≡ dimensions_of_name us x
+pub dimensions_by_names : (names : Names) (us : List Use77) (x : List ℕ) → AreNamesOf names us → dimensions_by (facts_in names x) ≡ dimensions_of_name us x
 dimensions_by_names names us x h = ap dimensions_by (h x) ∙ dimensions_known us x
 
 -- ---- a name that would be REAL
@@ -294,46 +294,46 @@ four : (a b c d a' b' c' d' n n' : Bool) → a ≡ a' → b ≡ b' → c ≡ c' 
     → ((((a || b || c) && not d) || d) && n) ≡ ((((a' || b' || c') && not d') || d') && n')
 four a b c d a' b' c' d' n n' e f g h m = cc
 
-untyped_as_known : (us : List Use) (x : List ℕ) → lacks_type_by (facts_of nothing_known us x) ≡ lacks_type us x
+untyped_as_known : (us : List Use77) (x : List ℕ) → lacks_type_by (facts_of nothing_known us x) ≡ lacks_type us x
 untyped_as_known us x =
     four (is_some (facts_of nothing_known us x).kind) (is_some (facts_of nothing_known us x).dimensions) (facts_of nothing_known us x).bare (facts_of nothing_known us x).constant
-    (stands is_typed us x) (stands is_bounded us x) (stands is_bare us x) (stands is_defined us x)
+    (stands is_typed us x) (stands is_bounded us x) (stands is_bare_role us x) (stands is_defined us x)
     (is_none (facts_of nothing_known us x).kind) (is_none (type_of us x))
     (typed_is us x) (bounded_is us x) (bare_is us x) (constant_is us x)
     (no_type (facts_of nothing_known us x).kind (type_of us x) (typed_is us x ∙ sym (type_stands us x)))
 
-real_as_known : (us : List Use) (x : List ℕ) → is_real_by (facts_of nothing_known us x) x ≡ is_real us x
+real_as_known : (us : List Use77) (x : List ℕ) → is_real_by (facts_of nothing_known us x) x ≡ is_real us x
 real_as_known us x = ap (λ b. b && not (is_implicit_integer x)) (untyped_as_known us x)
 
-untyped_uses : (names : Names) (us vs : List Use) → ((x : List ℕ) → facts_in names x ≡ facts_of nothing_known us x)
-    → list_any (is_untyped_use names) vs ≡ list_any (λ (u : Use). not (is_title u.role) && lacks_type us u.name) vs
+untyped_uses : (names : Names) (us vs : List Use77) → ((x : List ℕ) → facts_in names x ≡ facts_of nothing_known us x)
+    → list_any (is_untyped_use names) vs ≡ list_any (λ (u : Use77). not (is_title_role u.role) && lacks_type us u.name) vs
 untyped_uses names us [] h = refl
 untyped_uses names us (v ∷ vs) h =
-    ap (λ b. (not (is_title v.role) && b) || list_any (is_untyped_use names) vs) (ap lacks_type_by (h v.name) ∙ untyped_as_known us v.name)
-    ∙ ap (λ b. (not (is_title v.role) && lacks_type us v.name) || b) (untyped_uses names us vs h)
+    ap (λ b. (not (is_title_role v.role) && b) || list_any (is_untyped_use names) vs) (ap lacks_type_by (h v.name) ∙ untyped_as_known us v.name)
+    ∙ ap (λ b. (not (is_title_role v.role) && lacks_type us v.name) || b) (untyped_uses names us vs h)
 
-real_uses : (names : Names) (us vs : List Use) → ((x : List ℕ) → facts_in names x ≡ facts_of nothing_known us x)
-    → list_any (is_real_use names) vs ≡ list_any (λ (u : Use). not (is_title u.role) && is_real us u.name) vs
+real_uses : (names : Names) (us vs : List Use77) → ((x : List ℕ) → facts_in names x ≡ facts_of nothing_known us x)
+    → list_any (is_real_use names) vs ≡ list_any (λ (u : Use77). not (is_title_role u.role) && is_real us u.name) vs
 real_uses names us [] h = refl
 real_uses names us (v ∷ vs) h =
-    ap (λ b. (not (is_title v.role) && b) || list_any (is_real_use names) vs) (ap (λ f. is_real_by f v.name) (h v.name) ∙ real_as_known us v.name)
-    ∙ ap (λ b. (not (is_title v.role) && is_real us v.name) || b) (real_uses names us vs h)
+    ap (λ b. (not (is_title_role v.role) && b) || list_any (is_real_use names) vs) (ap (λ f. is_real_by f v.name) (h v.name) ∙ real_as_known us v.name)
+    ∙ ap (λ b. (not (is_title_role v.role) && is_real us v.name) || b) (real_uses names us vs h)
 
 -- the names of a program, by its uses
-pub names_known : (k : KnownNames) (us : List Use) → listed k.uses ≡ us → AreNamesOf k.names us
+pub names_known : (k : KnownNames) (us : List Use77) → listed k.uses ≡ us → AreNamesOf k.names us
 names_known k us e = subst (AreNamesOf k.names) e k.known
 
 -- what the names say of the uses in a statement is what its place says
 pub real_at : (xs : List Labelled') (i : ℕ) (x : Labelled') (names : Names) (uses : List Use')
-    → AreNamesOf names (uses_in_text (text_of xs)) → map plain_use uses ≡ uses_of (statement_of x.statement)
+    → AreNamesOf names (uses_in_text (text_of xs)) → map plain_use uses ≡ uses77_of (statement_of x.statement)
     → list_any (is_real_use names) (map plain_use uses) ≡ has_name (is_real (uses_in_text (text_of xs))) (place_at (text_of xs) i (labelled_of x))
 real_at xs i x names uses h e =
     real_uses names (uses_in_text (text_of xs)) (map plain_use uses) h
-    ∙ ap (list_any (λ (u : Use). not (is_title u.role) && is_real (uses_in_text (text_of xs)) u.name)) e
+    ∙ ap (list_any (λ (u : Use77). not (is_title_role u.role) && is_real (uses_in_text (text_of xs)) u.name)) e
 
 pub untyped_at : (xs : List Labelled') (i : ℕ) (x : Labelled') (names : Names) (uses : List Use')
-    → AreNamesOf names (uses_in_text (text_of xs)) → map plain_use uses ≡ uses_of (statement_of x.statement)
+    → AreNamesOf names (uses_in_text (text_of xs)) → map plain_use uses ≡ uses77_of (statement_of x.statement)
     → list_any (is_untyped_use names) (map plain_use uses) ≡ has_name (lacks_type (uses_in_text (text_of xs))) (place_at (text_of xs) i (labelled_of x))
 untyped_at xs i x names uses h e =
     untyped_uses names (uses_in_text (text_of xs)) (map plain_use uses) h
-    ∙ ap (list_any (λ (u : Use). not (is_title u.role) && lacks_type (uses_in_text (text_of xs)) u.name)) e
+    ∙ ap (list_any (λ (u : Use77). not (is_title_role u.role) && lacks_type (uses_in_text (text_of xs)) u.name)) e

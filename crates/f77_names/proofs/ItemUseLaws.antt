@@ -23,44 +23,44 @@ use Rattle.f77_grammar.specs.program.Uses as plain
 use Rattle.f77_names.proofs.UseLaws.{number_is, one_more}
 
 pub target-is : (r : Ref) → plain.target_uses (reference_of r).name (reference_of r).subscripts
-    ≡ plain.use_of (out-Ref r).name (plain.Target (length (out-Ref r).subs)) ∷ plain.uses_in_subscripts (subscripts (map subscript_of (out-Ref r).subs))
+    ≡ plain.use77_of (out-Ref r).name (plain.Target (length (out-Ref r).subs)) ∷ plain.uses77_in_subscripts (subscripts (map subscript_of (out-Ref r).subs))
 target-is r =
     ap (λ (q : Reference). plain.target_uses q.name q.subscripts) (reference_of-is r)
-    ∙ ap (λ n. plain.use_of (out-Ref r).name (plain.Target n) ∷ plain.uses_in_subscripts (subscripts (map subscript_of (out-Ref r).subs)))
+    ∙ ap (λ n. plain.use77_of (out-Ref r).name (plain.Target n) ∷ plain.uses77_in_subscripts (subscripts (map subscript_of (out-Ref r).subs)))
     (number_is (map subscript_of (out-Ref r).subs) ∙ length-map (out-Ref r).subs subscript_of)
 
 pub input-item : (r : Ref) → plain.input_uses (expression_of (exprs.Item r)) ≡ plain.target_uses (reference_of r).name (reference_of r).subscripts
 input-item r = ap plain.input_uses (expression_of-item r)
 
-pub input-int : (n : ℤ) → plain.input_uses (expression_of (exprs.Int n)) ≡ plain.uses_in (expression_of (exprs.Int n))
-input-int n = ap plain.input_uses (expression_of-int n) ∙ sym (ap plain.uses_in (expression_of-int n))
+pub input-int : (n : ℤ) → plain.input_uses (expression_of (exprs.Int n)) ≡ plain.uses77_in (expression_of (exprs.Int n))
+input-int n = ap plain.input_uses (expression_of-int n) ∙ sym (ap plain.uses77_in (expression_of-int n))
 
-pub input-truth : (b : Bool) → plain.input_uses (expression_of (exprs.Truth b)) ≡ plain.uses_in (expression_of (exprs.Truth b))
-input-truth b = ap plain.input_uses (expression_of-truth b) ∙ sym (ap plain.uses_in (expression_of-truth b))
+pub input-truth : (b : Bool) → plain.input_uses (expression_of (exprs.Truth b)) ≡ plain.uses77_in (expression_of (exprs.Truth b))
+input-truth b = ap plain.input_uses (expression_of-truth b) ∙ sym (ap plain.uses77_in (expression_of-truth b))
 
-pub input-un : (o : Op) (a : Box Expr Global) → plain.input_uses (expression_of (exprs.Un o a)) ≡ plain.uses_in (expression_of (exprs.Un o a))
-input-un o a = ap plain.input_uses (expression_of-un o a) ∙ sym (ap plain.uses_in (expression_of-un o a))
+pub input-un : (o : Op) (a : Box Expr Global) → plain.input_uses (expression_of (exprs.Un o a)) ≡ plain.uses77_in (expression_of (exprs.Un o a))
+input-un o a = ap plain.input_uses (expression_of-un o a) ∙ sym (ap plain.uses77_in (expression_of-un o a))
 
-pub input-bin : (o : Op) (a b : Box Expr Global) → plain.input_uses (expression_of (exprs.Bin o a b)) ≡ plain.uses_in (expression_of (exprs.Bin o a b))
-input-bin o a b = ap plain.input_uses (expression_of-bin o a b) ∙ sym (ap plain.uses_in (expression_of-bin o a b))
+pub input-bin : (o : Op) (a b : Box Expr Global) → plain.input_uses (expression_of (exprs.Bin o a b)) ≡ plain.uses77_in (expression_of (exprs.Bin o a b))
+input-bin o a b = ap plain.input_uses (expression_of-bin o a b) ∙ sym (ap plain.uses77_in (expression_of-bin o a b))
 
-pub input-call : (f : Fun) (es : Seq Expr) → plain.input_uses (expression_of (exprs.Call f es)) ≡ plain.uses_in (expression_of (exprs.Call f es))
-input-call f es = ap plain.input_uses (expression_of-call f es) ∙ sym (ap plain.uses_in (expression_of-call f es))
+pub input-call : (f : Fun) (es : Seq Expr) → plain.input_uses (expression_of (exprs.Call f es)) ≡ plain.uses77_in (expression_of (exprs.Call f es))
+input-call f es = ap plain.input_uses (expression_of-call f es) ∙ sym (ap plain.uses77_in (expression_of-call f es))
 
-pub input-list : (es : Seq Expr) (ls : Seq Turn) → plain.input_uses (expression_of (exprs.List es ls)) ≡ plain.uses_in (expression_of (exprs.List es ls))
-input-list es ls = ap plain.input_uses (expression_of-list es ls) ∙ sym (ap plain.uses_in (expression_of-list es ls))
+pub input-list : (es : Seq Expr) (ls : Seq Turn) → plain.input_uses (expression_of (exprs.List es ls)) ≡ plain.uses77_in (expression_of (exprs.List es ls))
+input-list es ls = ap plain.input_uses (expression_of-list es ls) ∙ sym (ap plain.uses77_in (expression_of-list es ls))
 
-pub input-spread : (a : Box Expr Global) (d : ℕ) (n : Box Expr Global) → plain.input_uses (expression_of (exprs.Spread a d n)) ≡ plain.uses_in (expression_of (exprs.Spread a d n))
-input-spread a d n = ap plain.input_uses (expression_of-spread a d n) ∙ sym (ap plain.uses_in (expression_of-spread a d n))
+pub input-spread : (a : Box Expr Global) (d : ℕ) (n : Box Expr Global) → plain.input_uses (expression_of (exprs.Spread a d n)) ≡ plain.uses77_in (expression_of (exprs.Spread a d n))
+input-spread a d n = ap plain.input_uses (expression_of-spread a d n) ∙ sym (ap plain.uses77_in (expression_of-spread a d n))
 
-pub input-transpose : (a : Box Expr Global) → plain.input_uses (expression_of (exprs.Transpose a)) ≡ plain.uses_in (expression_of (exprs.Transpose a))
-input-transpose a = ap plain.input_uses (expression_of-transpose a) ∙ sym (ap plain.uses_in (expression_of-transpose a))
+pub input-transpose : (a : Box Expr Global) → plain.input_uses (expression_of (exprs.Transpose a)) ≡ plain.uses77_in (expression_of (exprs.Transpose a))
+input-transpose a = ap plain.input_uses (expression_of-transpose a) ∙ sym (ap plain.uses77_in (expression_of-transpose a))
 
-pub input-reshape : (a : Box Expr Global) (es : Seq Expr) → plain.input_uses (expression_of (exprs.Reshape a es)) ≡ plain.uses_in (expression_of (exprs.Reshape a es))
-input-reshape a es = ap plain.input_uses (expression_of-reshape a es) ∙ sym (ap plain.uses_in (expression_of-reshape a es))
+pub input-reshape : (a : Box Expr Global) (es : Seq Expr) → plain.input_uses (expression_of (exprs.Reshape a es)) ≡ plain.uses77_in (expression_of (exprs.Reshape a es))
+input-reshape a es = ap plain.input_uses (expression_of-reshape a es) ∙ sym (ap plain.uses77_in (expression_of-reshape a es))
 
-pub input-reduce : (r : Red) (a : Box Expr Global) → plain.input_uses (expression_of (exprs.Reduce r a)) ≡ plain.uses_in (expression_of (exprs.Reduce r a))
-input-reduce r a = ap plain.input_uses (expression_of-reduce r a) ∙ sym (ap plain.uses_in (expression_of-reduce r a))
+pub input-reduce : (r : Red) (a : Box Expr Global) → plain.input_uses (expression_of (exprs.Reduce r a)) ≡ plain.uses77_in (expression_of (exprs.Reduce r a))
+input-reduce r a = ap plain.input_uses (expression_of-reduce r a) ∙ sym (ap plain.uses77_in (expression_of-reduce r a))
 
 -- ---- lists
 

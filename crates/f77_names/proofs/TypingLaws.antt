@@ -3,8 +3,8 @@ use Rattle.std.proofs.Common.{◌≡◌, ℕ, suc, Bool, true, false, not, ◌&&
 use Rattle.std.proofs.lemmas.List.{drop_all}
 use Rattle.tree.specs.declared.lists.Memory.{Memory}
 use Rattle.f77_grammar.specs.Statement77.{Labelled}
-use Rattle.f77_grammar.specs.program.Text.{Place, places, is_implicit_none}
-use Rattle.f77_grammar.specs.program.Uses.{Use}
+use Rattle.f77_grammar.specs.program.Text.{Place77, places, is_implicit_none}
+use Rattle.f77_grammar.specs.program.Uses.{Use77}
 use Rattle.f77_grammar.specs.program.Declarations.{has_implicit_none, has_name, is_real, lacks_type, has_real_name, has_untyped_name}
 use Rattle.f77_grammar.specs.syntax.First.{index_from, first_index}
 use Rattle.f77_grammar.specs.syntax.Views.{statement_of, text_of}
@@ -26,22 +26,22 @@ none_left xs i h = ap has_implicit_none (drop_all i (text_of xs) (text_through x
 
 -- ---- a first place by another test
 
-none_passes : (test : Place → Bool) (i : ℕ) (ps : List Place) → ((p : Place) → test p ≡ false) → index_from test i ps ≡ None
+none_passes : (test : Place77 → Bool) (i : ℕ) (ps : List Place77) → ((p : Place77) → test p ≡ false) → index_from test i ps ≡ None
 none_passes test i [] h = refl
 none_passes test i (p ∷ ps) h = ap (λ b. cond b (Some i) (index_from test (suc i) ps)) (h p) ∙ none_passes test (suc i) ps h
 
-same_index : (f g : Place → Bool) (i : ℕ) (ps : List Place) → ((p : Place) → f p ≡ g p) → index_from f i ps ≡ index_from g i ps
+same_index : (f g : Place77 → Bool) (i : ℕ) (ps : List Place77) → ((p : Place77) → f p ≡ g p) → index_from f i ps ≡ index_from g i ps
 same_index f g i [] h = refl
 same_index f g i (p ∷ ps) h =
     ap (λ b. cond b (Some i) (index_from f (suc i) ps)) (h p) ∙ ap (cond (g p) (Some i)) (same_index f g (suc i) ps h)
 
 -- ---- beside IMPLICIT NONE no name would be REAL
 
-pub real_beside_none : (text : List Labelled) (us : List Use) → has_implicit_none text ≡ true → None ≡ first_index (has_real_name text us) text
+pub real_beside_none : (text : List Labelled) (us : List Use77) → has_implicit_none text ≡ true → None ≡ first_index (has_real_name text us) text
 real_beside_none text us e =
     sym (none_passes (has_real_name text us) 0 (places text) (λ p. ap (λ b. not b && has_name (is_real us) p) e))
 
-pub real_without : (text : List Labelled) (us : List Use) (o : Result (Option ℕ) Memory) → has_implicit_none text ≡ false
+pub real_without : (text : List Labelled) (us : List Use77) (o : Result (Option ℕ) Memory) → has_implicit_none text ≡ false
     → IfOk o (λ place. place ≡ first_index (has_name (is_real us)) text) → IfOk o (λ place. place ≡ first_index (has_real_name text us) text)
 real_without text us (Ok place) e h =
     h ∙ same_index (has_name (is_real us)) (has_real_name text us) 0 (places text) (λ p. sym (ap (λ b. not b && has_name (is_real us) p) e))
@@ -49,11 +49,11 @@ real_without text us (Err m) e h = tt
 
 -- ---- without it no name needs a type
 
-pub untyped_without : (text : List Labelled) (us : List Use) → has_implicit_none text ≡ false → None ≡ first_index (has_untyped_name text us) text
+pub untyped_without : (text : List Labelled) (us : List Use77) → has_implicit_none text ≡ false → None ≡ first_index (has_untyped_name text us) text
 untyped_without text us e =
     sym (none_passes (has_untyped_name text us) 0 (places text) (λ p. ap (λ b. b && has_name (lacks_type us) p) e))
 
-pub untyped_beside_none : (text : List Labelled) (us : List Use) (o : Result (Option ℕ) Memory) → has_implicit_none text ≡ true
+pub untyped_beside_none : (text : List Labelled) (us : List Use77) (o : Result (Option ℕ) Memory) → has_implicit_none text ≡ true
     → IfOk o (λ place. place ≡ first_index (has_name (lacks_type us)) text) → IfOk o (λ place. place ≡ first_index (has_untyped_name text us) text)
 untyped_beside_none text us (Ok place) e h =
     h ∙ same_index (has_name (lacks_type us)) (has_untyped_name text us) 0 (places text) (λ p. sym (ap (λ b. b && has_name (lacks_type us) p) e))

@@ -21,42 +21,42 @@ use Rattle.tree.proofs.Equations.{expression_of-list, expression_of-spread, expr
 use Rattle.f77_grammar.specs.program.Uses as plain
 use Rattle.meaning.specs.Typed77.{number_of_subscripts}
 
-pub uses-int : (n : ℤ) → plain.uses_in (expression_of (exprs.Int n)) ≡ []
-uses-int n = ap plain.uses_in (expression_of-int n)
+pub uses-int : (n : ℤ) → plain.uses77_in (expression_of (exprs.Int n)) ≡ []
+uses-int n = ap plain.uses77_in (expression_of-int n)
 
-pub uses-truth : (b : Bool) → plain.uses_in (expression_of (exprs.Truth b)) ≡ []
-uses-truth b = ap plain.uses_in (expression_of-truth b)
+pub uses-truth : (b : Bool) → plain.uses77_in (expression_of (exprs.Truth b)) ≡ []
+uses-truth b = ap plain.uses77_in (expression_of-truth b)
 
-pub uses-un : (o : Op) (a : Box Expr Global) → plain.uses_in (expression_of (exprs.Un o a)) ≡ plain.uses_in (expression_of a.value)
-uses-un o a = ap plain.uses_in (expression_of-un o a)
+pub uses-un : (o : Op) (a : Box Expr Global) → plain.uses77_in (expression_of (exprs.Un o a)) ≡ plain.uses77_in (expression_of a.value)
+uses-un o a = ap plain.uses77_in (expression_of-un o a)
 
-pub uses-bin : (o : Op) (a b : Box Expr Global) → plain.uses_in (expression_of (exprs.Bin o a b)) ≡ plain.uses_in (expression_of a.value) ++ plain.uses_in (expression_of b.value)
-uses-bin o a b = ap plain.uses_in (expression_of-bin o a b)
+pub uses-bin : (o : Op) (a b : Box Expr Global) → plain.uses77_in (expression_of (exprs.Bin o a b)) ≡ plain.uses77_in (expression_of a.value) ++ plain.uses77_in (expression_of b.value)
+uses-bin o a b = ap plain.uses77_in (expression_of-bin o a b)
 
-pub uses-call : (f : Fun) (es : Seq Expr) → plain.uses_in (expression_of (exprs.Call f es)) ≡ plain.uses_in_arguments (expressions (map expression_of es))
-uses-call f es = ap plain.uses_in (expression_of-call f es)
+pub uses-call : (f : Fun) (es : Seq Expr) → plain.uses77_in (expression_of (exprs.Call f es)) ≡ plain.uses_in_arguments (expressions (map expression_of es))
+uses-call f es = ap plain.uses77_in (expression_of-call f es)
 
 -- an expression with arrays, which FORTRAN 77 doesn't have, has none
-pub uses-list : (es : Seq Expr) (ls : Seq Turn) → plain.uses_in (expression_of (exprs.List es ls)) ≡ []
-uses-list es ls = ap plain.uses_in (expression_of-list es ls)
+pub uses-list : (es : Seq Expr) (ls : Seq Turn) → plain.uses77_in (expression_of (exprs.List es ls)) ≡ []
+uses-list es ls = ap plain.uses77_in (expression_of-list es ls)
 
-pub uses-spread : (a : Box Expr Global) (d : ℕ) (n : Box Expr Global) → plain.uses_in (expression_of (exprs.Spread a d n)) ≡ []
-uses-spread a d n = ap plain.uses_in (expression_of-spread a d n)
+pub uses-spread : (a : Box Expr Global) (d : ℕ) (n : Box Expr Global) → plain.uses77_in (expression_of (exprs.Spread a d n)) ≡ []
+uses-spread a d n = ap plain.uses77_in (expression_of-spread a d n)
 
-pub uses-transpose : (a : Box Expr Global) → plain.uses_in (expression_of (exprs.Transpose a)) ≡ []
-uses-transpose a = ap plain.uses_in (expression_of-transpose a)
+pub uses-transpose : (a : Box Expr Global) → plain.uses77_in (expression_of (exprs.Transpose a)) ≡ []
+uses-transpose a = ap plain.uses77_in (expression_of-transpose a)
 
-pub uses-reshape : (a : Box Expr Global) (es : Seq Expr) → plain.uses_in (expression_of (exprs.Reshape a es)) ≡ []
-uses-reshape a es = ap plain.uses_in (expression_of-reshape a es)
+pub uses-reshape : (a : Box Expr Global) (es : Seq Expr) → plain.uses77_in (expression_of (exprs.Reshape a es)) ≡ []
+uses-reshape a es = ap plain.uses77_in (expression_of-reshape a es)
 
-pub uses-reduce : (r : Red) (a : Box Expr Global) → plain.uses_in (expression_of (exprs.Reduce r a)) ≡ []
-uses-reduce r a = ap plain.uses_in (expression_of-reduce r a)
+pub uses-reduce : (r : Red) (a : Box Expr Global) → plain.uses77_in (expression_of (exprs.Reduce r a)) ≡ []
+uses-reduce r a = ap plain.uses77_in (expression_of-reduce r a)
 
-pub uses-one : (e : Expr) → plain.uses_in_subscript (subscript_of (subs.One e)) ≡ plain.uses_in (expression_of e)
-uses-one e = ap plain.uses_in_subscript (subscript_of-one e)
+pub uses-one : (e : Expr) → plain.uses77_in_subscript (subscript_of (subs.One e)) ≡ plain.uses77_in (expression_of e)
+uses-one e = ap plain.uses77_in_subscript (subscript_of-one e)
 
-pub uses-part : (a b c : Expr) → plain.uses_in_subscript (subscript_of (subs.Part a b c)) ≡ []
-uses-part a b c = ap plain.uses_in_subscript (subscript_of-part a b c)
+pub uses-part : (a b c : Expr) → plain.uses77_in_subscript (subscript_of (subs.Part a b c)) ≡ []
+uses-part a b c = ap plain.uses77_in_subscript (subscript_of-part a b c)
 
 pub number_is : (ss : List Subscript) → number_of_subscripts (subscripts ss) ≡ length ss
 number_is [] = refl
@@ -65,46 +65,46 @@ number_is (s ∷ ss) = ap (λ n. 1 + n) (number_is ss) ∙ one (length ss)
     one : (n : ℕ) → 1 + n ≡ suc n
     one n = omega arith
 
-pub uses-item : (r : Ref) → plain.uses_in (expression_of (exprs.Item r))
-    ≡ plain.use_of (out-Ref r).name (plain.Valued (length (out-Ref r).subs)) ∷ plain.uses_in_subscripts (subscripts (map subscript_of (out-Ref r).subs))
+pub uses-item : (r : Ref) → plain.uses77_in (expression_of (exprs.Item r))
+    ≡ plain.use77_of (out-Ref r).name (plain.Valued (length (out-Ref r).subs)) ∷ plain.uses77_in_subscripts (subscripts (map subscript_of (out-Ref r).subs))
 uses-item r =
-    ap plain.uses_in (expression_of-item r)
-    ∙ ap (λ (q : Reference). plain.use_of q.name (plain.Valued (number_of_subscripts q.subscripts)) ∷ plain.uses_in_subscripts q.subscripts) (reference_of-is r)
-    ∙ ap (λ n. plain.use_of (out-Ref r).name (plain.Valued n) ∷ plain.uses_in_subscripts (subscripts (map subscript_of (out-Ref r).subs)))
+    ap plain.uses77_in (expression_of-item r)
+    ∙ ap (λ (q : Reference). plain.use77_of q.name (plain.Valued (number_of_subscripts q.subscripts)) ∷ plain.uses77_in_subscripts q.subscripts) (reference_of-is r)
+    ∙ ap (λ n. plain.use77_of (out-Ref r).name (plain.Valued n) ∷ plain.uses77_in_subscripts (subscripts (map subscript_of (out-Ref r).subs)))
     (number_is (map subscript_of (out-Ref r).subs) ∙ length-map (out-Ref r).subs subscript_of)
 
 pub arguments_append : (xs ys : List Expression) → plain.uses_in_arguments (expressions (xs ++ ys)) ≡ plain.uses_in_arguments (expressions xs) ++ plain.uses_in_arguments (expressions ys)
 arguments_append [] ys = refl
-arguments_append (x ∷ xs) ys = ap (λ us. plain.uses_in x ++ us) (arguments_append xs ys) ∙ sym (append_assoc (plain.uses_in x) (plain.uses_in_arguments (expressions xs)) (plain.uses_in_arguments (expressions ys)))
+arguments_append (x ∷ xs) ys = ap (λ us. plain.uses77_in x ++ us) (arguments_append xs ys) ∙ sym (append_assoc (plain.uses77_in x) (plain.uses_in_arguments (expressions xs)) (plain.uses_in_arguments (expressions ys)))
 
-pub subscripts_append : (xs ys : List Subscript) → plain.uses_in_subscripts (subscripts (xs ++ ys)) ≡ plain.uses_in_subscripts (subscripts xs) ++ plain.uses_in_subscripts (subscripts ys)
+pub subscripts_append : (xs ys : List Subscript) → plain.uses77_in_subscripts (subscripts (xs ++ ys)) ≡ plain.uses77_in_subscripts (subscripts xs) ++ plain.uses77_in_subscripts (subscripts ys)
 subscripts_append [] ys = refl
-subscripts_append (x ∷ xs) ys = ap (λ us. plain.uses_in_subscript x ++ us) (subscripts_append xs ys) ∙ sym (append_assoc (plain.uses_in_subscript x) (plain.uses_in_subscripts (subscripts xs)) (plain.uses_in_subscripts (subscripts ys)))
+subscripts_append (x ∷ xs) ys = ap (λ us. plain.uses77_in_subscript x ++ us) (subscripts_append xs ys) ∙ sym (append_assoc (plain.uses77_in_subscript x) (plain.uses77_in_subscripts (subscripts xs)) (plain.uses77_in_subscripts (subscripts ys)))
 
 pub one_more : {A : Type 0} (xs : List A) (i : ℕ) (x : A) → i < length xs → x ≡ get_or xs i x → take (i + 1) xs ≡ take i xs ++ x ∷ []
 one_more xs i x h e = ap (λ n. take n xs) (add-one i) ∙ take-suc xs i x h ∙ ap (λ y. take i xs ++ y ∷ []) (sym e)
 
 pub arguments_more : (items : List Expr) (i : ℕ) (x : Expr) → i < length items → x ≡ get_or items i x
-    → plain.uses_in_arguments (expressions (map expression_of (take (i + 1) items))) ≡ plain.uses_in_arguments (expressions (map expression_of (take i items))) ++ plain.uses_in (expression_of x)
+    → plain.uses_in_arguments (expressions (map expression_of (take (i + 1) items))) ≡ plain.uses_in_arguments (expressions (map expression_of (take i items))) ++ plain.uses77_in (expression_of x)
 arguments_more items i x h e =
     ap (λ xs. plain.uses_in_arguments (expressions (map expression_of xs))) (one_more items i x h e)
     ∙ ap (λ xs. plain.uses_in_arguments (expressions xs)) (map-append expression_of (take i items) (x ∷ []))
     ∙ arguments_append (map expression_of (take i items)) (expression_of x ∷ [])
-    ∙ ap (λ us. plain.uses_in_arguments (expressions (map expression_of (take i items))) ++ us) (append-nil (plain.uses_in (expression_of x)))
+    ∙ ap (λ us. plain.uses_in_arguments (expressions (map expression_of (take i items))) ++ us) (append-nil (plain.uses77_in (expression_of x)))
 
 pub subscripts_more : (items : List Sub) (i : ℕ) (x : Sub) → i < length items → x ≡ get_or items i x
-    → plain.uses_in_subscripts (subscripts (map subscript_of (take (i + 1) items))) ≡ plain.uses_in_subscripts (subscripts (map subscript_of (take i items))) ++ plain.uses_in_subscript (subscript_of x)
+    → plain.uses77_in_subscripts (subscripts (map subscript_of (take (i + 1) items))) ≡ plain.uses77_in_subscripts (subscripts (map subscript_of (take i items))) ++ plain.uses77_in_subscript (subscript_of x)
 subscripts_more items i x h e =
-    ap (λ xs. plain.uses_in_subscripts (subscripts (map subscript_of xs))) (one_more items i x h e)
-    ∙ ap (λ xs. plain.uses_in_subscripts (subscripts xs)) (map-append subscript_of (take i items) (x ∷ []))
+    ap (λ xs. plain.uses77_in_subscripts (subscripts (map subscript_of xs))) (one_more items i x h e)
+    ∙ ap (λ xs. plain.uses77_in_subscripts (subscripts xs)) (map-append subscript_of (take i items) (x ∷ []))
     ∙ subscripts_append (map subscript_of (take i items)) (subscript_of x ∷ [])
-    ∙ ap (λ us. plain.uses_in_subscripts (subscripts (map subscript_of (take i items))) ++ us) (append-nil (plain.uses_in_subscript (subscript_of x)))
+    ∙ ap (λ us. plain.uses77_in_subscripts (subscripts (map subscript_of (take i items))) ++ us) (append-nil (plain.uses77_in_subscript (subscript_of x)))
 
-pub nothing_added : (us vs : List plain.Use) → vs ≡ [] → us ≡ us ++ vs
+pub nothing_added : (us vs : List plain.Use77) → vs ≡ [] → us ≡ us ++ vs
 nothing_added us vs e = sym (ap (λ t. us ++ t) e ∙ append-nil us)
 
 -- what was added before, and what is added now
-pub added : (first old new before now all : List plain.Use) → old ≡ first ++ before → new ≡ old ++ now → all ≡ before ++ now → new ≡ first ++ all
+pub added : (first old new before now all : List plain.Use77) → old ≡ first ++ before → new ≡ old ++ now → all ≡ before ++ now → new ≡ first ++ all
 added first old new before now all e f g = f ∙ ap (λ t. t ++ now) e ∙ append_assoc first before now ∙ ap (λ t. first ++ t) (sym g)
 
 pub ruleset use_laws = (uses-int, uses-truth, uses-un, uses-bin, uses-call, uses-list, uses-spread, uses-transpose, uses-reshape, uses-reduce, uses-one, uses-part, uses-item, append_assoc)

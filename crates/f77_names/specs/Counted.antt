@@ -3,7 +3,7 @@ use Rattle.std.specs.Prelude.{◌≡◌, ℕ, Bool, ◌||◌, List, ◌++◌, ma
 use Rattle.std.specs.Str.{bytes_eq}
 use Rattle.std.specs.List.{list_any, filter}
 use Rattle.meaning.specs.Names.{is_among}
-use Rattle.f77_grammar.specs.program.Uses.{Use, is_variable, is_constant}
+use Rattle.f77_grammar.specs.program.Uses.{Use77, is_variable, is_constant_name}
 use Rattle.f77_grammar.specs.program.Limits.{once}
 use Rattle.f77_names.specs.declared.counts.Counted.{Counted}
 use Rattle.f77_names.specs.declared.names.Facts.{Facts}
@@ -14,8 +14,9 @@ abbrev pub is_counted_by : Facts → Bool
 is_counted_by f = is_variable_by f || f.constant
 
 -- the variables and symbolic constants of the program that stand so, as often as they stand
-abbrev pub counted_in : List Use → List Use → List (List ℕ)
-counted_in us vs = map (λ (u : Use). u.name) (filter (λ (u : Use). is_variable us u.name || is_constant us u.name) vs)
+abbrev pub counted_in : List Use77 → List Use77 → List (List ℕ)
+counted_in us vs =
+    map (λ (u : Use77). u.name) (filter (λ (u : Use77). is_variable us u.name || is_constant_name us u.name) vs)
 
 -- exactly these names, each once
 pub record Holds (counted : Counted) (xs : List (List ℕ)) : Type 0 where
@@ -23,6 +24,6 @@ pub record Holds (counted : Counted) (xs : List (List ℕ)) : Type 0 where
   pub number : length counted.names.keys ≡ length (once xs)
 
 -- the variables and symbolic constants among these uses are counted too
-abbrev pub Counts : Names → Counted → Counted → List Use → Type 0
-Counts names old new vs = (us : List Use) (xs : List (List ℕ)) → AreNamesOf names us → Holds old xs
+abbrev pub Counts : Names → Counted → Counted → List Use77 → Type 0
+Counts names old new vs = (us : List Use77) (xs : List (List ℕ)) → AreNamesOf names us → Holds old xs
     → Holds new (counted_in us vs ++ xs)

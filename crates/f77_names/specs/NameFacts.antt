@@ -6,8 +6,8 @@ use Rattle.std.specs.Str.{bytes_eq}
 use Rattle.indexmap.specs.IndexMap.{get}
 use Rattle.tree.specs.declared.ops.Kind.{Kind}
 use Rattle.tree.specs.declared.functions.Fun.{Fun}
-use Rattle.f77_grammar.specs.program.Uses.{Role, Title, Typed, Bounded, Defined, Valued, Target, Counter, Use, is_title}
-use Rattle.f77_grammar.specs.program.Uses.{is_function, calls, or_integer}
+use Rattle.f77_grammar.specs.program.Uses.{Role, Title, Typed, Bounded, Defined, Valued, Target, Counter, Use77}
+use Rattle.f77_grammar.specs.program.Uses.{is_title_role, is_function, calls, or_integer}
 use Rattle.meaning.specs.Names.{is_implicit_integer}
 use Rattle.tree.specs.Functions.{function_named}
 use Rattle.f77_names.specs.declared.names.Facts.{Facts}
@@ -34,7 +34,7 @@ facts_with f (Target (suc n)) = f
 facts_with f Counter = record f { bare = true }
 
 -- what uses say of the name x, after what is known
-abbrev pub facts_of : Facts → List Use → List ℕ → Facts
+abbrev pub facts_of : Facts → List Use77 → List ℕ → Facts
 facts_of f [] x = f
 facts_of f (u ∷ us) x = facts_of (if bytes_eq u.name x then facts_with f u.role else f) us x
 
@@ -46,7 +46,7 @@ abbrev pub facts_in : Names → List ℕ → Facts
 facts_in names x = known (get bytes_eq names.table x)
 
 -- the names say of each name what these uses of names say
-abbrev pub AreNamesOf : Names → List Use → Type 0
+abbrev pub AreNamesOf : Names → List Use77 → Type 0
 AreNamesOf names us = (x : List ℕ) → facts_in names x ≡ facts_of nothing_known us x
 
 -- ---- what a name is by these
@@ -67,15 +67,15 @@ abbrev pub dimensions_by : Facts → ℕ
 dimensions_by f = unwrap_or f.dimensions 0
 
 -- the function that a name names, if it isn't hidden
-abbrev pub function_of : List Use → List ℕ → Option Fun
+abbrev pub function_of : List Use77 → List ℕ → Option Fun
 function_of us x = if is_function us x then function_named x else None
 
 -- the function that is called where the name stands so
-abbrev pub called_of : List Use → Use → Option Fun
+abbrev pub called_of : List Use77 → Use77 → Option Fun
 called_of us u = if calls us u then function_named u.name else None
 
-abbrev pub called_by : Facts → Use → Option Fun
-called_by f u = if not (is_title u.role) && is_function_by f u.name then function_named u.name else None
+abbrev pub called_by : Facts → Use77 → Option Fun
+called_by f u = if not (is_title_role u.role) && is_function_by f u.name then function_named u.name else None
 
 abbrev pub function_by : Facts → List ℕ → Option Fun
 function_by f x = if is_function_by f x then function_named x else None
@@ -88,8 +88,8 @@ lacks_type_by f = (is_variable_by f || f.constant) && is_none f.kind
 abbrev pub is_real_by : Facts → List ℕ → Bool
 is_real_by f x = lacks_type_by f && not (is_implicit_integer x)
 
-abbrev pub is_real_use : Names → Use → Bool
-is_real_use names u = not (is_title u.role) && is_real_by (facts_in names u.name) u.name
+abbrev pub is_real_use : Names → Use77 → Bool
+is_real_use names u = not (is_title_role u.role) && is_real_by (facts_in names u.name) u.name
 
-abbrev pub is_untyped_use : Names → Use → Bool
-is_untyped_use names u = not (is_title u.role) && lacks_type_by (facts_in names u.name)
+abbrev pub is_untyped_use : Names → Use77 → Bool
+is_untyped_use names u = not (is_title_role u.role) && lacks_type_by (facts_in names u.name)

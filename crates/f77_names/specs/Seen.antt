@@ -7,9 +7,9 @@ use Rattle.tree.specs.declared.exprs.Expr.{Expr}
 use Rattle.f77_grammar.specs.Statement77.{Statement77}
 use Rattle.meaning.specs.Names.{is_among}
 use Rattle.tree.specs.Functions.{function_named}
-use Rattle.f77_grammar.specs.program.Uses.{Role, Title, Typed, Bounded, Defined, Valued, Target, Counter, Use, uses_of}
-use Rattle.f77_grammar.specs.program.Uses.{is_title, is_typed, is_defined, names_that, stands}
-use Rattle.f77_grammar.specs.program.Declarations.{has_repeat, is_array_or_constant, is_listed, has_unknown_constant}
+use Rattle.f77_grammar.specs.program.Uses.{Role, Title, Typed, Bounded, Defined, Valued, Target, Counter, Use77}
+use Rattle.f77_grammar.specs.program.Uses.{uses77_of, is_title_role, is_typed, is_defined, names_that, stands}
+use Rattle.f77_grammar.specs.program.Declarations.{has_repeat, is_array_or_constant, has_list, has_unknown_constant}
 use Rattle.f77_grammar.specs.program.Declarations.{has_misused_name, printed_by, bears_title}
 use Rattle.f77_names.specs.declared.names.Facts.{Facts}
 use Rattle.f77_names.specs.declared.names.Names.{Names}
@@ -28,14 +28,14 @@ abbrev pub is_shaped_by : Facts → Bool
 is_shaped_by f = is_some f.dimensions || f.constant
 
 -- the names know how each name stands in these uses, in whatever order
-pub record HaveSeen (names : Names) (seen : List Use) : Type 0 where
+pub record HaveSeen (names : Names) (seen : List Use77) : Type 0 where
   pub typed : (x : List ℕ) → is_typed_by (facts_in names x) ≡ stands is_typed seen x
   pub shaped : (x : List ℕ) → is_shaped_by (facts_in names x) ≡ stands is_array_or_constant seen x
   pub constant : (x : List ℕ) → (facts_in names x).constant ≡ stands is_defined seen x
-  pub title : (x : List ℕ) → (facts_in names x).title ≡ stands is_title seen x
+  pub title : (x : List ℕ) → (facts_in names x).title ≡ stands is_title_role seen x
 
 -- the uses that were gone through, the last first, and those before
-abbrev pub seen_after : List Use' → ℕ → List Use → List Use
+abbrev pub seen_after : List Use' → ℕ → List Use77 → List Use77
 seen_after uses i seen = reverse (map plain_use (take i uses)) ++ seen
 
 -- the same of the names that a PARAMETER defines
@@ -45,7 +45,7 @@ defined_after constants i defined = reverse (map (λ (d : List ℕ × Expr). d.0
 -- ---- the checks
 
 -- one of these names is declared again, behind what stands before
-abbrev pub declares_again : List Use → List Use → Bool
+abbrev pub declares_again : List Use77 → List Use77 → Bool
 declares_again seen us =
     has_repeat (names_that is_typed seen) (names_that is_typed us)
     || has_repeat (names_that is_array_or_constant seen) (names_that is_array_or_constant us)
@@ -60,18 +60,18 @@ is_again_by f (Target n) = false
 is_again_by f Counter = false
 
 -- the program's name stands as another name, or Fortran 90 spells a function so that is called
-abbrev pub bears_title_by : Names → Names → Use → Bool
+abbrev pub bears_title_by : Names → Names → Use77 → Bool
 bears_title_by before names u =
     let printed = printed_by (called_by (facts_in names u.name) u) u.name in
-    not (is_title u.role) && ((facts_in before u.name).title || (facts_in before printed).title)
+    not (is_title_role u.role) && ((facts_in before u.name).title || (facts_in before printed).title)
 
 -- the name is a symbolic constant, by the statements before or earlier in the same
 abbrev pub is_constant_in : Names → Names → List ℕ → Bool
 is_constant_in before own x = (facts_in own x).constant || (facts_in before x).constant
 
-abbrev pub is_unknown_use : Names → Names → Use → Bool
+abbrev pub is_unknown_use : Names → Names → Use77 → Bool
 is_unknown_use before own u = not (is_constant_in before own u.name)
-    || (is_listed u.role && is_none (function_named u.name))
+    || (has_list u.role && is_none (function_named u.name))
 
 -- exactly these names are defined
 abbrev pub Define : Names → Names → List (List ℕ) → Type 0
@@ -93,27 +93,27 @@ is_misused_by f x (Bounded n) = false
 is_misused_by f x Defined = false
 is_misused_by f x Counter = false
 
-abbrev pub is_misused_use : Names → Use → Bool
+abbrev pub is_misused_use : Names → Use77 → Bool
 is_misused_use names u = is_misused_by (facts_in names u.name) u.name u.role
 
 -- ---- a statement
 
 -- a statement is wrong, by all uses in the program and those that stand before
-abbrev pub is_wrong_after : List Use → List Use → Statement77 → Bool
+abbrev pub is_wrong_after : List Use77 → List Use77 → Statement77 → Bool
 is_wrong_after us seen s =
-    has_repeat (names_that is_typed seen) (names_that is_typed (uses_of s))
-    || has_repeat (names_that is_array_or_constant seen) (names_that is_array_or_constant (uses_of s))
-    || list_any (bears_title us seen) (uses_of s)
+    has_repeat (names_that is_typed seen) (names_that is_typed (uses77_of s))
+    || has_repeat (names_that is_array_or_constant seen) (names_that is_array_or_constant (uses77_of s))
+    || list_any (bears_title us seen) (uses77_of s)
     || has_unknown_constant (names_that is_defined seen) s
     || has_misused_name us s
 
 -- what the check of a list of uses gives, with the names before and after it
-abbrev pub Declares : Names → Names → List Use → Bool → Type 0
-Declares old new us again = (seen : List Use) → HaveSeen old seen → (again ≡ declares_again seen us)
+abbrev pub Declares : Names → Names → List Use77 → Bool → Type 0
+Declares old new us again = (seen : List Use77) → HaveSeen old seen → (again ≡ declares_again seen us)
     × (again ≡ false → HaveSeen new (us ++ seen))
 
 -- what the check of a statement gives, with the names before and after it
 abbrev pub Passes : Names → Names → Names → Statement77 → Bool → Type 0
 Passes names old new s wrong =
-    (us seen : List Use) → AreNamesOf names us → HaveSeen old seen → (wrong ≡ is_wrong_after us seen s)
-    × (wrong ≡ false → HaveSeen new (uses_of s ++ seen))
+    (us seen : List Use77) → AreNamesOf names us → HaveSeen old seen → (wrong ≡ is_wrong_after us seen s)
+    × (wrong ≡ false → HaveSeen new (uses77_of s ++ seen))

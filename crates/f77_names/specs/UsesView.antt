@@ -15,8 +15,8 @@ role_of (Valued n) = plain.Valued n
 role_of (Target n) = plain.Target n
 role_of Counter = plain.Counter
 
-abbrev pub plain_use : Use → plain.Use
+abbrev pub plain_use : Use → plain.Use77
 plain_use u = record { name = u.name; role = role_of u.role }
 
-abbrev pub listed : Uses → List plain.Use
+abbrev pub listed : Uses → List plain.Use77
 listed uses = map plain_use uses.items.items

@@ -2,7 +2,7 @@
 //! and 8.6).
 ghost use Rattle.std.specs.Prelude.{◌≡◌, ◌++◌, List, ℕ, IfOk, OnOk, map};
 ghost use Rattle.std.specs.List.{list_any};
-ghost use Rattle.f77_grammar.specs.program.Declarations.{is_listed, has_unknown, bounds_of_entities};
+ghost use Rattle.f77_grammar.specs.program.Declarations.{has_list, has_unknown, bounds_of_entities};
 ghost use Rattle.f77_grammar.specs.program.Declarations.{defines_from_unknown, has_unknown_constant};
 ghost use Rattle.f77_grammar.specs.syntax.Views.{statement_of, entity_of, constant_of};
 ghost use Rattle.f77_names.specs.Seen.{is_unknown_use, AreDefined};
@@ -17,7 +17,7 @@ use tree::{Expr, Fun, Memory, Name};
 impl Role {
     // A list in parentheses follows the name.
     fn is_listed(self) -> bool
-        ensures { result ≡ is_listed (role_of self) }
+        ensures { result ≡ has_list (role_of self) }
     {
         match self {
             Role::Valued(count) => count != 0,

@@ -42,14 +42,14 @@ impl KnownNames {
 
     /// The name is an array.
     pub fn is_array(&self, name: Name) -> bool
-        ensures { result ≡ plain.is_array (listed self.now.uses) name }
+        ensures { result ≡ plain.is_array_name (listed self.now.uses) name }
     {
         self.names.is_array(name)
     }
 
     /// The name is a symbolic constant.
     pub fn is_constant(&self, name: Name) -> bool
-        ensures { result ≡ plain.is_constant (listed self.now.uses) name }
+        ensures { result ≡ plain.is_constant_name (listed self.now.uses) name }
     {
         self.names.is_constant(name)
     }

@@ -157,7 +157,7 @@ impl Names {
     /// constant.
     pub fn is_variable(&self, name: Name) -> bool
         ensures known { result ≡ is_variable_by (facts_in self.now name) }
-        ensures exact { (us : List plain.Use) → AreNamesOf self.now us → result ≡ plain.is_variable us name }
+        ensures exact { (us : List plain.Use77) → AreNamesOf self.now us → result ≡ plain.is_variable us name }
     {
         self.facts(name).is_variable()
     }
@@ -165,7 +165,7 @@ impl Names {
     /// The name is a symbolic constant.
     pub fn is_constant(&self, name: Name) -> bool
         ensures known { result ≡ (facts_in self.now name).constant }
-        ensures exact { (us : List plain.Use) → AreNamesOf self.now us → result ≡ plain.is_constant us name }
+        ensures exact { (us : List plain.Use77) → AreNamesOf self.now us → result ≡ plain.is_constant_name us name }
     {
         self.facts(name).constant
     }
@@ -173,7 +173,7 @@ impl Names {
     /// The name is an array.
     pub fn is_array(&self, name: Name) -> bool
         ensures known { result ≡ is_array_by (facts_in self.now name) }
-        ensures exact { (us : List plain.Use) → AreNamesOf self.now us → result ≡ plain.is_array us name }
+        ensures exact { (us : List plain.Use77) → AreNamesOf self.now us → result ≡ plain.is_array_name us name }
     {
         self.facts(name).is_array()
     }
@@ -181,7 +181,7 @@ impl Names {
     /// The name is a function's, and no variable or symbolic constant hides it.
     pub fn is_function(&self, name: Name) -> bool
         ensures known { result ≡ is_function_by (facts_in self.now name) name }
-        ensures exact { (us : List plain.Use) → AreNamesOf self.now us → result ≡ plain.is_function us name }
+        ensures exact { (us : List plain.Use77) → AreNamesOf self.now us → result ≡ plain.is_function us name }
     {
         self.facts(name).is_function(name)
     }
@@ -189,7 +189,7 @@ impl Names {
     /// The function that the name names, where nothing hides it.
     pub fn function(&self, name: Name) -> Option<Fun>
         ensures known { result ≡ function_by (facts_in self.now name) name }
-        ensures exact { (us : List plain.Use) → AreNamesOf self.now us → result ≡ function_of us name }
+        ensures exact { (us : List plain.Use77) → AreNamesOf self.now us → result ≡ function_of us name }
     {
         self.facts(name).function(name)
     }
@@ -198,7 +198,7 @@ impl Names {
     #[tactic(auto, using(crate::proofs::TitleLaws::call_laws))]
     pub fn called(&self, used: &Use) -> Option<Fun>
         ensures known { result ≡ called_by (facts_in self.now used.now.name) (plain_use used.now) }
-        ensures exact { (us : List plain.Use) → AreNamesOf self.now us → result ≡ called_of us (plain_use used.now) }
+        ensures exact { (us : List plain.Use77) → AreNamesOf self.now us → result ≡ called_of us (plain_use used.now) }
     {
         if used.role.is_title() {
             return None;
@@ -209,7 +209,7 @@ impl Names {
     /// The kind of a variable or symbolic constant, INTEGER where no type is given.
     pub fn kind(&self, name: Name) -> Kind
         ensures known { result ≡ kind_by (facts_in self.now name) }
-        ensures exact { (us : List plain.Use) → AreNamesOf self.now us → result ≡ plain.kind_of_name us name }
+        ensures exact { (us : List plain.Use77) → AreNamesOf self.now us → result ≡ plain.kind_of_name us name }
     {
         self.facts(name).kind.unwrap_or(Kind::Integer)
     }
@@ -217,7 +217,7 @@ impl Names {
     /// How many dimensions a declaration gives the name, 0 where it gives none.
     pub fn dimensions(&self, name: Name) -> usize
         ensures known { result ≡ dimensions_by (facts_in self.now name) }
-        ensures exact { (us : List plain.Use) → AreNamesOf self.now us → result ≡ plain.dimensions_of_name us name }
+        ensures exact { (us : List plain.Use77) → AreNamesOf self.now us → result ≡ plain.dimensions_of_name us name }
     {
         self.facts(name).dimensions.unwrap_or(0)
     }

@@ -16,7 +16,7 @@ impl Uses {
     #[tactic(auto, using(crate::proofs::StatementUseLaws::entity_laws))]
     fn add_bound(&mut self, bound: &(Expr, Expr)) -> Result<(), Memory>
         ensures { OnOk result (listed self.new ≡ listed self.old
-            ++ (plain.uses_in (expression_of bound.now.0) ++ plain.uses_in (expression_of bound.now.1))) }
+            ++ (plain.uses77_in (expression_of bound.now.0) ++ plain.uses77_in (expression_of bound.now.1))) }
     {
         self.add_expr(&bound.0)?;
         self.add_expr(&bound.1)
@@ -101,7 +101,7 @@ impl Uses {
     /// The uses in a statement, also in the inner one of a logical IF.
     #[tactic(auto, using(crate::proofs::StatementUseLaws::statement_use_laws))]
     pub(crate) fn add_statement(&mut self, statement: &Stmt77) -> Result<(), Memory>
-        ensures { OnOk result (listed self.new ≡ listed self.old ++ plain.uses_of (statement_of statement.now)) }
+        ensures { OnOk result (listed self.new ≡ listed self.old ++ plain.uses77_of (statement_of statement.now)) }
     {
         match statement {
             Stmt77::Program(name) => self.note(*name, Role::Title),
@@ -134,7 +134,7 @@ impl Uses {
 
 /// The uses of names in a statement, also in the inner one of a logical IF.
 pub fn uses_of(alloc: Global, statement: &Stmt77) -> Result<Uses, Memory>
-    ensures { IfOk result (λ uses. listed uses ≡ plain.uses_of (statement_of statement.now)) }
+    ensures { IfOk result (λ uses. listed uses ≡ plain.uses77_of (statement_of statement.now)) }
 {
     let mut uses = Uses::new(alloc);
     uses.add_statement(statement)?;

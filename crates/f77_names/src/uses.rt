@@ -31,7 +31,7 @@ pub enum Role {
 impl Role {
     /// The name stands as the program's.
     pub fn is_title(self) -> bool
-        ensures { result ≡ plain.is_title (role_of self) }
+        ensures { result ≡ plain.is_title_role (role_of self) }
     {
         match self {
             Role::Title => true,
@@ -75,7 +75,7 @@ impl Uses {
     }
 
     pub(crate) fn note(&mut self, name: Name, role: Role) -> Result<(), Memory>
-        ensures { OnOk result (listed self.new ≡ listed self.old ++ plain.use_of name (role_of role) ∷ []) }
+        ensures { OnOk result (listed self.new ≡ listed self.old ++ plain.use77_of name (role_of role) ∷ []) }
     {
         self.items.push(Use { name, role })?;
         Ok(())
@@ -84,7 +84,7 @@ impl Uses {
     #[cycle(uses)]
     #[tactic(auto, using(crate::proofs::UseLaws::use_laws))]
     pub(crate) fn add_expr(&mut self, expr: &Expr) -> Result<(), Memory>
-        ensures { OnOk result (listed self.new ≡ listed self.old ++ plain.uses_in (expression_of expr.now)) }
+        ensures { OnOk result (listed self.new ≡ listed self.old ++ plain.uses77_in (expression_of expr.now)) }
     {
         match expr {
             Expr::Int(_) => Ok(()),
@@ -108,7 +108,7 @@ impl Uses {
     #[tactic(auto, using(crate::proofs::UseLaws::use_laws))]
     fn add_value(&mut self, item: &Ref) -> Result<(), Memory>
         ensures { OnOk result (listed self.new ≡ listed self.old
-            ++ plain.uses_in (expression_of (exprs.Item item.now))) }
+            ++ plain.uses77_in (expression_of (exprs.Item item.now))) }
     {
         self.note(item.name, Role::Valued(item.subs.len()))?;
         self.add_subs(&item.subs)
@@ -128,7 +128,7 @@ impl Uses {
     #[cycle(uses)]
     #[tactic(auto, using(crate::proofs::UseLaws::use_laws))]
     fn add_sub(&mut self, sub: &Sub) -> Result<(), Memory>
-        ensures { OnOk result (listed self.new ≡ listed self.old ++ plain.uses_in_subscript (subscript_of sub.now)) }
+        ensures { OnOk result (listed self.new ≡ listed self.old ++ plain.uses77_in_subscript (subscript_of sub.now)) }
     {
         match sub {
             Sub::One(expr) => self.add_expr(expr),
@@ -139,7 +139,7 @@ impl Uses {
     #[cycle(uses)]
     pub(crate) fn add_subs(&mut self, subs: &Seq<Sub>) -> Result<(), Memory>
         ensures { OnOk result (listed self.new ≡ listed self.old
-            ++ plain.uses_in_subscripts (subscripts (map subscript_of subs.now))) }
+            ++ plain.uses77_in_subscripts (subscripts (map subscript_of subs.now))) }
     {
         for sub in subs.as_slice() {
             self.add_sub(sub)?;

@@ -11,7 +11,7 @@ use Rattle.tree.specs.declared.refusals.Refused.TheVariants as refused
 use Rattle.f77_grammar.specs.Cards.{PlainCard}
 use Rattle.f77_grammar.specs.Statement77.{Labelled, Statement77}
 use Rattle.f77_grammar.specs.statements.Reading.{ReadsStatement, IsRefusedBy}
-use Rattle.f77_grammar.specs.Answered.{comes_before}
+use Rattle.reading.specs.refusal_order.Answered.{comes_before}
 use Rattle.f77_grammar.proofs.Answered.{not_before_itself, not_before_sooner}
 use Rattle.f77_checks.specs.Outcomes.{IfRefusal}
 use Rattle.f77_laws.proofs.Lists.{all_weaker, all_both}

@@ -7,7 +7,7 @@ use Rattle.f77_grammar.specs.Cards.{PlainCard}
 use Rattle.f77_grammar.specs.Statement77 as plain
 use Rattle.f77_grammar.specs.Statement77.{Statement77}
 use Rattle.f77_grammar.specs.statements.Reading.{ReadsStatement, IsRefusedBy}
-use Rattle.f77_grammar.specs.Answered.{comes_before}
+use Rattle.reading.specs.refusal_order.Answered.{comes_before}
 use Rattle.f77_checks.specs.Outcomes.{IfRefusal}
 use Rattle.f77_grammar.specs.declared.syntax.statements.Labelled.{Labelled}
 use Rattle.f77_grammar.specs.syntax.Views.{labelled_of, text_of}

@@ -1,6 +1,7 @@
 //! A FORTRAN 77 program, from its source or from the cards of it.
 //!
-//! Proved (`read77`): a source of fixed form is read as a program exactly where its cards are statements in which
+//! Proved (`read77`), at each width of INTEGER: a source of fixed form is read as a program exactly where its cards are
+//! statements in which
 //! nothing is wrong (`ok`, `only_read`), that program is one of the profile (`program`), and it is refused exactly
 //! where, and for the number, line and word for which, the definition refuses it (`refused`, `only_refused`), unless
 //! memory runs out; a declaration of fixed bounds that it has made has at least one (`dimensions`). `build` says the

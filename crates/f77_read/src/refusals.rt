@@ -1,12 +1,12 @@
 //! Which of two refusals comes first.
 ghost use Rattle.std.specs.Prelude.{◌≡◌};
-ghost use Rattle.f77_grammar.specs.Answered as plain;
 ghost use Rattle.f77_read.specs.Cards as cards;
+ghost use Rattle.reading.specs.refusal_order.Answered as answered;
 
 use tree::Refusal;
 
 fn comes_before(a: Refusal, b: Refusal) -> bool
-    ensures { result ≡ plain.comes_before a b }
+    ensures { result ≡ answered.comes_before a b }
 {
     a.number < b.number
         || (a.number == b.number && (a.line < b.line || (a.line == b.line && a.word < b.word)))

@@ -1,7 +1,7 @@
 -- What is given or not, where a function gives up.
 use Rattle.std.proofs.Common.{◌≡◌, List, [], ◌∷◌, length, ap, refl, arith, Err}
 use Rattle.std.proofs.lemmas.List.{length-map}
-use Rattle.f77_grammar.specs.expressions.Words.{Word}
+use Rattle.f77_grammar.specs.expressions.Words.{Word77}
 use Rattle.reading.specs.declared.stops.Stop.{Stop}
 use Rattle.reading.specs.declared.stops.Stop.TheVariants.{Syntax, Memory}
 use Rattle.f77_expressions.specs.declared.tokens.Token.{Token}
@@ -15,7 +15,7 @@ pub given_err : {A B : Type 0} (P : A → Type 0) (Q : B → Type 0) (e : Stop) 
 given_err P Q Syntax h = h
 given_err P Q Memory h = tt
 
-pub words_err : {B : Type 0} (Q : B → Type 0) (e : Stop) (ws : List Word) → GivesWords (Err e) ws → Given (Err e) Q
+pub words_err : {B : Type 0} (Q : B → Type 0) (e : Stop) (ws : List Word77) → GivesWords (Err e) ws → Given (Err e) Q
 words_err Q Syntax ws h = h
 words_err Q Memory ws h = tt
 

@@ -1,13 +1,14 @@
 -- What stands behind the parenthesis of an IF.
 use Rattle.std.specs.Prelude.{◌≡◌, List, codes}
-use Rattle.f77_grammar.specs.expressions.Phrases.{Phrase, IsExpression, written}
-use Rattle.f77_grammar.specs.expressions.Spelling.{Words, chars}
-use Rattle.f77_grammar.specs.expressions.Squeezing.{Symbol}
-use Rattle.f77_grammar.specs.statements.Forms.{Form, Test, If, IsWritten, IsInner}
+use Rattle.f77_grammar.specs.expressions.Phrases.{Phrase77, IsExpression77, written77}
+use Rattle.f77_grammar.specs.expressions.Spelling.{AreWords77, chars77}
+use Rattle.f77_grammar.specs.expressions.Squeezing.{Symbol77}
+use Rattle.f77_grammar.specs.statements.Forms.{Form77, Test, If, IsWritten77, IsInner77}
 
 -- The form has this condition, and this rest behind its parenthesis.
-pub data IsBehindIf (condition rest : List Symbol) : Form → Type 0 where
-  Block : (p : Phrase) → Words condition (written p) → IsExpression p → rest ≡ chars (codes "THEN")
+pub data IsBehindIf (condition rest : List Symbol77) : Form77 → Type 0 where
+  Block : (p : Phrase77) → AreWords77 condition (written77 p) → IsExpression77 p → rest ≡ chars77 (codes "THEN")
       → IsBehindIf condition rest (If p)
-  Logical : (p : Phrase) (f : Form) → Words condition (written p) → IsExpression p → IsWritten f rest → IsInner f
+  Logical : (p : Phrase77) (f : Form77) → AreWords77 condition (written77 p) → IsExpression77 p → IsWritten77 f rest
+      → IsInner77 f
       → IsBehindIf condition rest (Test p f)

@@ -2,32 +2,32 @@
 use Rattle.std.specs.Prelude.{◌≡◌, ℕ, ◌⊎◌, Option, Some, None, List, [], ◌∷◌, ◌++◌, codes}
 use Rattle.tree.specs.declared.ops.Kind.{Kind}
 use Rattle.tree.specs.declared.ops.Kind.TheVariants as kinds
-use Rattle.f77_grammar.specs.expressions.Phrases.{Phrase, IsExpression, written}
-use Rattle.f77_grammar.specs.expressions.Spelling.{Words, chars}
-use Rattle.f77_grammar.specs.expressions.Squeezing.{Symbol}
+use Rattle.f77_grammar.specs.expressions.Phrases.{Phrase77, IsExpression77, written77}
+use Rattle.f77_grammar.specs.expressions.Spelling.{AreWords77, chars77}
+use Rattle.f77_grammar.specs.expressions.Squeezing.{Symbol77}
 use Rattle.f77_grammar.specs.expressions.Words as words
-use Rattle.f77_grammar.specs.statements.Items.{ItemPhrases, AreItems, written_items}
+use Rattle.f77_grammar.specs.statements.Items.{ItemPhrases77, AreItems77, written_items77}
 use Rattle.f77_grammar.specs.declared.directions.Direction.TheVariants.{Input, Output}
 use Rattle.f77_grammar.specs.statements.Forms as forms
-use Rattle.f77_grammar.specs.statements.Forms.{Form, IsLabel, Entity, IsEntity, IsBounded, written_entity, Definition}
-use Rattle.f77_grammar.specs.statements.Forms.{IsDefinition, written_definition, separated, IsList}
+use Rattle.f77_grammar.specs.statements.Forms.{Form77, IsLabel77, EntityForm77, IsEntity77, IsBounded, written_entity77}
+use Rattle.f77_grammar.specs.statements.Forms.{Definition, IsDefinition, written_definition, separated77}
+use Rattle.reading.specs.Characters.{IsList}
 use Rattle.f77_expressions.specs.Lexing.{strip}
 use Rattle.f77_statement.specs.declared.keywords.Keyword.{Keyword}
 use Rattle.f77_statement.specs.declared.keywords.Keyword.TheVariants.{Program, ImplicitNone, Integer, Logical}
 use Rattle.f77_statement.specs.declared.keywords.Keyword.TheVariants.{Dimension, Parameter, GoTo}
 use Rattle.f77_statement.specs.declared.keywords.Keyword.TheVariants.{ElseIf, Else, EndIf, EndDo, Continue, Stop, End}
-use Rattle.f77_statement.specs.declared.keywords.Keyword.TheVariants.{ReadUnit}
-use Rattle.f77_statement.specs.declared.keywords.Keyword.TheVariants.{ReadList, WriteUnit, PrintList}
+use Rattle.f77_statement.specs.declared.keywords.Keyword.TheVariants.{ReadUnit, ReadList, WriteUnit, PrintList}
 
 pub record Front : Type 0 where
   pub keyword : Keyword
-  pub rest : List Symbol
+  pub rest : List Symbol77
 
-abbrev pub or_else : Option (List Symbol) → Keyword → Option Front → Option Front
+abbrev pub or_else : Option (List Symbol77) → Keyword → Option Front → Option Front
 or_else (Some rest) k next = Some (record { keyword = k; rest = rest })
 or_else None k next = next
 
-abbrev pub first_of : List (List ℕ × Keyword) → List Symbol → Option Front
+abbrev pub first_of : List (List ℕ × Keyword) → List Symbol77 → Option Front
 first_of [] text = None
 first_of (w ∷ ws) text = or_else (strip w.0 text) w.1 (first_of ws text)
 
@@ -49,7 +49,7 @@ either (Some f) next = Some f
 either None next = next
 
 -- the keyword at the front of a text
-abbrev pub keyword_at : List Symbol → Option Front
+abbrev pub keyword_at : List Symbol77 → Option Front
 keyword_at text = either (first_of first_keywords text) (first_of last_keywords text)
 
 abbrev pub keyword_for : Kind → Keyword
@@ -58,43 +58,48 @@ keyword_for kinds.Logical = Logical
 
 -- ---- what stands behind a keyword, for each form
 
-abbrev pub IsProgramAfter : List Symbol → Form → Type 0
-IsProgramAfter rest f = (x : List ℕ) × (f ≡ forms.Program x) × Words rest (words.Name x ∷ [])
+abbrev pub IsProgramAfter : List Symbol77 → Form77 → Type 0
+IsProgramAfter rest f = (x : List ℕ) × (f ≡ forms.Program x) × AreWords77 rest (words.Name x ∷ [])
 
-abbrev pub IsDeclarationAfter : Kind → List Symbol → Form → Type 0
-IsDeclarationAfter k rest f = (es : List Entity) × (f ≡ forms.Declare k es) × Words rest (separated written_entity es)
-    × IsList IsEntity es
+abbrev pub IsDeclarationAfter : Kind → List Symbol77 → Form77 → Type 0
+IsDeclarationAfter k rest f =
+    (es : List EntityForm77) × (f ≡ forms.Declare k es) × AreWords77 rest (separated77 written_entity77 es)
+    × IsList IsEntity77 es
 
-abbrev pub IsDimensionAfter : List Symbol → Form → Type 0
-IsDimensionAfter rest f = (es : List Entity) × (f ≡ forms.Dimension es) × Words rest (separated written_entity es)
+abbrev pub IsDimensionAfter : List Symbol77 → Form77 → Type 0
+IsDimensionAfter rest f =
+    (es : List EntityForm77) × (f ≡ forms.Dimension es) × AreWords77 rest (separated77 written_entity77 es)
     × IsList IsBounded es
 
-abbrev pub AreConstantsAfter : List Symbol → Form → Type 0
+abbrev pub AreConstantsAfter : List Symbol77 → Form77 → Type 0
 AreConstantsAfter rest f = (ds : List Definition) × (f ≡ forms.Constants ds)
-    × Words rest (words.Open ∷ (separated written_definition ds ++ words.Close ∷ [])) × IsList IsDefinition ds
+    × AreWords77 rest (words.Open ∷ (separated77 written_definition ds ++ words.Close ∷ [])) × IsList IsDefinition ds
 
-abbrev pub IsGoToAfter : List Symbol → Form → Type 0
-IsGoToAfter rest f = (label : List ℕ) × (f ≡ forms.Go label) × (rest ≡ chars label) × IsLabel label
+abbrev pub IsGoToAfter : List Symbol77 → Form77 → Type 0
+IsGoToAfter rest f = (label : List ℕ) × (f ≡ forms.Go label) × (rest ≡ chars77 label) × IsLabel77 label
 
-abbrev pub IsElseIfAfter : List Symbol → Form → Type 0
-IsElseIfAfter rest f = (p : Phrase) × (e : List Symbol) × (f ≡ forms.ElseIf p) × (rest ≡ e ++ chars (codes ")THEN"))
-    × Words e (written p) × IsExpression p
+abbrev pub IsElseIfAfter : List Symbol77 → Form77 → Type 0
+IsElseIfAfter rest f =
+    (p : Phrase77) × (e : List Symbol77) × (f ≡ forms.ElseIf p) × (rest ≡ e ++ chars77 (codes ")THEN"))
+    × AreWords77 e (written77 p) × IsExpression77 p
 
-abbrev pub IsNothingAfter : Form → List Symbol → Form → Type 0
+abbrev pub IsNothingAfter : Form77 → List Symbol77 → Form77 → Type 0
 IsNothingAfter g rest f = (f ≡ g) × (rest ≡ [])
 
-abbrev pub IsReadAfter : List Symbol → Form → Type 0
-IsReadAfter rest f = (is : ItemPhrases) × (f ≡ forms.Read is) × Words rest (written_items is) × AreItems Input is
+abbrev pub IsReadAfter : List Symbol77 → Form77 → Type 0
+IsReadAfter rest f =
+    (is : ItemPhrases77) × (f ≡ forms.Read is) × AreWords77 rest (written_items77 is) × AreItems77 Input is
 
-abbrev pub IsPrintAfter : List Symbol → Form → Type 0
-IsPrintAfter rest f = (is : ItemPhrases) × (f ≡ forms.Print is) × Words rest (written_items is) × AreItems Output is
+abbrev pub IsPrintAfter : List Symbol77 → Form77 → Type 0
+IsPrintAfter rest f =
+    (is : ItemPhrases77) × (f ≡ forms.Print is) × AreWords77 rest (written_items77 is) × AreItems77 Output is
 
 -- a comma stands before the list
-abbrev pub AfterComma : (List Symbol → Form → Type 0) → List Symbol → Form → Type 0
-AfterComma Is rest f = (list : List Symbol) × (rest ≡ chars (codes ",") ++ list) × Is list f
+abbrev pub AfterComma : (List Symbol77 → Form77 → Type 0) → List Symbol77 → Form77 → Type 0
+AfterComma Is rest f = (list : List Symbol77) × (rest ≡ chars77 (codes ",") ++ list) × Is list f
 
 -- The form f stands so behind the keyword.
-abbrev pub IsAfter : Keyword → List Symbol → Form → Type 0
+abbrev pub IsAfter : Keyword → List Symbol77 → Form77 → Type 0
 IsAfter Program rest f = IsProgramAfter rest f
 IsAfter ImplicitNone rest f = IsNothingAfter forms.ImplicitNone rest f
 IsAfter Integer rest f = IsDeclarationAfter kinds.Integer rest f

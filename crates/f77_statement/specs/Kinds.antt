@@ -2,10 +2,10 @@
 use Rattle.std.specs.Prelude.{ℕ, Bool, true, false, List}
 use Rattle.f77_grammar.specs.Statement77 as statement
 use Rattle.f77_grammar.specs.Statement77.{Statement77}
-use Rattle.f77_grammar.specs.expressions.Phrases.{Phrase}
-use Rattle.f77_grammar.specs.expressions.Squeezing.{Symbol}
+use Rattle.f77_grammar.specs.expressions.Phrases.{Phrase77}
+use Rattle.f77_grammar.specs.expressions.Squeezing.{Symbol77}
 use Rattle.f77_grammar.specs.statements.Controls.{Control}
-use Rattle.f77_grammar.specs.statements.Forms.{Form, Assign, Do, PlainDo, IsWritten}
+use Rattle.f77_grammar.specs.statements.Forms.{Form77, Assign, Do, PlainDo, IsWritten77}
 use Rattle.f77_words.specs.keywords.Kinds.{HasKeyword}
 
 -- the statement may be the inner one of a logical IF
@@ -31,9 +31,9 @@ is_inner statement.EndDo = false
 is_inner statement.End = false
 
 -- The text is so written, and no condition stands before its statement.
-pub data IsUnconditional (text : List Symbol) : Form → Type 0 where
-  Assignment : (l r : Phrase) → IsWritten (Assign l r) text → IsUnconditional text (Assign l r)
-  Loop : (label : List ℕ) (comma : Bool) (c : Control) → IsWritten (Do label comma c) text
+pub data IsUnconditional (text : List Symbol77) : Form77 → Type 0 where
+  Assignment : (l r : Phrase77) → IsWritten77 (Assign l r) text → IsUnconditional text (Assign l r)
+  Loop : (label : List ℕ) (comma : Bool) (c : Control) → IsWritten77 (Do label comma c) text
       → IsUnconditional text (Do label comma c)
-  PlainLoop : (c : Control) → IsWritten (PlainDo c) text → IsUnconditional text (PlainDo c)
-  OfKeyword : (f : Form) → HasKeyword f → IsWritten f text → IsUnconditional text f
+  PlainLoop : (c : Control) → IsWritten77 (PlainDo c) text → IsUnconditional text (PlainDo c)
+  OfKeyword : (f : Form77) → HasKeyword f → IsWritten77 f text → IsUnconditional text f

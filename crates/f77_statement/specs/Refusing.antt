@@ -4,13 +4,13 @@ use Rattle.tree.specs.Causes.{number_of_cause, refusal_at}
 use Rattle.tree.specs.Limits.{expression_depth77}
 use Rattle.tree.specs.declared.refusals.Cause.TheVariants.{Syntax, OutOfProfile, WideLiteral, Deep}
 use Rattle.tree.specs.declared.refusals.Refused.{Refused}
-use Rattle.f77_grammar.specs.expressions.Squeezing.{Symbol}
+use Rattle.f77_grammar.specs.expressions.Squeezing.{Symbol77}
 use Rattle.f77_grammar.specs.statements.Recognition.{HasWord}
 use Rattle.f77_grammar.specs.declared.syntax.statements.Stmt77.{Stmt77}
 use Rattle.f77_statement.specs.declared.formed.Formed.{Formed}
 
 -- The number of the cause and that of the word, for a text that has no form.
-pub data IsFormless (text : List Symbol) : (number word : ℕ) → Type 0 where
+pub data IsFormless (text : List Symbol77) : (number word : ℕ) → Type 0 where
   NoWord : ((word : ℕ) → HasWord text word → ⊥) → IsFormless text (number_of_cause Syntax) 0
   Word : (word : ℕ) → HasWord text word → IsFormless text (number_of_cause (OutOfProfile word)) word
 

@@ -1,10 +1,10 @@
 //! Jumps, conditions, reading and printing, and the statements that are nothing but their keyword, behind it.
 ghost use Rattle.std.specs.Prelude.{◌≡◌, ◌↔◌, IsTrue, [], IfOk, codes};
 ghost use Rattle.tree.specs.View.{expression_of};
-ghost use Rattle.f77_grammar.specs.expressions.Phrases.{Phrase, IsExpression, written};
-ghost use Rattle.f77_grammar.specs.expressions.Spelling.{Words, chars};
+ghost use Rattle.f77_grammar.specs.expressions.Phrases.{Phrase77, IsExpression77, written77};
+ghost use Rattle.f77_grammar.specs.expressions.Spelling.{AreWords77, chars77};
 ghost use Rattle.f77_grammar.specs.statements.Forms as forms;
-ghost use Rattle.f77_grammar.specs.statements.Forms.{Form, statement_of, form_words, form_depth};
+ghost use Rattle.f77_grammar.specs.statements.Forms.{Form77, statement_of, form_words, form_depth};
 ghost use Rattle.f77_grammar.specs.syntax.Views as view;
 ghost use Rattle.f77_expressions.specs.Symbols.{symbols_of};
 ghost use Rattle.f77_statement.specs.declared.keywords.Keyword.TheVariants as keywords;
@@ -26,7 +26,7 @@ use tree::{Expr, Seq};
 /// A label as that of a GO TO (section 11.1).
 pub(crate) fn go_to(text: &[Symbol]) -> Result<Formed, Stop>
     ensures found { IfOk result (IsFound (IsGoToAfter (symbols_of text.now))) }
-    ensures only { (f : Form) → IsGoToAfter (symbols_of text.now) f → Given result (λ made. IsFormedOf made f) }
+    ensures only { (f : Form77) → IsGoToAfter (symbols_of text.now) f → Given result (λ made. IsFormedOf made f) }
 {
     let Some((number, rest)) = label(text) else {
         return Err(Stop::Syntax);
@@ -41,7 +41,7 @@ pub(crate) fn go_to(text: &[Symbol]) -> Result<Formed, Stop>
 /// literal of it is above 2^127-1.
 pub(crate) fn condition(alloc: Global, text: &[Symbol]) -> Result<(Expr, u16, bool), Stop>
     ensures found { IfOk result (λ r. IsCondition (symbols_of text.now) (expression_of r.0) r.1 r.2) }
-    ensures only { (p : Phrase) → IsExpression p → Words (symbols_of text.now) (written p)
+    ensures only { (p : Phrase77) → IsExpression77 p → AreWords77 (symbols_of text.now) (written77 p)
         → Given result (λ r. IsConditionOf (expression_of r.0) r.1 r.2 p) }
 {
     let tokens = words(alloc, text)?;
@@ -53,7 +53,7 @@ pub(crate) fn condition(alloc: Global, text: &[Symbol]) -> Result<(Expr, u16, bo
 /// A condition, a closing parenthesis and THEN, as those of an ELSE IF (section 11.7).
 pub(crate) fn else_if(alloc: Global, text: &[Symbol]) -> Result<Formed, Stop>
     ensures found { IfOk result (IsFound (IsElseIfAfter (symbols_of text.now))) }
-    ensures only { (f : Form) → IsElseIfAfter (symbols_of text.now) f → Given result (λ made. IsFormedOf made f) }
+    ensures only { (f : Form77) → IsElseIfAfter (symbols_of text.now) f → Given result (λ made. IsFormedOf made f) }
 {
     let Some((inside, behind)) = cut_at_close(text) else {
         return Err(Stop::Syntax);
@@ -71,9 +71,9 @@ pub(crate) fn else_if(alloc: Global, text: &[Symbol]) -> Result<Formed, Stop>
 
 /// The statement, where nothing stands behind its keyword.
 pub(crate) fn nothing(statement: Stmt77, text: &[Symbol]) -> Result<Formed, Stop>
-    ensures found { (g : Form) → view.statement_of statement ≡ statement_of g → form_words g ≡ [] → form_depth g ≡ 0
+    ensures found { (g : Form77) → view.statement_of statement ≡ statement_of g → form_words g ≡ [] → form_depth g ≡ 0
         → IfOk result (IsFound (IsNothingAfter g (symbols_of text.now))) }
-    ensures only { (g f : Form) → view.statement_of statement ≡ statement_of g → form_words g ≡ [] → form_depth g ≡ 0
+    ensures only { (g f : Form77) → view.statement_of statement ≡ statement_of g → form_words g ≡ [] → form_depth g ≡ 0
         → IsNothingAfter g (symbols_of text.now) f
         → Given result (λ made. IsFormedOf made f) }
 {
@@ -101,7 +101,7 @@ fn no_items(alloc: Global) -> Formed
 #[tactic(auto, using(crate::proofs::ActionLaws::reads))]
 fn inputs(alloc: Global, text: &[Symbol]) -> Result<Formed, Stop>
     ensures found { IfOk result (IsFound (IsReadAfter (symbols_of text.now))) }
-    ensures only { (f : Form) → IsReadAfter (symbols_of text.now) f → Given result (λ made. IsFormedOf made f) }
+    ensures only { (f : Form77) → IsReadAfter (symbols_of text.now) f → Given result (λ made. IsFormedOf made f) }
 {
     let tokens = words(alloc, text)?;
     let list = read_inputs(alloc, tokens.as_slice())?;
@@ -116,7 +116,7 @@ fn inputs(alloc: Global, text: &[Symbol]) -> Result<Formed, Stop>
 #[tactic(auto, using(crate::proofs::ActionLaws::prints))]
 fn items(alloc: Global, text: &[Symbol]) -> Result<Formed, Stop>
     ensures found { IfOk result (IsFound (IsPrintAfter (symbols_of text.now))) }
-    ensures only { (f : Form) → IsPrintAfter (symbols_of text.now) f → Given result (λ made. IsFormedOf made f) }
+    ensures only { (f : Form77) → IsPrintAfter (symbols_of text.now) f → Given result (λ made. IsFormedOf made f) }
 {
     let tokens = words(alloc, text)?;
     let list = read_items(alloc, tokens.as_slice())?;
@@ -130,7 +130,7 @@ fn items(alloc: Global, text: &[Symbol]) -> Result<Formed, Stop>
 /// What stands behind READ(*,*): a list or nothing (section 12.8).
 pub(crate) fn read_unit(alloc: Global, text: &[Symbol]) -> Result<Formed, Stop>
     ensures found { IfOk result (IsFound (IsAfter keywords.ReadUnit (symbols_of text.now))) }
-    ensures only { (f : Form) → IsAfter keywords.ReadUnit (symbols_of text.now) f
+    ensures only { (f : Form77) → IsAfter keywords.ReadUnit (symbols_of text.now) f
         → Given result (λ made. IsFormedOf made f) }
 {
     if text.is_empty() {
@@ -142,7 +142,7 @@ pub(crate) fn read_unit(alloc: Global, text: &[Symbol]) -> Result<Formed, Stop>
 /// What stands behind READ*: a comma and a list, or nothing.
 pub(crate) fn read_list(alloc: Global, text: &[Symbol]) -> Result<Formed, Stop>
     ensures found { IfOk result (IsFound (IsAfter keywords.ReadList (symbols_of text.now))) }
-    ensures only { (f : Form) → IsAfter keywords.ReadList (symbols_of text.now) f
+    ensures only { (f : Form77) → IsAfter keywords.ReadList (symbols_of text.now) f
         → Given result (λ made. IsFormedOf made f) }
 {
     if text.is_empty() {
@@ -157,7 +157,7 @@ pub(crate) fn read_list(alloc: Global, text: &[Symbol]) -> Result<Formed, Stop>
 /// What stands behind WRITE(*,*): a list or nothing.
 pub(crate) fn write_unit(alloc: Global, text: &[Symbol]) -> Result<Formed, Stop>
     ensures found { IfOk result (IsFound (IsAfter keywords.WriteUnit (symbols_of text.now))) }
-    ensures only { (f : Form) → IsAfter keywords.WriteUnit (symbols_of text.now) f
+    ensures only { (f : Form77) → IsAfter keywords.WriteUnit (symbols_of text.now) f
         → Given result (λ made. IsFormedOf made f) }
 {
     if text.is_empty() {
@@ -169,7 +169,7 @@ pub(crate) fn write_unit(alloc: Global, text: &[Symbol]) -> Result<Formed, Stop>
 /// What stands behind PRINT*: a comma and a list, or nothing.
 pub(crate) fn print_list(alloc: Global, text: &[Symbol]) -> Result<Formed, Stop>
     ensures found { IfOk result (IsFound (IsAfter keywords.PrintList (symbols_of text.now))) }
-    ensures only { (f : Form) → IsAfter keywords.PrintList (symbols_of text.now) f
+    ensures only { (f : Form77) → IsAfter keywords.PrintList (symbols_of text.now) f
         → Given result (λ made. IsFormedOf made f) }
 {
     if text.is_empty() {

@@ -1,8 +1,8 @@
 //! Assignments.
 ghost use Rattle.std.specs.Prelude.{◌≡◌, ℕ, List, ◌∷◌, ◌++◌, IfOk};
-ghost use Rattle.f77_grammar.specs.expressions.Phrases.{Phrase, IsExpression, written};
+ghost use Rattle.f77_grammar.specs.expressions.Phrases.{Phrase77, IsExpression77, written77};
 ghost use Rattle.f77_grammar.specs.expressions.Words as words;
-ghost use Rattle.f77_grammar.specs.statements.Items.{IsReference};
+ghost use Rattle.f77_grammar.specs.statements.Items.{IsReference77};
 ghost use Rattle.f77_grammar.specs.statements.Forms.{Assign};
 ghost use Rattle.f77_expressions.specs.Reading.{Ends};
 ghost use Rattle.f77_expressions.specs.Views.{words_of};
@@ -45,8 +45,8 @@ fn item(operand: Operand) -> Result<(Ref, u16), Stop>
 #[tactic(auto, using(crate::proofs::ReferenceLaws::references))]
 pub(crate) fn reference(alloc: Global, tokens: &[Token]) -> Result<(Ref, u16, &[Token]), Stop>
     ensures found { IfOk result (λ r. BeginsWithReference (words_of tokens.now) r.0 r.1 (words_of r.2.now)) }
-    ensures only { (l : Phrase) (rest : List words.Word) → IsReference l → IsExpression l → Ends rest
-        → words_of tokens.now ≡ written l ++ rest
+    ensures only { (l : Phrase77) (rest : List words.Word77) → IsReference77 l → IsExpression77 l → Ends rest
+        → words_of tokens.now ≡ written77 l ++ rest
         → Given result (λ r. IsReferenceOf r.0 r.1 l × (words_of r.2.now ≡ rest)) }
 {
     if !begins_with_name(tokens) {
@@ -60,8 +60,8 @@ pub(crate) fn reference(alloc: Global, tokens: &[Token]) -> Result<(Ref, u16, &[
 /// All words as an assignment (section 10).
 pub(crate) fn assignment(alloc: Global, tokens: &[Token]) -> Result<Formed, Stop>
     ensures found { IfOk result (λ made. IsAssignment (words_of tokens.now) made) }
-    ensures only { (l r : Phrase) → IsReference l → IsExpression l → IsExpression r
-        → words_of tokens.now ≡ written l ++ (words.Equals ∷ written r)
+    ensures only { (l r : Phrase77) → IsReference77 l → IsExpression77 l → IsExpression77 r
+        → words_of tokens.now ≡ written77 l ++ (words.Equals ∷ written77 r)
         → Given result (λ made. IsFormedOf made (Assign l r)) }
 {
     let (left, depth, rest) = reference(alloc, tokens)?;

@@ -3,21 +3,21 @@ ghost use Rattle.std.specs.Prelude.{◌≡◌, pos, max, List, [], ◌∷◌, �
 ghost use Rattle.tree.specs.Limits.{array_dimensions};
 ghost use Rattle.tree.specs.Plain.{Number};
 ghost use Rattle.tree.specs.View.{expression_of};
-ghost use Rattle.f77_grammar.specs.expressions.Phrases.{Phrase, IsExpression, written, tree, depth};
+ghost use Rattle.f77_grammar.specs.expressions.Phrases.{Phrase77, IsExpression77, written77, tree77_of, phrase_depth77};
 ghost use Rattle.f77_expressions.specs.Reading.{Ends};
 ghost use Rattle.f77_grammar.specs.expressions.Words as words;
 ghost use Rattle.f77_grammar.specs.statements.Forms as Forms;
-ghost use Rattle.f77_grammar.specs.statements.Forms.{Bound, Plain, Bounded, IsEntity, Definition, IsDefinition};
-ghost use Rattle.f77_grammar.specs.statements.Forms.{written_entity, entity_tree, entity_depth, written_definition};
-ghost use Rattle.f77_grammar.specs.statements.Forms.{definition_tree, definition_depth, IsBound, written_bound};
-ghost use Rattle.f77_grammar.specs.statements.Forms.{bound_tree, bound_depth, IsList, separated};
+ghost use Rattle.f77_grammar.specs.statements.Forms.{Bound77, Plain, Bounded, IsEntity77, Definition, IsDefinition};
+ghost use Rattle.f77_grammar.specs.statements.Forms.{written_entity77, entity_tree, entity_depth, written_definition};
+ghost use Rattle.f77_grammar.specs.statements.Forms.{definition_tree, definition_depth, IsBound77, written_bound77};
+ghost use Rattle.f77_grammar.specs.statements.Forms.{bound_tree, bound_depth, separated77};
+ghost use Rattle.reading.specs.Characters.{IsList};
 ghost use Rattle.f77_expressions.specs.Views.{words_of};
 ghost use Rattle.f77_grammar.specs.syntax.Views.{bounds_of, entity_of, constant_of};
 ghost use Rattle.f77_statement.specs.Parts.{Given, capped};
 ghost use Rattle.f77_statement.specs.Declarations.{BeginsWithEntity, EndsEntity, IsTheEntity, BeginsWithDefinition};
 ghost use Rattle.f77_statement.specs.Declarations.{IsTheDefinition, AreBoundsRead, AreTheBounds, BeginsWithBound};
-ghost use Rattle.f77_statement.specs.Declarations.{EndsBound};
-ghost use Rattle.f77_statement.specs.Declarations.{IsBoundOf};
+ghost use Rattle.f77_statement.specs.Declarations.{EndsBound, IsBoundOf};
 ghost use Rattle.f77_statement.specs.Separated.{EndsPart, EndsList, BeginsWithList, IsRead};
 
 use f77_expressions::{
@@ -53,10 +53,10 @@ fn read_upper(
     tokens: &[Token],
 ) -> Result<((Expr, Expr), u16, &[Token]), Stop>
     ensures found { IfOk result (λ r. EndsBound (words_of tokens.now) first (bounds_of r.0) r.1 (words_of r.2.now)) }
-    ensures only { (p : Phrase) (rest : List words.Word) → IsExpression p → Ends rest
-        → words_of tokens.now ≡ written p ++ rest
-        → Given result (λ r. (bounds_of r.0 ≡ (expression_of first.tree, tree p))
-        × (r.1 ≡ max first.depth (capped (depth p))) × (words_of r.2.now ≡ rest)) }
+    ensures only { (p : Phrase77) (rest : List words.Word77) → IsExpression77 p → Ends rest
+        → words_of tokens.now ≡ written77 p ++ rest
+        → Given result (λ r. (bounds_of r.0 ≡ (expression_of first.tree, tree77_of p))
+        × (r.1 ≡ max first.depth (capped (phrase_depth77 p))) × (words_of r.2.now ≡ rest)) }
 {
     let (second, rest) = read(alloc, tokens)?;
     let (bounds, depth) = both(first, second);
@@ -66,8 +66,8 @@ fn read_upper(
 // The bounds of a dimension at the front of the words, with their depth, and what follows them.
 fn read_bound(alloc: Global, tokens: &[Token]) -> Result<((Expr, Expr), u16, &[Token]), Stop>
     ensures found { IfOk result (λ r. BeginsWithBound (words_of tokens.now) (bounds_of r.0) r.1 (words_of r.2.now)) }
-    ensures only { (b : Bound) (rest : List words.Word) → IsBound b → EndsPart rest
-        → words_of tokens.now ≡ written_bound b ++ rest
+    ensures only { (b : Bound77) (rest : List words.Word77) → IsBound77 b → EndsPart rest
+        → words_of tokens.now ≡ written_bound77 b ++ rest
         → Given result (λ r. (bounds_of r.0 ≡ bound_tree b) × IsBoundOf r.1 b × (words_of r.2.now ≡ rest)) }
 {
     match read(alloc, tokens) {
@@ -86,8 +86,8 @@ fn read_bound(alloc: Global, tokens: &[Token]) -> Result<((Expr, Expr), u16, &[T
 #[tactic(auto, using(crate::proofs::CappedLaws::capped_max))]
 fn read_bounds(alloc: Global, tokens: &[Token]) -> Result<(Seq<(Expr, Expr)>, u16, &[Token]), Stop>
     ensures found { IfOk result (λ r. AreBoundsRead (words_of tokens.now) r.0 r.1 (words_of r.2.now)) }
-    ensures only { (bs : List Bound) (last : List words.Word) → IsList IsBound bs → EndsList last
-        → words_of tokens.now ≡ separated written_bound bs ++ last
+    ensures only { (bs : List Bound77) (last : List words.Word77) → IsList IsBound77 bs → EndsList last
+        → words_of tokens.now ≡ separated77 written_bound77 bs ++ last
         → Given result (λ r. AreTheBounds bs last r.0 r.1 (words_of r.2.now)) }
 {
     let (first, depth, tail) = read_bound(alloc, tokens)?;
@@ -107,9 +107,9 @@ fn read_bounds(alloc: Global, tokens: &[Token]) -> Result<(Seq<(Expr, Expr)>, u1
 // A name with its bounds in parentheses, behind the opening one.
 fn bounded(alloc: Global, name: Name, tokens: &[Token]) -> Result<(Entity, u16, &[Token]), Stop>
     ensures found { IfOk result (λ r. EndsEntity (words_of tokens.now) name (entity_of r.0) r.1 (words_of r.2.now)) }
-    ensures only { (bs : List Bound) (last : List words.Word) → IsList IsBound bs
+    ensures only { (bs : List Bound77) (last : List words.Word77) → IsList IsBound77 bs
         → length bs ≤ array_dimensions
-        → words_of tokens.now ≡ separated written_bound bs ++ (words.Close ∷ last)
+        → words_of tokens.now ≡ separated77 written_bound77 bs ++ (words.Close ∷ last)
         → Given result (λ r. IsTheEntity (Bounded name bs) last (entity_of r.0) r.1 (words_of r.2.now)) }
 {
     let (dims, depth, rest) = read_bounds(alloc, tokens)?;
@@ -136,8 +136,8 @@ fn plain(alloc: Global, name: Name) -> Entity
 #[tactic(auto, using(crate::proofs::EntityLaws::entities))]
 fn read_entity(alloc: Global, tokens: &[Token]) -> Result<(Entity, u16, &[Token]), Stop>
     ensures found { IfOk result (λ r. BeginsWithEntity (words_of tokens.now) (entity_of r.0) r.1 (words_of r.2.now)) }
-    ensures only { (e : Forms.Entity) (last : List words.Word) → IsEntity e → EndsPart last
-        → words_of tokens.now ≡ written_entity e ++ last
+    ensures only { (e : Forms.EntityForm77) (last : List words.Word77) → IsEntity77 e → EndsPart last
+        → words_of tokens.now ≡ written_entity77 e ++ last
         → Given result (λ r. IsTheEntity e last (entity_of r.0) r.1 (words_of r.2.now)) }
 {
     if let Some((name, rest)) = after_name(tokens) {
@@ -155,11 +155,11 @@ pub(crate) fn read_entities(
     alloc: Global,
     tokens: &[Token],
 ) -> Result<(Seq<Entity>, u16, &[Token]), Stop>
-    ensures found { IfOk result (λ r. BeginsWithList written_entity IsEntity entity_tree entity_depth
+    ensures found { IfOk result (λ r. BeginsWithList written_entity77 IsEntity77 entity_tree entity_depth
         (words_of tokens.now) (map entity_of r.0) r.1 (words_of r.2.now)) }
-    ensures only { (es : List Forms.Entity) (last : List words.Word) → IsList IsEntity es → EndsList last
-        → words_of tokens.now ≡ separated written_entity es ++ last
-        → Given result (λ r. IsRead written_entity IsEntity entity_tree entity_depth es last (map entity_of r.0) r.1
+    ensures only { (es : List Forms.EntityForm77) (last : List words.Word77) → IsList IsEntity77 es → EndsList last
+        → words_of tokens.now ≡ separated77 written_entity77 es ++ last
+        → Given result (λ r. IsRead written_entity77 IsEntity77 entity_tree entity_depth es last (map entity_of r.0) r.1
         (words_of r.2.now)) }
 {
     let (first, depth, tail) = read_entity(alloc, tokens)?;
@@ -189,7 +189,7 @@ fn defined(name: Name, value: Operand) -> ((Name, Expr), u16)
 fn read_definition(alloc: Global, tokens: &[Token]) -> Result<((Name, Expr), u16, &[Token]), Stop>
     ensures found { IfOk result (λ r. BeginsWithDefinition (words_of tokens.now) (constant_of r.0) r.1
         (words_of r.2.now)) }
-    ensures only { (d : Definition) (last : List words.Word) → IsDefinition d → EndsPart last
+    ensures only { (d : Definition) (last : List words.Word77) → IsDefinition d → EndsPart last
         → words_of tokens.now ≡ written_definition d ++ last
         → Given result (λ r. IsTheDefinition d last (constant_of r.0) r.1 (words_of r.2.now)) }
 {
@@ -211,8 +211,8 @@ pub(crate) fn read_definitions(
 ) -> Result<(Seq<(Name, Expr)>, u16, &[Token]), Stop>
     ensures found { IfOk result (λ r. BeginsWithList written_definition IsDefinition definition_tree definition_depth
         (words_of tokens.now) (map constant_of r.0) r.1 (words_of r.2.now)) }
-    ensures only { (ds : List Definition) (last : List words.Word) → IsList IsDefinition ds → EndsList last
-        → words_of tokens.now ≡ separated written_definition ds ++ last
+    ensures only { (ds : List Definition) (last : List words.Word77) → IsList IsDefinition ds → EndsList last
+        → words_of tokens.now ≡ separated77 written_definition ds ++ last
         → Given result (λ r. IsRead written_definition IsDefinition definition_tree definition_depth ds last
         (map constant_of r.0) r.1 (words_of r.2.now)) }
 {

@@ -1,7 +1,7 @@
 //! A statement that has a form.
 ghost use Rattle.std.specs.Prelude.{◌≡◌, []};
 ghost use Rattle.f77_grammar.specs.syntax.Views as view;
-ghost use Rattle.f77_grammar.specs.statements.Forms.{Form, statement_of, form_words, form_depth};
+ghost use Rattle.f77_grammar.specs.statements.Forms.{Form77, statement_of, form_words, form_depth};
 ghost use Rattle.f77_statement.specs.Parts.{IsFormedOf};
 
 use f77_grammar::syntax::Stmt77;
@@ -18,7 +18,7 @@ pub(crate) struct Formed {
 impl Formed {
     /// A statement without expressions.
     pub(crate) fn bare(statement: Stmt77) -> Formed
-        ensures { (f : Form) → view.statement_of statement ≡ statement_of f → form_words f ≡ [] → form_depth f ≡ 0
+        ensures { (f : Form77) → view.statement_of statement ≡ statement_of f → form_words f ≡ [] → form_depth f ≡ 0
             → IsFormedOf result f }
     {
         Formed {

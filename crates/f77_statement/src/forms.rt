@@ -2,12 +2,12 @@
 ghost use Rattle.std.specs.Prelude.{◌≡◌, ℕ, ◌++◌, ◌||◌, max, Bool, Some, None, List, IfOk, IfSome, codes};
 ghost use Rattle.std.specs.List.{list_any};
 ghost use Rattle.tree.specs.View.{expression_of};
-ghost use Rattle.f77_grammar.specs.expressions.Phrases.{Phrase};
-ghost use Rattle.f77_grammar.specs.expressions.Words.{is_wide};
-ghost use Rattle.f77_grammar.specs.expressions.Spelling.{value, chars};
+ghost use Rattle.f77_grammar.specs.expressions.Phrases.{Phrase77};
+ghost use Rattle.f77_grammar.specs.expressions.Words.{is_wide_word};
+ghost use Rattle.f77_grammar.specs.expressions.Spelling.{value, chars77};
 ghost use Rattle.f77_grammar.specs.expressions.Squeezing as squeezing;
-ghost use Rattle.f77_grammar.specs.statements.Forms.{Form, Assign, Do, PlainDo, Test, IsWritten, IsInner, IsLabel};
-ghost use Rattle.f77_grammar.specs.statements.Forms.{optional_comma};
+ghost use Rattle.f77_grammar.specs.statements.Forms.{Form77, Assign, Do, PlainDo, Test, IsWritten77, IsInner77};
+ghost use Rattle.f77_grammar.specs.statements.Forms.{IsLabel77, optional_comma};
 ghost use Rattle.f77_grammar.specs.statements.Controls.{Control, written_control};
 ghost use Rattle.f77_grammar.specs.statements.Recognition.{BeginsWithLetter};
 ghost use Rattle.f77_expressions.specs.Symbols.{symbols_of};
@@ -67,8 +67,8 @@ fn is_inner(statement: &Stmt77) -> bool
 
 // A text with an equals sign outside parentheses, and no comma outside them behind it.
 fn assignment_statement(alloc: Global, text: &[Symbol]) -> Result<Formed, Stop>
-    ensures found { IfOk result (IsFound (λ f. IsWritten f (symbols_of text.now))) }
-    ensures only { (l r : Phrase) → IsWritten (Assign l r) (symbols_of text.now)
+    ensures found { IfOk result (IsFound (λ f. IsWritten77 f (symbols_of text.now))) }
+    ensures only { (l r : Phrase77) → IsWritten77 (Assign l r) (symbols_of text.now)
         → Given result (λ made. IsFormedOf made (Assign l r)) }
 {
     let tokens = words(alloc, text)?;
@@ -78,12 +78,12 @@ fn assignment_statement(alloc: Global, text: &[Symbol]) -> Result<Formed, Stop>
 // The label of a DO, if there is one, and what follows it and its comma.
 fn loop_front(text: &[Symbol]) -> Option<(Option<u32>, &[Symbol])>
     ensures found { IfSome result (λ r. IsFront (symbols_of text.now) r.0 (symbols_of r.1.now)) }
-    ensures only { (digits : List ℕ) (comma : Bool) (rest : List squeezing.Symbol) → IsLabel digits
+    ensures only { (digits : List ℕ) (comma : Bool) (rest : List squeezing.Symbol77) → IsLabel77 digits
         → BeginsWithLetter rest
-        → symbols_of text.now ≡ chars (codes "DO" ++ (digits ++ optional_comma comma)) ++ rest
+        → symbols_of text.now ≡ chars77 (codes "DO" ++ (digits ++ optional_comma comma)) ++ rest
         → GivesFront result (Some (value digits)) rest }
-    ensures only_plain { (rest : List squeezing.Symbol) → BeginsWithLetter rest
-        → symbols_of text.now ≡ chars (codes "DO") ++ rest → GivesFront result None rest }
+    ensures only_plain { (rest : List squeezing.Symbol77) → BeginsWithLetter rest
+        → symbols_of text.now ≡ chars77 (codes "DO") ++ rest → GivesFront result None rest }
 {
     let rest = strip(b"DO", text)?;
     match label(rest) {
@@ -94,10 +94,10 @@ fn loop_front(text: &[Symbol]) -> Option<(Option<u32>, &[Symbol])>
 
 fn loop_statement(label: Option<u32>, control: DoControl, wide: bool) -> Formed
     ensures labelled { (digits : List ℕ) (comma : Bool) (c : Control) → label ≡ Some (value digits)
-        → IsControlOf control c → wide ≡ list_any is_wide (written_control c)
+        → IsControlOf control c → wide ≡ list_any is_wide_word (written_control c)
         → IsFormedOf result (Do digits comma c) }
     ensures plain { (c : Control) → label ≡ None → IsControlOf control c
-        → wide ≡ list_any is_wide (written_control c) → IsFormedOf result (PlainDo c) }
+        → wide ≡ list_any is_wide_word (written_control c) → IsFormedOf result (PlainDo c) }
 {
     let DoControl {
         variable,
@@ -115,10 +115,11 @@ fn loop_statement(label: Option<u32>, control: DoControl, wide: bool) -> Formed
 
 // A text with an equals sign outside parentheses, and a comma outside them behind it.
 fn do_statement(alloc: Global, text: &[Symbol]) -> Result<Formed, Stop>
-    ensures found { IfOk result (IsFound (λ f. IsWritten f (symbols_of text.now))) }
-    ensures only { (digits : List ℕ) (comma : Bool) (c : Control) → IsWritten (Do digits comma c) (symbols_of text.now)
+    ensures found { IfOk result (IsFound (λ f. IsWritten77 f (symbols_of text.now))) }
+    ensures only { (digits : List ℕ) (comma : Bool) (c : Control)
+        → IsWritten77 (Do digits comma c) (symbols_of text.now)
         → Given result (λ made. IsFormedOf made (Do digits comma c)) }
-    ensures only_plain { (c : Control) → IsWritten (PlainDo c) (symbols_of text.now)
+    ensures only_plain { (c : Control) → IsWritten77 (PlainDo c) (symbols_of text.now)
         → Given result (λ made. IsFormedOf made (PlainDo c)) }
 {
     let Some((label, rest)) = loop_front(text) else {
@@ -132,7 +133,7 @@ fn do_statement(alloc: Global, text: &[Symbol]) -> Result<Formed, Stop>
 // The statement of a keyword, by what follows it.
 fn behind_keyword(alloc: Global, keyword: Keyword, rest: &[Symbol]) -> Result<Formed, Stop>
     ensures found { IfOk result (IsFound (IsAfter keyword (symbols_of rest.now))) }
-    ensures only { (f : Form) → IsAfter keyword (symbols_of rest.now) f → Given result (λ made. IsFormedOf made f) }
+    ensures only { (f : Form77) → IsAfter keyword (symbols_of rest.now) f → Given result (λ made. IsFormedOf made f) }
 {
     match keyword {
         Keyword::Program => program(alloc, rest),
@@ -158,8 +159,8 @@ fn behind_keyword(alloc: Global, keyword: Keyword, rest: &[Symbol]) -> Result<Fo
 
 // A text without an equals sign outside parentheses.
 fn keyword_statement(alloc: Global, text: &[Symbol]) -> Result<Formed, Stop>
-    ensures found { IfOk result (IsFound (λ f. IsWritten f (symbols_of text.now))) }
-    ensures only { (f : Form) → HasKeyword f → IsWritten f (symbols_of text.now)
+    ensures found { IfOk result (IsFound (λ f. IsWritten77 f (symbols_of text.now))) }
+    ensures only { (f : Form77) → HasKeyword f → IsWritten77 f (symbols_of text.now)
         → Given result (λ made. IsFormedOf made f) }
 {
     match Keyword::at(text) {
@@ -170,8 +171,8 @@ fn keyword_statement(alloc: Global, text: &[Symbol]) -> Result<Formed, Stop>
 
 // A text that begins with no condition.
 fn unconditional(alloc: Global, text: &[Symbol]) -> Result<Formed, Stop>
-    ensures found { IfOk result (IsFound (λ f. IsWritten f (symbols_of text.now))) }
-    ensures only { (f : Form) → IsUnconditional (symbols_of text.now) f → Given result (λ made. IsFormedOf made f) }
+    ensures found { IfOk result (IsFound (λ f. IsWritten77 f (symbols_of text.now))) }
+    ensures only { (f : Form77) → IsUnconditional (symbols_of text.now) f → Given result (λ made. IsFormedOf made f) }
 {
     let outside = Outside::of(text);
     if !outside.equals {
@@ -185,8 +186,8 @@ fn unconditional(alloc: Global, text: &[Symbol]) -> Result<Formed, Stop>
 
 // The inner statement of a logical IF (section 11.5).
 fn inner(alloc: Global, text: &[Symbol]) -> Result<Formed, Stop>
-    ensures found { IfOk result (IsFound (λ f. IsWritten f (symbols_of text.now) × IsInner f)) }
-    ensures only { (f : Form) → IsWritten f (symbols_of text.now) → IsInner f
+    ensures found { IfOk result (IsFound (λ f. IsWritten77 f (symbols_of text.now) × IsInner77 f)) }
+    ensures only { (f : Form77) → IsWritten77 f (symbols_of text.now) → IsInner77 f
         → Given result (λ made. IsFormedOf made f) }
 {
     let made = unconditional(alloc, text)?;
@@ -204,7 +205,7 @@ fn test(
     wide: bool,
     inner: Formed,
 ) -> Result<Formed, Stop>
-    ensures { (p : Phrase) (f : Form) → IsConditionOf (expression_of condition) depth wide p → IsFormedOf inner f
+    ensures { (p : Phrase77) (f : Form77) → IsConditionOf (expression_of condition) depth wide p → IsFormedOf inner f
         → Given result (λ made. IsFormedOf made (Test p f)) }
 {
     let depth = depth.max(inner.depth);
@@ -220,7 +221,7 @@ fn test(
 // A block IF or a logical IF, by its condition and what follows that.
 fn if_statement(alloc: Global, inside: &[Symbol], rest: &[Symbol]) -> Result<Formed, Stop>
     ensures found { IfOk result (IsFound (IsBehindIf (symbols_of inside.now) (symbols_of rest.now))) }
-    ensures only { (f : Form) → IsBehindIf (symbols_of inside.now) (symbols_of rest.now) f
+    ensures only { (f : Form77) → IsBehindIf (symbols_of inside.now) (symbols_of rest.now) f
         → Given result (λ made. IsFormedOf made f) }
 {
     let (tree, depth, wide) = condition(alloc, inside)?;
@@ -237,8 +238,8 @@ fn if_statement(alloc: Global, inside: &[Symbol], rest: &[Symbol]) -> Result<For
 
 /// The statement that the text is.
 pub(crate) fn form(alloc: Global, text: &[Symbol]) -> Result<Formed, Stop>
-    ensures found { IfOk result (IsFound (λ f. IsWritten f (symbols_of text.now))) }
-    ensures only { (f : Form) → IsWritten f (symbols_of text.now) → Given result (λ made. IsFormedOf made f) }
+    ensures found { IfOk result (IsFound (λ f. IsWritten77 f (symbols_of text.now))) }
+    ensures only { (f : Form77) → IsWritten77 f (symbols_of text.now) → Given result (λ made. IsFormedOf made f) }
 {
     match conditional(text) {
         Some((inside, rest)) => if_statement(alloc, inside, rest),

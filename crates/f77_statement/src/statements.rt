@@ -7,8 +7,9 @@ ghost use Rattle.f77_grammar.specs.syntax.Views.{entity_of, constant_of};
 ghost use Rattle.f77_expressions.specs.Views.{words_of};
 ghost use Rattle.tree.specs.declared.ops.Kind.TheVariants as kinds;
 ghost use Rattle.f77_grammar.specs.statements.Forms as forms;
-ghost use Rattle.f77_grammar.specs.statements.Forms.{Form, Definition, IsDefinition, written_definition, IsEntity};
-ghost use Rattle.f77_grammar.specs.statements.Forms.{IsList, separated, written_entity, statement_of, form_words};
+ghost use Rattle.f77_grammar.specs.statements.Forms.{Form77, Definition, IsDefinition, written_definition, IsEntity77};
+ghost use Rattle.f77_grammar.specs.statements.Forms.{separated77, written_entity77, statement_of, form_words};
+ghost use Rattle.reading.specs.Characters.{IsList};
 ghost use Rattle.f77_grammar.specs.statements.Forms.{form_depth};
 ghost use Rattle.f77_expressions.specs.Symbols.{symbols_of};
 ghost use Rattle.f77_statement.specs.Formed.{IsLoneName, IsFound, AreEntities, IsEntitiesOf, has_bounds, AreConstants};
@@ -49,7 +50,7 @@ fn titled(name: Name) -> Formed
 #[tactic(auto, using(crate::proofs::StatementLaws::programs))]
 pub(crate) fn program(alloc: Global, text: &[Symbol]) -> Result<Formed, Stop>
     ensures found { IfOk result (IsFound (IsProgramAfter (symbols_of text.now))) }
-    ensures only { (f : Form) → IsProgramAfter (symbols_of text.now) f → Given result (λ made. IsFormedOf made f) }
+    ensures only { (f : Form77) → IsProgramAfter (symbols_of text.now) f → Given result (λ made. IsFormedOf made f) }
 {
     let tokens = words(alloc, text)?;
     match lone_name(tokens.as_slice()) {
@@ -62,7 +63,8 @@ pub(crate) fn program(alloc: Global, text: &[Symbol]) -> Result<Formed, Stop>
 #[tactic(auto, using(crate::proofs::StatementLaws::entities))]
 fn entities(alloc: Global, tokens: &[Token]) -> Result<(Seq<Entity>, u16), Stop>
     ensures found { IfOk result (λ r. AreEntities (words_of tokens.now) (map entity_of r.0) r.1) }
-    ensures only { (es : List forms.Entity) → IsList IsEntity es → words_of tokens.now ≡ separated written_entity es
+    ensures only { (es : List forms.EntityForm77) → IsList IsEntity77 es
+        → words_of tokens.now ≡ separated77 written_entity77 es
         → Given result (λ r. IsEntitiesOf (map entity_of r.0) r.1 es) }
 {
     let (entities, depth, rest) = read_entities(alloc, tokens)?;
@@ -76,7 +78,7 @@ fn entities(alloc: Global, tokens: &[Token]) -> Result<(Seq<Entity>, u16), Stop>
 #[tactic(auto, using(crate::proofs::StatementLaws::declarations))]
 pub(crate) fn declaration(alloc: Global, kind: Kind, text: &[Symbol]) -> Result<Formed, Stop>
     ensures found { IfOk result (IsFound (IsDeclarationAfter kind (symbols_of text.now))) }
-    ensures only { (f : Form) → IsDeclarationAfter kind (symbols_of text.now) f
+    ensures only { (f : Form77) → IsDeclarationAfter kind (symbols_of text.now) f
         → Given result (λ made. IsFormedOf made f) }
 {
     let tokens = words(alloc, text)?;
@@ -110,7 +112,7 @@ fn are_bounded(entities: &[Entity]) -> bool
 #[tactic(auto, using(crate::proofs::StatementLaws::dimensions))]
 pub(crate) fn dimension(alloc: Global, text: &[Symbol]) -> Result<Formed, Stop>
     ensures found { IfOk result (IsFound (IsDimensionAfter (symbols_of text.now))) }
-    ensures only { (f : Form) → IsDimensionAfter (symbols_of text.now) f → Given result (λ made. IsFormedOf made f) }
+    ensures only { (f : Form77) → IsDimensionAfter (symbols_of text.now) f → Given result (λ made. IsFormedOf made f) }
 {
     let tokens = words(alloc, text)?;
     let (entities, depth) = entities(alloc, tokens.as_slice())?;
@@ -129,7 +131,7 @@ pub(crate) fn dimension(alloc: Global, text: &[Symbol]) -> Result<Formed, Stop>
 fn definitions(alloc: Global, tokens: &[Token]) -> Result<(Seq<(Name, Expr)>, u16), Stop>
     ensures found { IfOk result (λ r. AreConstants (words_of tokens.now) (map constant_of r.0) r.1) }
     ensures only { (ds : List Definition) → IsList IsDefinition ds
-        → words_of tokens.now ≡ words.Open ∷ (separated written_definition ds ++ words.Close ∷ [])
+        → words_of tokens.now ≡ words.Open ∷ (separated77 written_definition ds ++ words.Close ∷ [])
         → Given result (λ r. AreConstantsOf (map constant_of r.0) r.1 ds) }
 {
     let Some(rest) = after_open(tokens) else {
@@ -149,7 +151,7 @@ fn definitions(alloc: Global, tokens: &[Token]) -> Result<(Seq<(Name, Expr)>, u1
 #[tactic(auto, using(crate::proofs::StatementLaws::parameters))]
 pub(crate) fn constants(alloc: Global, text: &[Symbol]) -> Result<Formed, Stop>
     ensures found { IfOk result (IsFound (AreConstantsAfter (symbols_of text.now))) }
-    ensures only { (f : Form) → AreConstantsAfter (symbols_of text.now) f → Given result (λ made. IsFormedOf made f) }
+    ensures only { (f : Form77) → AreConstantsAfter (symbols_of text.now) f → Given result (λ made. IsFormedOf made f) }
 {
     let tokens = words(alloc, text)?;
     let (definitions, depth) = definitions(alloc, tokens.as_slice())?;

@@ -3,7 +3,7 @@ use Rattle.std.proofs.Common.{◌≡◌, ℕ, suc, ◌+◌, ◌-◌, ◌<◌, �
 use Rattle.std.specs.List.{list_any}
 use Rattle.std.proofs.lemmas.Bool.Decides.{nat_tests}
 use Rattle.f77_grammar.specs.Statement77.{Labelled, Statement77, Go, If, ElseIf, Else, EndIf, Do, EndDo, Stop, End}
-use Rattle.f77_grammar.specs.program.Text.{stands_in, is_label, loop_ends_in, is_last_else}
+use Rattle.f77_grammar.specs.program.Text.{label_stands_in, is_label, loop_ends_in, is_last_else}
 use Rattle.f77_grammar.specs.program.Nesting.{since_if, own_since_if, has_open_if, since_do, begins_loop, is_do_of, is_loop_open, is_anything_open, is_no_loop_end, ends_not_one, nests_wrongly, ends_loops_wrongly, is_closed_wrongly}
 use Rattle.f77_structure.specs.declared.openings.OpenIf.{OpenIf}
 use Rattle.f77_structure.specs.declared.openings.OpenLoop.{OpenLoop}
@@ -37,12 +37,12 @@ else_cases : (fs : List OpenIf) (near : Option ℕ) (a b c : Bool) → a ≡ is_
 else_cases [] near a b c e f g = not_anything a b c e
 else_cases (t ∷ ts) near a b c e f g = both a b c true (is_behind near t.at) t.had_else e (f t.at refl) (g refl) ∙ neither (is_behind near t.at) t.had_else
 
-since_behind : (rest : List Labelled) (j : ℕ) (ends : ℕ → Option ℕ) → ((n : ℕ) → stands_in rest n ≡ is_from j (ends n)) → (xs : List Labelled) → length xs ≤ j
+since_behind : (rest : List Labelled) (j : ℕ) (ends : ℕ → Option ℕ) → ((n : ℕ) → label_stands_in rest n ≡ is_from j (ends n)) → (xs : List Labelled) → length xs ≤ j
     → (k : ℕ) → place_in (frames_of xs) 0 ≡ Some k → is_loop_open (since_if xs) rest ≡ is_behind (nearest_at (trimmed j (loops_of ends xs))) k
 since_behind rest j ends h xs l k e =
     ap (λ s. list_any (loop_ends_in rest) s) (since_as_kept xs 0 k e) ∙ open_since rest j ends h xs k l (if_below xs 0 k e)
 
-else_suits : (xs : List Labelled) (rest : List Labelled) (ends : ℕ → Option ℕ) → ((n : ℕ) → stands_in rest n ≡ is_from (length xs) (ends n))
+else_suits : (xs : List Labelled) (rest : List Labelled) (ends : ℕ → Option ℕ) → ((n : ℕ) → label_stands_in rest n ≡ is_from (length xs) (ends n))
     → (has_open_if xs && not (is_loop_open (since_if xs) rest) && not (list_any (λ (y : Labelled). is_last_else y.statement) (own_since_if xs)))
     ≡ not (lacks_if (first_of (frames_of xs)) (nearest_at (trimmed (length xs) (loops_of ends xs))))
 else_suits xs rest ends h =
@@ -81,7 +81,7 @@ no_end s = refl
 three : (a b c b' c' : Bool) → b ≡ b' → c ≡ c' → (a || (b || c)) ≡ (a || (b' || c'))
 three a b c b' c' e f = ap (λ t. a || (t || c)) e ∙ ap (λ t. a || (b' || t)) f
 
-loops_end : (xs : List Labelled) (after : List Labelled) (ends : ℕ → Option ℕ) → ((n : ℕ) → stands_in after n ≡ is_from (length xs + 1) (ends n)) → (s : Statement77) (n : ℕ)
+loops_end : (xs : List Labelled) (after : List Labelled) (ends : ℕ → Option ℕ) → ((n : ℕ) → label_stands_in after n ≡ is_from (length xs + 1) (ends n)) → (s : Statement77) (n : ℕ)
     → (list_any (begins_loop n) xs && (is_no_loop_end s || is_anything_open (since_do n xs) after))
     ≡ ends_wrongly (first_do xs n) (form_of s) (first_of (frames_of xs)) (nearest_at (trimmed (length xs + 1) (loops_of ends xs)))
 loops_end xs after ends h s n = cases (first_do xs n) (first_do_is n xs) (first_do_below n xs) (since_do_is n xs)
@@ -102,7 +102,7 @@ loops_end xs after ends h s n = cases (first_do xs n) (first_do_is n xs) (first_
 
 -- ---- END DO
 
-lacks_as_kept : (xs : List Labelled) (x : Labelled) (after : List Labelled) (ends : ℕ → Option ℕ) → ((n : ℕ) → stands_in (x ∷ after) n ≡ is_from (length xs) (ends n)) → (n : ℕ)
+lacks_as_kept : (xs : List Labelled) (x : Labelled) (after : List Labelled) (ends : ℕ → Option ℕ) → ((n : ℕ) → label_stands_in (x ∷ after) n ≡ is_from (length xs) (ends n)) → (n : ℕ)
     → (not (list_any (begins_loop n) xs) || is_loop_open (since_do n xs) (x ∷ after)) ≡ lacks_loop (first_do xs n) (nearest_at (trimmed (length xs) (loops_of ends xs)))
 lacks_as_kept xs x after ends h n = cases (first_do xs n) (first_do_is n xs) (first_do_below n xs) (since_do_is n xs)
   where
@@ -115,7 +115,7 @@ lacks_as_kept xs x after ends h n = cases (first_do xs n) (first_do_is n xs) (fi
         ∙ open_since (x ∷ after) (length xs) ends h xs k (omega arith) (below k refl)
 
 ends_one_kept : (xs : List Labelled) (x : Labelled) (after : List Labelled) (ends firsts : ℕ → Option ℕ)
-    → ((n : ℕ) → stands_in (x ∷ after) n ≡ is_from (length xs) (ends n)) → ((n : ℕ) → firsts n ≡ first_do xs n) → (label : Option ℕ)
+    → ((n : ℕ) → label_stands_in (x ∷ after) n ≡ is_from (length xs) (ends n)) → ((n : ℕ) → firsts n ≡ first_do xs n) → (label : Option ℕ)
     → ends_not_one (record { before = xs; here = x; after = after }) label ≡ lacks_loop (under label firsts) (nearest_at (trimmed (length xs) (loops_of ends xs)))
 ends_one_kept xs x after ends firsts h f None = refl
 ends_one_kept xs x after ends firsts h f (Some n) =
@@ -146,7 +146,7 @@ double_not false = refl
 
 -- the state behind xs, at the statement x, before `after`
 pub nests_as_kept : (xs : List Labelled) (x : Labelled) (after : List Labelled) (ends firsts : ℕ → Option ℕ)
-    → ((n : ℕ) → stands_in (x ∷ after) n ≡ is_from (length xs) (ends n)) → ((n : ℕ) → stands_in after n ≡ is_from (length xs + 1) (ends n)) → ((n : ℕ) → firsts n ≡ first_do xs n) → (s : Statement77)
+    → ((n : ℕ) → label_stands_in (x ∷ after) n ≡ is_from (length xs) (ends n)) → ((n : ℕ) → label_stands_in after n ≡ is_from (length xs + 1) (ends n)) → ((n : ℕ) → firsts n ≡ first_do xs n) → (s : Statement77)
     → nests_wrongly s (record { before = xs; here = x; after = after })
     ≡ (refuses (form_of s) (under x.label firsts) (first_of (frames_of xs)) (nearest_at (trimmed (length xs) (loops_of ends xs)))
     || closes_wrongly (form_of s) (is_from (length xs + 1) (end_of (form_of s) ends)) (first_of (frames_of xs)) (nearest_at (trimmed (length xs + 1) (loops_of ends xs))))
@@ -165,7 +165,7 @@ or_grouped true b c = refl
 or_grouped false b c = refl
 
 label_ends_loops : (xs : List Labelled) (x : Labelled) (after : List Labelled) (ends firsts : ℕ → Option ℕ)
-    → ((n : ℕ) → stands_in after n ≡ is_from (length xs + 1) (ends n)) → ((n : ℕ) → firsts n ≡ first_do xs n) → (label : Option ℕ)
+    → ((n : ℕ) → label_stands_in after n ≡ is_from (length xs + 1) (ends n)) → ((n : ℕ) → firsts n ≡ first_do xs n) → (label : Option ℕ)
     → ends_loops_wrongly (record { before = xs; here = x; after = after }) label
     ≡ ends_wrongly (under label firsts) (form_of x.statement) (first_of (frames_of xs)) (nearest_at (trimmed (length xs + 1) (loops_of ends xs)))
 label_ends_loops xs x after ends firsts g f None = refl
@@ -174,7 +174,7 @@ label_ends_loops xs x after ends firsts g f (Some n) =
     ∙ ap (λ o. ends_wrongly o (form_of x.statement) (first_of (frames_of xs)) (nearest_at (trimmed (length xs + 1) (loops_of ends xs)))) (sym (f n))
 
 pub closed_as_kept : (xs : List Labelled) (x : Labelled) (after : List Labelled) (ends firsts : ℕ → Option ℕ)
-    → ((n : ℕ) → stands_in (x ∷ after) n ≡ is_from (length xs) (ends n)) → ((n : ℕ) → stands_in after n ≡ is_from (length xs + 1) (ends n)) → ((n : ℕ) → firsts n ≡ first_do xs n)
+    → ((n : ℕ) → label_stands_in (x ∷ after) n ≡ is_from (length xs) (ends n)) → ((n : ℕ) → label_stands_in after n ≡ is_from (length xs + 1) (ends n)) → ((n : ℕ) → firsts n ≡ first_do xs n)
     → is_closed_wrongly (record { before = xs; here = x; after = after })
     ≡ has_wrong_closer (form_of x.statement) (length xs) (end_of (form_of x.statement) ends) (under x.label firsts) (first_of (frames_of xs)) (loops_of ends xs)
 closed_as_kept xs x after ends firsts h g f =
@@ -197,7 +197,7 @@ pub end_under : (ends : ℕ → Option ℕ) (f : Form) → under (begun_in f) en
 end_under ends (forms.Do label) = refl
 end_under ends f = refl
 
-pub stands_after : (xs : List Labelled') (ends : ℕ → Option ℕ) → ((n : ℕ) → ends n ≡ last_with (reverse (text_of xs)) n) → (j n : ℕ) → stands_in (drop j (text_of xs)) n ≡ is_from j (ends n)
+pub stands_after : (xs : List Labelled') (ends : ℕ → Option ℕ) → ((n : ℕ) → ends n ≡ last_with (reverse (text_of xs)) n) → (j n : ℕ) → label_stands_in (drop j (text_of xs)) n ≡ is_from j (ends n)
 stands_after xs ends h j n = stands_from (text_of xs) j n ∙ ap (is_from j) (sym (h n))
 
 -- what is kept behind the first i statements says of the next one what its place says
@@ -208,9 +208,9 @@ pub closer_at : (xs : List Labelled') (i : ℕ) (x : Labelled') (ends firsts : �
     ≡ has_wrong_closer (form_of (statement_of x.statement)) i (under (begun_in (form_of (statement_of x.statement))) ends) (under x.label firsts) (first_of fs) es
 closer_at xs i x ends firsts fs es h e l f p q =
     let long : length (passed (text_of xs) i) ≡ i = passed_length xs i h in
-    let behind : (n : ℕ) → stands_in (labelled_of x ∷ drop (i + 1) (text_of xs)) n ≡ is_from (length (passed (text_of xs) i)) (ends n) =
-    λ n. ap (λ rest. stands_in rest n) (sym (text_left xs i x h e)) ∙ stands_after xs ends l i n ∙ ap (λ j. is_from j (ends n)) (sym long) in
-    let beyond : (n : ℕ) → stands_in (drop (i + 1) (text_of xs)) n ≡ is_from (length (passed (text_of xs) i) + 1) (ends n) =
+    let behind : (n : ℕ) → label_stands_in (labelled_of x ∷ drop (i + 1) (text_of xs)) n ≡ is_from (length (passed (text_of xs) i)) (ends n) =
+    λ n. ap (λ rest. label_stands_in rest n) (sym (text_left xs i x h e)) ∙ stands_after xs ends l i n ∙ ap (λ j. is_from j (ends n)) (sym long) in
+    let beyond : (n : ℕ) → label_stands_in (drop (i + 1) (text_of xs)) n ≡ is_from (length (passed (text_of xs) i) + 1) (ends n) =
     λ n. stands_after xs ends l (i + 1) n ∙ ap (λ j. is_from (j + 1) (ends n)) (sym long) in
     closed_as_kept (passed (text_of xs) i) (labelled_of x) (drop (i + 1) (text_of xs)) ends firsts behind beyond f
     ∙ ap (λ j. has_wrong_closer (form_of (statement_of x.statement)) j (end_of (form_of (statement_of x.statement)) ends) (under x.label firsts) (first_of (frames_of (passed (text_of xs) i))) (loops_of ends (passed (text_of xs) i))) long

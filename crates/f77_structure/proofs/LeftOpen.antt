@@ -3,8 +3,8 @@ use Rattle.std.proofs.Common.{◌≡◌, ℕ, zero, suc, pred, ◌+◌, ◌<◌,
 use Rattle.std.proofs.lemmas.List.{drop_all}
 use Rattle.std.proofs.lemmas.Bool.Decides.{nat_tests}
 use Rattle.f77_grammar.specs.Statement77.{Labelled, Statement77, If, EndIf}
-use Rattle.f77_grammar.specs.program.Text.{Place, places_from}
-use Rattle.f77_grammar.specs.program.Nesting.{ends_here, has_end_if, stays_open, is_left_open}
+use Rattle.f77_grammar.specs.program.Text.{Place77, places_from}
+use Rattle.f77_grammar.specs.program.Nesting.{ends_here, has_end_if77, stays_open77, is_left_open}
 use Rattle.f77_structure.specs.declared.forms.Form.{Form}
 use Rattle.f77_structure.specs.declared.forms.Form.TheVariants as forms
 use Rattle.f77_grammar.specs.declared.syntax.statements.Labelled.{Labelled as Labelled'}
@@ -17,13 +17,13 @@ use Rattle.f77_grammar.proofs.syntax.Walks.{text_passed, text_left, text_through
 -- ---- a block IF has its END IF among statements exactly where one is left for it
 
 abbrev HasAsCounted : List Labelled → ℕ → Type 0
-HasAsCounted xs n = has_end_if xs n ≡ nat_lt n (pending xs)
+HasAsCounted xs n = has_end_if77 xs n ≡ nat_lt n (pending xs)
 
 one_less : (n k : ℕ) → nat_lt (suc n) k ≡ nat_lt n (pred k)
 one_less n zero = grind (arith, nat_tests)
 one_less n (suc k) = grind (arith, nat_tests)
 
-has_step : (s : Statement77) (xs : List Labelled) (n : ℕ) → ((k : ℕ) → HasAsCounted xs k) → ends_here s (has_end_if xs) n ≡ nat_lt n (pending_with (form_of s) (pending xs))
+has_step : (s : Statement77) (xs : List Labelled) (n : ℕ) → ((k : ℕ) → HasAsCounted xs k) → ends_here s (has_end_if77 xs) n ≡ nat_lt n (pending_with (form_of s) (pending xs))
 has_step EndIf xs zero ih = some (pending xs)
   where
     some : (k : ℕ) → true ≡ nat_lt 0 (suc k)
@@ -45,13 +45,13 @@ has_as_counted (x ∷ xs) n = has_step x.statement xs n (has_as_counted xs)
 nothing_left : (k : ℕ) → not (nat_lt 0 k) ≡ (k == 0)
 nothing_left k = grind (arith, nat_tests)
 
-open_as_counted : (s : Statement77) (p : Place) → stays_open s p ≡ lacks_end_if (form_of s) (pending p.after)
+open_as_counted : (s : Statement77) (p : Place77) → stays_open77 s p ≡ lacks_end_if (form_of s) (pending p.after)
 open_as_counted (If c) p = ap not (has_as_counted p.after 0) ∙ nothing_left (pending p.after)
 open_as_counted s p = refl
 
 -- ---- one statement further back
 
-pub found_back : (test : Place → Bool) (xs : List Labelled') (i : ℕ) (x : Labelled') (later : Option ℕ) → i < length xs → x ≡ get_or xs i x
+pub found_back : (test : Place77 → Bool) (xs : List Labelled') (i : ℕ) (x : Labelled') (later : Option ℕ) → i < length xs → x ≡ get_or xs i x
     → later ≡ index_from test (i + 1) (places_from (passed (text_of xs) (i + 1)) (drop (i + 1) (text_of xs)))
     → cond (test (place_at (text_of xs) i (labelled_of x))) (Some i) later ≡ index_from test i (places_from (passed (text_of xs) i) (drop i (text_of xs)))
 found_back test xs i x later h e g =
@@ -75,5 +75,5 @@ pending_more forms.If zero = omega arith
 pending_more forms.If (suc n) = omega arith
 pending_more f n = omega arith
 
-pub none_begun : (test : Place → Bool) (xs : List Labelled') (i : ℕ) → length xs ≤ i → None ≡ index_from test i (places_from (passed (text_of xs) i) (drop i (text_of xs)))
+pub none_begun : (test : Place77 → Bool) (xs : List Labelled') (i : ℕ) → length xs ≤ i → None ≡ index_from test i (places_from (passed (text_of xs) i) (drop i (text_of xs)))
 none_begun test xs i h = sym (ap (λ rest. index_from test i (places_from (passed (text_of xs) i) rest)) (drop_all i (text_of xs) (text_through xs i h)))

@@ -5,7 +5,7 @@ use Rattle.std.proofs.Math.Seq.{take-append_seam}
 use Rattle.std.proofs.lemmas.List.{take-append-drop, reverse-append, length-reverse}
 use Rattle.std.proofs.lemmas.Bool.Decides.{nat_tests}
 use Rattle.f77_grammar.specs.Statement77.{Labelled, Statement77, Do}
-use Rattle.f77_grammar.specs.program.Text.{stands_in, bears, ends_in, loop_ends_in}
+use Rattle.f77_grammar.specs.program.Text.{label_stands_in, bears, ends_in, loop_ends_in}
 use Rattle.f77_grammar.specs.program.Nesting.{is_do_of, begins_loop, since_do}
 use Rattle.f77_structure.specs.declared.openings.OpenLoop.{OpenLoop}
 use Rattle.f77_structure.specs.Forms.{form_of}
@@ -108,11 +108,11 @@ alive_opened m j len (Some e) es = ap (λ b. b || any_alive (suc m) j (suc len) 
     here_alive : (m j len e : ℕ) → (nat_le (suc len) (len + suc m) && nat_le j e) ≡ nat_le j e
     here_alive m j len e = grind (arith, nat_tests)
 
-ends_from : (rest : List Labelled) (j : ℕ) (ends : ℕ → Option ℕ) → ((n : ℕ) → stands_in rest n ≡ is_from j (ends n)) → (s : Statement77) → ends_in rest s ≡ is_from j (end_of (form_of s) ends)
+ends_from : (rest : List Labelled) (j : ℕ) (ends : ℕ → Option ℕ) → ((n : ℕ) → label_stands_in rest n ≡ is_from j (ends n)) → (s : Statement77) → ends_in rest s ≡ is_from j (end_of (form_of s) ends)
 ends_from rest j ends h (Do (Some n) x a b c) = h n
 ends_from rest j ends h s = refl
 
-pub loop_as_kept : (rest : List Labelled) (j : ℕ) (ends : ℕ → Option ℕ) → ((n : ℕ) → stands_in rest n ≡ is_from j (ends n))
+pub loop_as_kept : (rest : List Labelled) (j : ℕ) (ends : ℕ → Option ℕ) → ((n : ℕ) → label_stands_in rest n ≡ is_from j (ends n))
     → (xs : List Labelled) (m : ℕ) → length xs ≤ j → list_any (loop_ends_in rest) (take m xs) ≡ any_alive m j (length xs) (loops_of ends xs)
 loop_as_kept rest j ends h xs zero l = none_alive j (length xs) (loops_of ends xs) (loops_below ends xs)
 loop_as_kept rest j ends h [] (suc m) l = refl
@@ -162,7 +162,7 @@ since_decides len a None h = refl
 since_decides len a (Some k) h = grind (arith, nat_tests)
 
 -- a loop among the statements behind the a-th is open exactly where the last one on the stack begins there
-pub open_since : (rest : List Labelled) (j : ℕ) (ends : ℕ → Option ℕ) → ((n : ℕ) → stands_in rest n ≡ is_from j (ends n))
+pub open_since : (rest : List Labelled) (j : ℕ) (ends : ℕ → Option ℕ) → ((n : ℕ) → label_stands_in rest n ≡ is_from j (ends n))
     → (xs : List Labelled) (a : ℕ) → length xs ≤ j → a < length xs
     → list_any (loop_ends_in rest) (take (length xs - suc a) xs) ≡ is_behind (nearest_at (trimmed j (loops_of ends xs))) a
 open_since rest j ends h xs a l lt =
@@ -188,13 +188,13 @@ decides_none : (len : ℕ) (o : Option ℕ) → ((a : ℕ) → o ≡ Some a → 
 decides_none len None h = refl
 decides_none len (Some a) h = let lt : a < len = h a refl in grind (arith, nat_tests)
 
-stands_within : (xs : List Labelled) (m n : ℕ) → stands_in (take m xs) n ≡ decides m (length xs) (last_with xs n)
+stands_within : (xs : List Labelled) (m n : ℕ) → label_stands_in (take m xs) n ≡ decides m (length xs) (last_with xs n)
 stands_within xs zero n = decides_none (length xs) (last_with xs n) (last_below xs n)
 stands_within [] (suc m) n = refl
 stands_within (x ∷ xs) (suc m) n = cases (bears n x) (stands_within xs m n)
   where
-    cases : (b : Bool) → stands_in (take m xs) n ≡ decides m (length xs) (last_with xs n)
-        → (b || stands_in (take m xs) n) ≡ decides (suc m) (suc (length xs)) (cond b (Some (length xs)) (last_with xs n))
+    cases : (b : Bool) → label_stands_in (take m xs) n ≡ decides m (length xs) (last_with xs n)
+        → (b || label_stands_in (take m xs) n) ≡ decides (suc m) (suc (length xs)) (cond b (Some (length xs)) (last_with xs n))
     cases true ih = here (length xs) m
       where
         here : (L m : ℕ) → true ≡ nat_le (suc L) (L + suc m)
@@ -215,11 +215,11 @@ from_decides len j (Some a) h = let lt : a < len = h a refl in from a lt
     from a lt = grind (arith, nat_tests)
 
 -- a label stands among the statements from the j-th on exactly where the last one that bears it is one of these
-pub stands_from : (text : List Labelled) (j n : ℕ) → stands_in (drop j text) n ≡ is_from j (last_with (reverse text) n)
+pub stands_from : (text : List Labelled) (j n : ℕ) → label_stands_in (drop j text) n ≡ is_from j (last_with (reverse text) n)
 stands_from text j n =
     let len : length (reverse text) ≡ length text = length-reverse text in
     sym (any_reversed (bears n) (drop j text))
-    ∙ ap (λ xs. stands_in xs n) (left_reversed text j)
+    ∙ ap (λ xs. label_stands_in xs n) (left_reversed text j)
     ∙ stands_within (reverse text) (length text - j) n
     ∙ ap (λ l. decides (length text - j) l (last_with (reverse text) n)) len
     ∙ from_decides (length text) j (last_with (reverse text) n) (λ a h. let lt : a < length (reverse text) = last_below (reverse text) n a h in omega arith)

@@ -1,12 +1,12 @@
 -- The first place at which one of two things is wrong.
 use Rattle.std.proofs.Common.{◌≡◌, ℕ, suc, ◌≤◌, min, Bool, true, false, ◌||◌, cond, Option, Some, None, List, [], ◌∷◌, refl, sym, ap, ◌∙◌, arith}
 use Rattle.f77_grammar.specs.Statement77.{Labelled}
-use Rattle.f77_grammar.specs.program.Text.{Place, places}
+use Rattle.f77_grammar.specs.program.Text.{Place77, places}
 use Rattle.f77_grammar.specs.program.Nesting.{is_left_open, is_closed_wrongly, is_nested_wrongly}
 use Rattle.f77_grammar.specs.program.Order.{is_out_of_order}
 use Rattle.f77_grammar.specs.syntax.First.{index_from, first_index, sooner}
 
-index_above : (test : Place → Bool) (i : ℕ) (ps : List Place) (k : ℕ) → index_from test i ps ≡ Some k → i ≤ k
+index_above : (test : Place77 → Bool) (i : ℕ) (ps : List Place77) (k : ℕ) → index_from test i ps ≡ Some k → i ≤ k
 index_above test i [] k h = cc
 index_above test i (p ∷ ps) k h = cases (test p) h (index_above test (suc i) ps k)
   where
@@ -34,7 +34,7 @@ sooner_both i = ap (λ n. Some n) (least i)
     least : (i : ℕ) → i ≡ min i i
     least i = omega arith
 
-one_of : (f g : Place → Bool) (i : ℕ) (ps : List Place) → index_from (λ p. f p || g p) i ps ≡ sooner (index_from f i ps) (index_from g i ps)
+one_of : (f g : Place77 → Bool) (i : ℕ) (ps : List Place77) → index_from (λ p. f p || g p) i ps ≡ sooner (index_from f i ps) (index_from g i ps)
 one_of f g i [] = refl
 one_of f g i (p ∷ ps) = cases (f p) (g p) (one_of f g (suc i) ps) (index_above f (suc i) ps) (index_above g (suc i) ps)
   where

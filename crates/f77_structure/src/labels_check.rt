@@ -1,6 +1,6 @@
 //! Labels: each is from 1 to 99999 and stands once, and one that is named stands somewhere.
 ghost use Rattle.std.specs.Prelude.{◌≡◌, ℕ, ◌||◌, true, false, IfOk};
-ghost use Rattle.f77_grammar.specs.program.Text.{stands_in, action};
+ghost use Rattle.f77_grammar.specs.program.Text.{label_stands_in, action};
 ghost use Rattle.f77_grammar.specs.program.Labels.{has_wrong_label};
 ghost use Rattle.f77_grammar.specs.syntax.First.{first_index};
 ghost use Rattle.f77_structure.specs.Forms.{form_of, label_in};
@@ -30,7 +30,7 @@ impl Form {
 
 /// The labels that the statements bear.
 pub fn labels_of(alloc: Global, text: &[Labelled]) -> Result<Labels, Memory>
-    ensures { IfOk result (λ labels. (n : ℕ) → has labels n ≡ stands_in (text_of text.now) n) }
+    ensures { IfOk result (λ labels. (n : ℕ) → has labels n ≡ label_stands_in (text_of text.now) n) }
 {
     let mut labels = Labels::new(alloc);
     for statement in text {

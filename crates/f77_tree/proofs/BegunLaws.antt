@@ -12,7 +12,7 @@ use Rattle.tree.specs.declared.exprs.Ref.{Ref}
 use Rattle.tree.specs.declared.stmts.Item.{Item}
 use Rattle.f77_grammar.specs.Statement77.{Labelled, Statement77}
 use Rattle.meaning.specs.Store.{Store}
-use Rattle.f77_grammar.specs.program.Uses.{Use}
+use Rattle.f77_grammar.specs.program.Uses.{Use77}
 use Rattle.f77_grammar.specs.program.Tree as tree
 use Rattle.f77_laws.specs.trees.Steps as steps
 use Rattle.f77_grammar.specs.declared.syntax.statements.Entity.{Entity}
@@ -23,10 +23,10 @@ use Rattle.f77_grammar.specs.syntax.Views.{statement_of, labelled_of, text_of}
 use Rattle.f77_grammar.proofs.syntax.Equations.{statement_of-program, statement_of-implicit_none, statement_of-declare, statement_of-dimension, statement_of-constants, statement_of-assign, statement_of-go, statement_of-test, statement_of-if, statement_of-else_if, statement_of-else, statement_of-end_if, statement_of-do, statement_of-end_do, statement_of-continue, statement_of-stop, statement_of-read, statement_of-print, statement_of-end}
 use Rattle.f77_grammar.proofs.syntax.Walks.{text_left}
 
-module _ (us : List Use) (s : Store) (named : List ℕ) (x : Labelled) (r : steps.Rest) where
+module _ (us : List Use77) (s : Store) (named : List ℕ) (x : Labelled) (r : steps.Rest) where
   -- with a piece that is made of the statement
   abbrev before : Statement77 → steps.Rest
-  before st = steps.preceded (record { ends = x.label; made = tree.mark_of named x.label ++ tree.simple us s x.line st }) r
+  before st = steps.preceded (record { ends = x.label; made = tree.label_before named x.label ++ tree.simple us s x.line st }) r
 
   pub begun-end_if : steps.begun us s named x (statement_of stmts.EndIf) r ≡ steps.arm_ended r
   begun-end_if = ap (λ st. steps.begun us s named x st r) statement_of-end_if
@@ -37,11 +37,11 @@ module _ (us : List Use) (s : Store) (named : List ℕ) (x : Labelled) (r : step
   pub begun-else_if : (c : Expr) → steps.begun us s named x (statement_of (stmts.ElseIf c)) r ≡ steps.arm_begun (tree.resolved us s (expression_of c)) r
   begun-else_if c = ap (λ st. steps.begun us s named x st r) (statement_of-else_if c)
 
-  pub begun-if : (c : Expr) → steps.begun us s named x (statement_of (stmts.If c)) r ≡ steps.if_begun x.line (tree.mark_of named x.label) (tree.resolved us s (expression_of c)) r
+  pub begun-if : (c : Expr) → steps.begun us s named x (statement_of (stmts.If c)) r ≡ steps.if_begun x.line (tree.label_before named x.label) (tree.resolved us s (expression_of c)) r
   begun-if c = ap (λ st. steps.begun us s named x st r) (statement_of-if c)
 
   pub begun-do : (n : ℕ) (v : Name) (a b c : Expr) → steps.begun us s named x (statement_of (stmts.Do (Some n) v a b c)) r
-      ≡ steps.loop_begun (plain.Do x.line v (tree.resolved us s (expression_of a)) (tree.resolved us s (expression_of b)) (tree.resolved us s (expression_of c))) (tree.mark_of named x.label) n r
+      ≡ steps.loop_begun (plain.Do x.line v (tree.resolved us s (expression_of a)) (tree.resolved us s (expression_of b)) (tree.resolved us s (expression_of c))) (tree.label_before named x.label) n r
   begun-do n v a b c = ap (λ st. steps.begun us s named x st r) (statement_of-do (Some n) v a b c)
 
   pub begun-plain_do : (v : Name) (a b c : Expr) → steps.begun us s named x (statement_of (stmts.Do None v a b c)) r ≡ before (statement_of (stmts.Do None v a b c))
@@ -92,9 +92,9 @@ module _ (us : List Use) (s : Store) (named : List ℕ) (x : Labelled) (r : step
 pub ruleset begun_laws = (begun-end_if, begun-else, begun-else_if, begun-if, begun-do, begun-plain_do, begun-program, begun-implicit_none, begun-declare, begun-dimension, begun-constants, begun-assign, begun-go, begun-test, begun-end_do, begun-continue, begun-stop, begun-read, begun-print, begun-end)
 
 -- a loop, where its heading and the label before it are made
-pub do_is : (us : List Use) (s : Store) (named : List ℕ) (x : Labelled) (r new : steps.Rest) (st : Stmt77) (n : ℕ) (v : Name) (a b c : Expr)
+pub do_is : (us : List Use77) (s : Store) (named : List ℕ) (x : Labelled) (r new : steps.Rest) (st : Stmt77) (n : ℕ) (v : Name) (a b c : Expr)
     (make : plain.Block → plain.Statement) (mark : List plain.Statement) → st ≡ stmts.Do (Some n) v a b c
-    → make ≡ plain.Do x.line v (tree.resolved us s (expression_of a)) (tree.resolved us s (expression_of b)) (tree.resolved us s (expression_of c)) → mark ≡ tree.mark_of named x.label
+    → make ≡ plain.Do x.line v (tree.resolved us s (expression_of a)) (tree.resolved us s (expression_of b)) (tree.resolved us s (expression_of c)) → mark ≡ tree.label_before named x.label
     → new ≡ steps.loop_begun make mark n r → new ≡ steps.begun us s named x (statement_of st) r
 do_is us s named x r new st n v a b c make mark is e k h =
     h ∙ ap (λ m. steps.loop_begun m mark n r) e
@@ -103,7 +103,7 @@ do_is us s named x r new st n v a b c make mark is e k h =
 
 -- ---- all statements from one on
 
-pub rest_more : (us : List Use) (s : Store) (named : List ℕ) (xs : List Labelled') (i : ℕ) (x : Labelled') (old new : steps.Rest) → i < length xs → x ≡ get_or xs i x
+pub rest_more : (us : List Use77) (s : Store) (named : List ℕ) (xs : List Labelled') (i : ℕ) (x : Labelled') (old new : steps.Rest) → i < length xs → x ≡ get_or xs i x
     → old ≡ steps.rest_from us s named (drop (i + 1) (text_of xs)) → new ≡ steps.begun us s named (labelled_of x) (statement_of x.statement) old
     → new ≡ steps.rest_from us s named (drop i (text_of xs))
 rest_more us s named xs i x old new h k before e =

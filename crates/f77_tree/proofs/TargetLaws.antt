@@ -114,10 +114,10 @@ set_end has xs i h old n = old n ∙ ap (list_any (λ m. m == n)) (take_all i xs
 
 -- ---- labels before statements
 
-pub mark-named : (named : List ℕ) (n : ℕ) → list_any (λ m. m == n) named ≡ true → tree.mark_of named (Some n) ≡ Label n ∷ []
+pub mark-named : (named : List ℕ) (n : ℕ) → list_any (λ m. m == n) named ≡ true → tree.label_before named (Some n) ≡ Label n ∷ []
 mark-named named n h = ap (λ b. cond b (Label n ∷ []) []) h
 
-pub mark-other : (named : List ℕ) (n : ℕ) → list_any (λ m. m == n) named ≡ false → tree.mark_of named (Some n) ≡ []
+pub mark-other : (named : List ℕ) (n : ℕ) → list_any (λ m. m == n) named ≡ false → tree.label_before named (Some n) ≡ []
 mark-other named n h = ap (λ b. cond b (Label n ∷ []) []) h
 
 pub ruleset mark_laws = (statement_of-label, mark-named, mark-other)

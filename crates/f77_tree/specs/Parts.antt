@@ -8,7 +8,7 @@ use Rattle.tree.specs.declared.exprs.Ref.{Ref}
 use Rattle.tree.specs.declared.exprs.Sub.{Sub}
 use Rattle.tree.specs.declared.stmts.Item.{Item}
 use Rattle.meaning.specs.Store.{Store}
-use Rattle.f77_grammar.specs.program.Uses.{Use}
+use Rattle.f77_grammar.specs.program.Uses.{Use77}
 use Rattle.f77_grammar.specs.declared.directions.Direction.{Direction}
 use Rattle.f77_grammar.specs.program.Tree as tree
 use Rattle.f77_names.specs.constants.Constants.{store_of}
@@ -16,7 +16,7 @@ use Rattle.f77_names.specs.UsesView.{listed}
 use Rattle.f77_tree.specs.declared.resolver.Resolver.{Resolver}
 
 -- the uses of names in the program
-abbrev pub known_uses : Resolver → List Use
+abbrev pub known_uses : Resolver → List Use77
 known_uses r = listed r.names.now.uses
 
 -- a store in which its symbolic constants have their values

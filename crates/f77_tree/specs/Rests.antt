@@ -5,7 +5,7 @@ use Rattle.tree.specs.Plain as plain
 use Rattle.tree.specs.View.{expression_of, statement_of, tested_of, block_of, arms}
 use Rattle.f77_grammar.specs.Statement77.{Labelled}
 use Rattle.meaning.specs.Store.{Store}
-use Rattle.f77_grammar.specs.program.Uses.{Use}
+use Rattle.f77_grammar.specs.program.Uses.{Use77}
 use Rattle.f77_grammar.specs.program.Tree as tree
 use Rattle.f77_laws.specs.trees.Steps as steps
 use Rattle.f77_tree.specs.declared.rests.Piece.{Piece}
@@ -42,9 +42,9 @@ abbrev pub heading_of : Heading → plain.Block → plain.Statement
 heading_of h body = plain.Do h.line h.var (expression_of h.first) (expression_of h.last) (expression_of h.step) body
 
 -- what a statement that opens and closes nothing becomes
-abbrev pub ordinary : List Use → Store → List ℕ → Labelled → steps.Piece
+abbrev pub ordinary : List Use77 → Store → List ℕ → Labelled → steps.Piece
 ordinary us s named x =
     record {
       ends = x.label;
-      made = tree.mark_of named x.label ++ tree.simple us s x.line x.statement;
+      made = tree.label_before named x.label ++ tree.simple us s x.line x.statement;
     }

@@ -4,11 +4,13 @@ ghost use Rattle.tree.specs.Plain.{subscripts, no_subscripts};
 ghost use Rattle.tree.specs.View.{expression_of, subscript_of, reference_of};
 ghost use Rattle.tree.specs.declared.exprs.Expr.TheVariants as exprs;
 ghost use Rattle.tree.specs.declared.ops.Value.TheVariants as values;
-ghost use Rattle.meaning.specs.Dialect.{fortran77};
+ghost use Rattle.tree.specs.Widths.{bits_of};
+ghost use Rattle.tree.specs.declared.width.Width.TheVariants.{Wide};
 ghost use Rattle.meaning.specs.Value.{is_in_range};
 ghost use Rattle.f77_grammar.specs.program.Tree as tree;
 ghost use Rattle.f77_tree.specs.Parts.{known_uses, known_store, resolved_by, subscript_by, reference_by};
 ghost use Rattle.f77_tree.specs.Resolved.{called};
+ghost use Rattle.reading.specs.Signs as signs;
 
 use crate::resolver::Resolver;
 use std::alloc::Global;
@@ -17,7 +19,7 @@ use tree::{Expr, Fun, Memory, Name, Op, Ref, Seq, Sub, Value, three};
 // A number as an expression, in which a literal isn't negative.
 #[tactic(auto, using(crate::proofs::LiteralLaws::literal_laws))]
 fn number(alloc: Global, number: i128) -> Result<Expr, Memory>
-    requires { is_in_range fortran77.bits (values.Int number) ≡ true }
+    requires { is_in_range (bits_of Wide) (values.Int number) ≡ true }
     ensures { IfOk result (λ expr. expression_of expr ≡ tree.literal (values.Int number)) }
 {
     if number >= 0 {
@@ -29,7 +31,7 @@ fn number(alloc: Global, number: i128) -> Result<Expr, Memory>
 
 #[tactic(auto, using(crate::proofs::LiteralLaws::literal_laws))]
 fn literal(alloc: Global, value: Value) -> Result<Expr, Memory>
-    requires { is_in_range fortran77.bits value ≡ true }
+    requires { is_in_range (bits_of Wide) value ≡ true }
     ensures { IfOk result (λ expr. expression_of expr ≡ tree.literal value) }
 {
     match value {
@@ -43,7 +45,7 @@ impl Resolver<'_> {
     #[tactic(auto, using(crate::proofs::ResolvedLaws::name_laws))]
     fn name(&self, alloc: Global, name: Name) -> Result<Expr, Memory>
         ensures { IfOk result (λ expr.
-            expression_of expr ≡ tree.named (known_uses self.now) (known_store self.now) name no_subscripts) }
+            expression_of expr ≡ tree.named_tree (known_uses self.now) (known_store self.now) name no_subscripts) }
     {
         if self.is_constant(name) {
             return literal(alloc, self.value(name));
@@ -126,7 +128,7 @@ impl Resolver<'_> {
     #[cycle(resolve)]
     #[tactic(auto, using(crate::proofs::ResolvedLaws::resolved_laws))]
     fn argument(&self, alloc: Global, sub: &Sub) -> Result<Expr, Memory>
-        ensures { IfOk result (λ argument. expression_of argument ≡ tree.argument_of (subscript_by self.now sub.now)) }
+        ensures { IfOk result (λ argument. expression_of argument ≡ signs.argument_of (subscript_by self.now sub.now)) }
     {
         match sub {
             Sub::One(expr) => self.resolve(alloc, expr),
@@ -138,7 +140,7 @@ impl Resolver<'_> {
     #[cycle(resolve)]
     fn arguments(&self, alloc: Global, subs: &Seq<Sub>) -> Result<Seq<Expr>, Memory>
         ensures { IfOk result (λ arguments. map expression_of arguments ≡ map (λ p.
-            tree.argument_of (subscript_by self.now p)) subs.now) }
+            signs.argument_of (subscript_by self.now p)) subs.now) }
     {
         let mut arguments = Seq::new(alloc);
         for sub in subs.as_slice() {

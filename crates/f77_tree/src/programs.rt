@@ -4,7 +4,7 @@ ghost use Rattle.tree.specs.View.{program_of};
 ghost use Rattle.f77_grammar.specs.program.Limits.{constants_of, has_bad_constant};
 ghost use Rattle.f77_grammar.specs.program.Tree.{first_of_names};
 ghost use Rattle.f77_laws.specs.trees.Steps.{tree_of};
-ghost use Rattle.f77_grammar.specs.program.Uses.{is_title, names_that, uses_in_text};
+ghost use Rattle.f77_grammar.specs.program.Uses.{is_title_role, names_that, uses_in_text};
 ghost use Rattle.f77_names.specs.UsesView.{plain_use, listed};
 ghost use Rattle.f77_names.specs.constants.Constants.{AreValues};
 ghost use Rattle.f77_names.specs.constants.Declarations.{HaveDimensions};
@@ -22,7 +22,7 @@ use std::alloc::Global;
 use tree::{Memory, Name, Program77};
 
 fn is_title(used: &Use) -> bool
-    ensures { result ≡ is_title (plain_use used.now).role }
+    ensures { result ≡ is_title_role (plain_use used.now).role }
 {
     match used.role {
         Role::Title => true,
@@ -33,7 +33,7 @@ fn is_title(used: &Use) -> bool
 
 // The program's name.
 fn title(uses: &[Use]) -> Option<Name>
-    ensures { result ≡ first_of_names (names_that is_title (map plain_use uses.now)) }
+    ensures { result ≡ first_of_names (names_that is_title_role (map plain_use uses.now)) }
 {
     for used in uses {
         if is_title(used) {
@@ -52,11 +52,12 @@ pub fn tree(
     constants: &Constants,
 ) -> Result<Program77, Memory>
     requires names { listed names.now.uses ≡ uses_in_text (text_of text.now) }
-    requires constants { AreValues constants.now (constants_of fortran77 (text_of text.now)) }
+    requires constants { AreValues constants.now (constants_of (fortran77 constants.now.width) (text_of text.now)) }
     ensures dimensions { IfOk result (λ program. HaveDimensions program.decls) }
-    ensures tree { first_index (has_bad_constant fortran77 (constants_of fortran77 (text_of text.now)))
+    ensures tree { first_index (has_bad_constant (fortran77 constants.now.width) (constants_of
+        (fortran77 constants.now.width) (text_of text.now)))
         (text_of text.now) ≡ None
-        → IfOk result (λ program. program_of program ≡ tree_of fortran77 (text_of text.now)) }
+        → IfOk result (λ program. program_of program ≡ tree_of (fortran77 constants.now.width) (text_of text.now)) }
 {
     let resolver = Resolver::new(names, constants);
     let targets = Targets::of_text(alloc, text)?;

@@ -1,6 +1,6 @@
 //! What names and symbolic constants of a program stand for.
 ghost use Rattle.std.specs.Prelude.{◌≡◌};
-ghost use Rattle.f77_grammar.specs.program.Uses.{is_array, is_constant};
+ghost use Rattle.f77_grammar.specs.program.Uses.{is_array_name, is_constant_name};
 ghost use Rattle.f77_names.specs.constants.Constants.{value_in, value_or_nought};
 ghost use Rattle.f77_names.specs.UsesView.{listed};
 ghost use Rattle.f77_tree.specs.Resolved.{AreInRange};
@@ -29,14 +29,14 @@ impl<'a> Resolver<'a> {
 
     /// The name is an array.
     pub fn is_array(&self, name: Name) -> bool
-        ensures { result ≡ is_array (listed self.now.names.now.uses) name }
+        ensures { result ≡ is_array_name (listed self.now.names.now.uses) name }
     {
         self.names.is_array(name)
     }
 
     /// The name is a symbolic constant.
     pub fn is_constant(&self, name: Name) -> bool
-        ensures { result ≡ is_constant (listed self.now.names.now.uses) name }
+        ensures { result ≡ is_constant_name (listed self.now.names.now.uses) name }
     {
         self.names.is_constant(name)
     }

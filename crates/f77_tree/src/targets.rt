@@ -91,7 +91,7 @@ impl Targets {
     /// The label before a statement, where a GO TO names it.
     #[tactic(auto, using(crate::proofs::TargetLaws::mark_laws))]
     pub fn mark(&self, alloc: Global, label: Option<u32>) -> Result<Vec<Stmt>, Memory>
-        ensures { IfOk result (λ mark. map tree_statement_of mark.items ≡ tree.mark_of self.now.list.items label) }
+        ensures { IfOk result (λ mark. map tree_statement_of mark.items ≡ tree.label_before self.now.list.items label) }
     {
         let mut mark = Vec::new(alloc);
         if let Some(number) = label {

@@ -5,21 +5,21 @@ use Rattle.tree.specs.Plain as tree
 use Rattle.tree.specs.Plain.{Expression, Statement, Arms, Block}
 use Rattle.tree.specs.declared.functions.Intrinsic.{Intrinsic}
 use Rattle.tree.specs.declared.stmts.Mark.{Mark}
-use Rattle.f90_grammar.specs.Phrases.{Phrase, tree_of, value_of_digits}
-use Rattle.f90_grammar.specs.Items.{step_tree}
+use Rattle.f90_grammar.specs.Phrases.{Phrase90, tree_of, value_of_digits}
+use Rattle.f90_grammar.specs.Items.{step_tree90}
 use Rattle.f90_grammar.specs.Forms as forms
-use Rattle.f90_grammar.specs.Forms.{Form}
-use Rattle.f90_grammar.specs.Blocks.{Placed, at, IsSimple, AreBlock, AreArms}
+use Rattle.f90_grammar.specs.Forms.{Form90}
+use Rattle.f90_grammar.specs.Blocks.{Placed, placed_form, IsSimple, AreBlock90, AreArms90}
 use Rattle.f90_grammar.specs.Blocks.IsSimple.{assigns, masks, goes, stops, reads, reads_nothing, prints, prints_nothing}
 use Rattle.f90_grammar.specs.Blocks.IsSimple.{allocates, deallocates}
-use Rattle.f90_grammar.specs.Blocks.AreBlock.{nothing, label, unnamed, simple, test, branch, loop}
-use Rattle.f90_grammar.specs.Blocks.AreArms.{ends, other, further}
+use Rattle.f90_grammar.specs.Blocks.AreBlock90.{nothing, label, unnamed, simple, test, branch, loop}
+use Rattle.f90_grammar.specs.Blocks.AreArms90.{ends, other, further}
 use Rattle.f90_grammar.specs.Order.{Opened, InIf, InElse, InDo}
 use Rattle.f90_blocks.specs.Rests.{Ended, EndedIf, EndedDo, IsRest}
 
 module _ (function : List ℕ → Option Intrinsic) (is_target : ℕ → Bool) where
   abbrev IsBlockOf : List Placed → Block → Type 0
-  IsBlockOf ps b = AreBlock function is_target ps b
+  IsBlockOf ps b = AreBlock90 function is_target ps b
 
   abbrev IsRestOf : List Opened → List Placed → Block → List Ended → Type 0
   IsRestOf os ps b es = IsRest function is_target os ps b es
@@ -44,7 +44,7 @@ module _ (function : List ℕ → Option Intrinsic) (is_target : ℕ → Bool) w
       inside = front ++ i.inside;
       line = i.line;
       behind = i.behind;
-      same = ap (λ t. front ++ t) i.same ∙ sym (append_assoc front i.inside (at i.line None forms.EndIf ∷ i.behind));
+      same = ap (λ t. front ++ t) i.same ∙ sym (append_assoc front i.inside (placed_form i.line None forms.EndIf ∷ i.behind));
       block = g i.inside i.block;
       round = i.round;
     },
@@ -53,7 +53,7 @@ module _ (function : List ℕ → Option Intrinsic) (is_target : ℕ → Bool) w
     inside = front ++ r.inside;
     line = r.line;
     behind = r.behind;
-    same = ap (λ t. front ++ t) r.same ∙ sym (append_assoc front r.inside (at r.line None forms.EndDo ∷ r.behind));
+    same = ap (λ t. front ++ t) r.same ∙ sym (append_assoc front r.inside (placed_form r.line None forms.EndDo ∷ r.behind));
     block = g r.inside r.block;
     round = r.round;
   }
@@ -81,38 +81,38 @@ module _ (function : List ℕ → Option Intrinsic) (is_target : ℕ → Bool) w
   with_simple os ps b es p c i r = grown os (p ∷ []) ps b (tree.statement c b) es (λ qs h. simple p c qs b i h) r
 
   pub with_test : (os : List Opened) (ps : List Placed) (b : Block) (es : List Ended) (line : ℕ) (m : Option Mark)
-      (q : Phrase) (f : Form) (inner : Block) → IsBlockOf (at line m f ∷ []) inner
+      (q : Phrase90) (f : Form90) (inner : Block) → IsBlockOf (placed_form line m f ∷ []) inner
       → IsRestOf os ps b es
-      → IsRestOf os (at line m (forms.Test q f) ∷ ps)
+      → IsRestOf os (placed_form line m (forms.Test q f) ∷ ps)
       (tree.statement (tree.If line (tree.arm (tree_of function q) inner tree.no_arms) tree.no_statements) b) es
   with_test os ps b es line m q f inner i r =
-      grown os (at line m (forms.Test q f) ∷ []) ps b
+      grown os (placed_form line m (forms.Test q f) ∷ []) ps b
       (tree.statement (tree.If line (tree.arm (tree_of function q) inner tree.no_arms) tree.no_statements) b) es
       (λ qs h. test line m q f inner b qs i h) r
 
   pub with_named : (os : List Opened) (ps : List Placed) (b : Block) (es : List Ended) (line : ℕ) (digits : List ℕ)
       → is_target (value_of_digits digits) ≡ true
-      → IsRestOf os ps b es → IsRestOf os (at line None (forms.Continue digits) ∷ ps)
+      → IsRestOf os ps b es → IsRestOf os (placed_form line None (forms.Continue digits) ∷ ps)
       (tree.statement (tree.Label (value_of_digits digits)) b) es
   with_named os ps b es line digits t r =
-      grown os (at line None (forms.Continue digits) ∷ []) ps b (tree.statement (tree.Label (value_of_digits digits)) b)
+      grown os (placed_form line None (forms.Continue digits) ∷ []) ps b (tree.statement (tree.Label (value_of_digits digits)) b)
       es (λ qs h. label line digits qs b t h) r
 
   pub with_unnamed : (os : List Opened) (ps : List Placed) (b : Block) (es : List Ended) (line : ℕ) (digits : List ℕ)
       → is_target (value_of_digits digits) ≡ false
-      → IsRestOf os ps b es → IsRestOf os (at line None (forms.Continue digits) ∷ ps) b es
-  with_unnamed os ps b es line digits t r = grown os (at line None (forms.Continue digits) ∷ []) ps b b es
+      → IsRestOf os ps b es → IsRestOf os (placed_form line None (forms.Continue digits) ∷ ps) b es
+  with_unnamed os ps b es line digits t r = grown os (placed_form line None (forms.Continue digits) ∷ []) ps b b es
       (λ qs h. unnamed line digits qs b t h) r
 
   -- ---- the ends of blocks
 
   pub with_end_if : (os : List Opened) (ps : List Placed) (b : Block) (es : List Ended) (line : ℕ) → IsRestOf os ps b es
-      → IsRestOf (InIf ∷ os) (at line None forms.EndIf ∷ ps) tree.no_statements
+      → IsRestOf (InIf ∷ os) (placed_form line None forms.EndIf ∷ ps) tree.no_statements
       (EndedIf tree.no_arms tree.no_statements b ∷ es)
   with_end_if os ps b es line r =
       record {
         inside = [];
-        arms = at line None forms.EndIf ∷ [];
+        arms = placed_form line None forms.EndIf ∷ [];
         behind = ps;
         same = refl;
         block = nothing;
@@ -123,14 +123,14 @@ module _ (function : List ℕ → Option Intrinsic) (is_target : ℕ → Bool) w
 
   pub with_end_else : (os : List Opened) (ps : List Placed) (b : Block) (es : List Ended) (line : ℕ)
       → IsRestOf os ps b es
-      → IsRestOf (InElse ∷ os) (at line None forms.EndIf ∷ ps) tree.no_statements
+      → IsRestOf (InElse ∷ os) (placed_form line None forms.EndIf ∷ ps) tree.no_statements
       (EndedIf tree.no_arms tree.no_statements b ∷ es)
   with_end_else os ps b es line r =
       (refl, refl, record { inside = []; line = line; behind = ps; same = refl; block = nothing; round = r })
 
   pub with_end_do : (os : List Opened) (x : List ℕ) (ps : List Placed) (b : Block) (es : List Ended) (line : ℕ)
       → IsRestOf os ps b es
-      → IsRestOf (InDo x ∷ os) (at line None forms.EndDo ∷ ps) tree.no_statements (EndedDo b ∷ es)
+      → IsRestOf (InDo x ∷ os) (placed_form line None forms.EndDo ∷ ps) tree.no_statements (EndedDo b ∷ es)
   with_end_do os x ps b es line r = record
       { inside = []; line = line; behind = ps; same = refl; block = nothing; round = r }
 
@@ -138,44 +138,44 @@ module _ (function : List ℕ → Option Intrinsic) (is_target : ℕ → Bool) w
 
   pub with_else : (os : List Opened) (ps : List Placed) (b behind : Block) (later : Arms) (o : Block) (es : List Ended)
       (line : ℕ) → IsRestOf (InElse ∷ os) ps b (EndedIf later o behind ∷ es)
-      → IsRestOf (InIf ∷ os) (at line None forms.Else ∷ ps) tree.no_statements (EndedIf later b behind ∷ es)
+      → IsRestOf (InIf ∷ os) (placed_form line None forms.Else ∷ ps) tree.no_statements (EndedIf later b behind ∷ es)
   with_else os ps b behind later o es line r =
       let i = r.2 in
       record {
         inside = [];
-        arms = at line None forms.Else ∷ (i.inside ++ at i.line None forms.EndIf ∷ []);
+        arms = placed_form line None forms.Else ∷ (i.inside ++ placed_form i.line None forms.EndIf ∷ []);
         behind = i.behind;
-        same = ap (λ t. at line None forms.Else ∷ t)
-            (i.same ∙ sym (append_assoc i.inside (at i.line None forms.EndIf ∷ []) i.behind));
+        same = ap (λ t. placed_form line None forms.Else ∷ t)
+            (i.same ∙ sym (append_assoc i.inside (placed_form i.line None forms.EndIf ∷ []) i.behind));
         block = nothing;
-        are_arms = subst (λ (m : Arms). AreArms function is_target
-            (at line None forms.Else ∷ (i.inside ++ at i.line None forms.EndIf ∷ [])) m b) (sym r.0)
+        are_arms = subst (λ (m : Arms). AreArms90 function is_target
+            (placed_form line None forms.Else ∷ (i.inside ++ placed_form i.line None forms.EndIf ∷ [])) m b) (sym r.0)
             (other line i.line i.inside b i.block);
         round = i.round;
       }
 
   pub with_arm : (os : List Opened) (ps : List Placed) (b behind : Block) (later : Arms) (o : Block) (es : List Ended)
-      (line : ℕ) (q : Phrase)
+      (line : ℕ) (q : Phrase90)
       → IsRestOf (InIf ∷ os) ps b (EndedIf later o behind ∷ es)
-      → IsRestOf (InIf ∷ os) (at line None (forms.ElseIf q) ∷ ps) tree.no_statements
+      → IsRestOf (InIf ∷ os) (placed_form line None (forms.ElseIf q) ∷ ps) tree.no_statements
       (EndedIf (tree.arm (tree_of function q) b later) o behind ∷ es)
   with_arm os ps b behind later o es line q r = record {
     inside = [];
-    arms = at line None (forms.ElseIf q) ∷ (r.inside ++ r.arms);
+    arms = placed_form line None (forms.ElseIf q) ∷ (r.inside ++ r.arms);
     behind = r.behind;
-    same = ap (λ t. at line None (forms.ElseIf q) ∷ t) (r.same ∙ sym (append_assoc r.inside r.arms r.behind));
+    same = ap (λ t. placed_form line None (forms.ElseIf q) ∷ t) (r.same ∙ sym (append_assoc r.inside r.arms r.behind));
     block = nothing;
     are_arms = further line q r.inside r.arms b o later r.block r.are_arms;
     round = r.round;
   }
 
   pub with_if : (os : List Opened) (ps : List Placed) (b behind : Block) (later : Arms) (o : Block) (es : List Ended)
-      (line : ℕ) (q : Phrase)
+      (line : ℕ) (q : Phrase90)
       → IsRestOf (InIf ∷ os) ps b (EndedIf later o behind ∷ es)
-      → IsRestOf os (at line None (forms.If q) ∷ ps)
+      → IsRestOf os (placed_form line None (forms.If q) ∷ ps)
       (tree.statement (tree.If line (tree.arm (tree_of function q) b later) o) behind) es
   with_if os ps b behind later o es line q r =
-      let s : Placed = at line None (forms.If q) in
+      let s : Placed = placed_form line None (forms.If q) in
       let c : Block = tree.statement (tree.If line (tree.arm (tree_of function q) b later) o) behind in
       subst (λ t. IsRestOf os (s ∷ t) c es) (append_assoc r.inside r.arms r.behind ∙ sym r.same)
       (grown os (s ∷ (r.inside ++ r.arms)) r.behind behind c es
@@ -183,14 +183,14 @@ module _ (function : List ℕ → Option Intrinsic) (is_target : ℕ → Bool) w
       (branch line q r.inside r.arms qs b o behind later r.block r.are_arms h)) r.round)
 
   pub with_do : (os : List Opened) (ps : List Placed) (b behind : Block) (es : List Ended) (line : ℕ) (x : List ℕ)
-      (p q : Phrase) (s : Option Phrase)
+      (p q : Phrase90) (s : Option Phrase90)
       → IsRestOf (InDo x ∷ os) ps b (EndedDo behind ∷ es)
-      → IsRestOf os (at line None (forms.Do x p q s) ∷ ps)
-      (tree.statement (tree.Do line x (tree_of function p) (tree_of function q) (step_tree function s) b) behind) es
+      → IsRestOf os (placed_form line None (forms.Do x p q s) ∷ ps)
+      (tree.statement (tree.Do line x (tree_of function p) (tree_of function q) (step_tree90 function s) b) behind) es
   with_do os ps b behind es line x p q s r =
-      let d : Placed = at line None (forms.Do x p q s) in
-      let e : Placed = at r.line None forms.EndDo in
-      let c : Block = tree.statement (tree.Do line x (tree_of function p) (tree_of function q) (step_tree function s) b)
+      let d : Placed = placed_form line None (forms.Do x p q s) in
+      let e : Placed = placed_form r.line None forms.EndDo in
+      let c : Block = tree.statement (tree.Do line x (tree_of function p) (tree_of function q) (step_tree90 function s) b)
       behind in
       subst (λ t. IsRestOf os (d ∷ t) c es) (append_assoc r.inside (e ∷ []) r.behind ∙ sym r.same)
       (grown os (d ∷ (r.inside ++ e ∷ [])) r.behind behind c es

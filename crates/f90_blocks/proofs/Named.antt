@@ -6,11 +6,11 @@ use Rattle.tree.specs.View.{statement_of}
 use Rattle.tree.specs.declared.functions.Intrinsic.{Intrinsic}
 use Rattle.f90_laws.specs.blocks.Blocks.{goes_to, name_target}
 use Rattle.f90_grammar.specs.Forms as forms
-use Rattle.f90_grammar.specs.Forms.{Form}
-use Rattle.f90_grammar.specs.Blocks.{Placed, at, IsSimple}
+use Rattle.f90_grammar.specs.Forms.{Form90}
+use Rattle.f90_grammar.specs.Blocks.{Placed, placed_form, IsSimple}
 use Rattle.f90_grammar.specs.Blocks.IsSimple.{assigns, masks, goes, stops, reads, reads_nothing, prints, prints_nothing}
 use Rattle.f90_grammar.specs.Blocks.IsSimple.{allocates, deallocates}
-use Rattle.f90_grammar.specs.Order.{is_executable}
+use Rattle.f90_grammar.specs.Order.{is_executable90}
 use Rattle.f90_statement.specs.Views.{AreOf}
 use Rattle.f90_blocks.specs.statement_trees.Trees.{IsTreeOf, IsTreeIn}
 use Rattle.f90_blocks.specs.declared.statement_trees.nodes.StatementTree.{StatementTree}
@@ -36,15 +36,15 @@ module _ (function : List ℕ → Option Intrinsic) (n : ℕ) where
   simple_goes p c (allocates line x es) = refl
   simple_goes p c (deallocates line x) = refl
 
-  goes_by_form : (p : Placed) (f : Form) → p.form ≡ f → goes_to n f ≡ false → goes_to n p.form ≡ false
+  goes_by_form : (p : Placed) (f : Form90) → p.form ≡ f → goes_to n f ≡ false → goes_to n p.form ≡ false
   goes_by_form p f e h = ap (goes_to n) e ∙ h
 
-  is_form : (p : Placed) (f : Form) → p ≡ at p.line None f → goes_to n f ≡ false → goes_to n p.form ≡ false
+  is_form : (p : Placed) (f : Form90) → p ≡ placed_form p.line None f → goes_to n f ≡ false → goes_to n p.form ≡ false
   is_form p f e h = goes_by_form p f (ap (λ (x : Placed). x.form) e) h
 
   tree_goes : (p : Placed) (t : StatementTree) → IsTreeOf function p t → Goes p (target_in t)
   tree_goes p (Simple s) h = simple_goes p (statement_of s) h
-  tree_goes p (Test e (Some s)) h = ap (goes_to n) h.2 ∙ simple_goes (at p.line p.mark h.1) (statement_of s) h.4
+  tree_goes p (Test e (Some s)) h = ap (goes_to n) h.2 ∙ simple_goes (placed_form p.line p.mark h.1) (statement_of s) h.4
   tree_goes p (Test e None) h = ap (goes_to n) h.2 ∙ ap (goes_to n) h.4
   tree_goes p (If e) h = is_form p (forms.If h.0) h.1 refl
   tree_goes p (ElseIf e) h = is_form p (forms.ElseIf h.0) h.1 refl
@@ -55,7 +55,7 @@ module _ (function : List ℕ → Option Intrinsic) (n : ℕ) where
   tree_goes p (Continue None) h = is_form p (forms.Continue []) h refl
   tree_goes p (Continue (Some m)) h = is_form p (forms.Continue (h.0 ∷ h.1)) h.2 refl
 
-  idle_goes : (f : Form) → is_executable f ≡ false → goes_to n f ≡ false
+  idle_goes : (f : Form90) → is_executable90 f ≡ false → goes_to n f ≡ false
   idle_goes (forms.Program x) e = refl
   idle_goes forms.ImplicitNone e = refl
   idle_goes (forms.Declare k a es) e = refl

@@ -9,12 +9,12 @@ use Rattle.tree.specs.declared.functions.Intrinsic.{Intrinsic}
 use Rattle.tree.specs.declared.lists.Memory.{Memory}
 use Rattle.tree.specs.declared.stmts.Mark.{Mark}
 use Rattle.tree.specs.declared.stmts.Stmt.{Stmt}
-use Rattle.f90_grammar.specs.Phrases.{Phrase, tree_of, value_of_digits}
-use Rattle.f90_grammar.specs.Items.{step_tree}
+use Rattle.f90_grammar.specs.Phrases.{Phrase90, tree_of, value_of_digits}
+use Rattle.f90_grammar.specs.Items.{step_tree90}
 use Rattle.f90_grammar.specs.Forms as forms
-use Rattle.f90_grammar.specs.Forms.{Form}
-use Rattle.f90_grammar.specs.Blocks.{Placed, at, IsSimple, AreBlock}
-use Rattle.f90_grammar.specs.Blocks.AreBlock.{nothing, unnamed, simple}
+use Rattle.f90_grammar.specs.Forms.{Form90}
+use Rattle.f90_grammar.specs.Blocks.{Placed, placed_form, IsSimple, AreBlock90}
+use Rattle.f90_grammar.specs.Blocks.AreBlock90.{nothing, unnamed, simple}
 use Rattle.f90_grammar.specs.Order.{Opened, InIf, InElse, InDo, opened_by, closes_wrongly}
 use Rattle.f90_grammar.specs.Reading.{takes_mark}
 use Rattle.f90_grammar.specs.Blocks.IsSimple.{assigns, masks, goes, stops, reads, reads_nothing, prints, prints_nothing}
@@ -49,11 +49,11 @@ module _ (function : List ℕ → Option Intrinsic) (is_target : ℕ → Bool) w
   made os ps b es (Ok x) h s = shown os ps b es x h s
   made os ps b es (Err e) h s = s
 
-  opened_as : (os : List Opened) (ps : List Placed) (self : Rest) (f g : Form) → f ≡ g
+  opened_as : (os : List Opened) (ps : List Placed) (self : Rest) (f g : Form90) → f ≡ g
       → StandsOf (opened_by f os) ps self → StandsOf (opened_by g os) ps self
   opened_as os ps self f g e h = subst (λ k. StandsOf (opened_by k os) ps self) e h
 
-  fits_as : (os : List Opened) (f g : Form) → f ≡ g → closes_wrongly f os ≡ false → closes_wrongly g os ≡ false
+  fits_as : (os : List Opened) (f g : Form90) → f ≡ g → closes_wrongly f os ≡ false → closes_wrongly g os ≡ false
   fits_as os f g e h = ap (λ k. closes_wrongly k os) (sym e) ∙ h
 
   -- ---- statements that neither open nor close
@@ -85,14 +85,14 @@ module _ (function : List ℕ → Option Intrinsic) (is_target : ℕ → Bool) w
       (subst (λ o. IsRestOf o ps b es) (simple_opens p (statement_of s) os i) h))
       told
 
-  done_block : (line : ℕ) (m : Option Mark) (f : Form) (done : Option Stmt) → IsDone function (at line m f) done
+  done_block : (line : ℕ) (m : Option Mark) (f : Form90) (done : Option Stmt) → IsDone function (placed_form line m f) done
       → (f ≡ forms.Continue [] → m ≡ None) → is_target 0 ≡ false
-      → AreBlock function is_target (at line m f ∷ []) (done_seen done)
-  done_block line m f (Some s) h mark z = simple (at line m f) (statement_of s) [] tree.no_statements
-      (simple_by function is_target (λ n. false) (at line m f) (statement_of s) h) nothing
+      → AreBlock90 function is_target (placed_form line m f ∷ []) (done_seen done)
+  done_block line m f (Some s) h mark z = simple (placed_form line m f) (statement_of s) [] tree.no_statements
+      (simple_by function is_target (λ n. false) (placed_form line m f) (statement_of s) h) nothing
   done_block line m f None h mark z =
-      subst (λ (n : Option Mark). AreBlock function is_target (at line n f ∷ []) tree.no_statements) (sym (mark h))
-      (subst (λ (g : Form). AreBlock function is_target (at line None g ∷ []) tree.no_statements) (sym h)
+      subst (λ (n : Option Mark). AreBlock90 function is_target (placed_form line n f ∷ []) tree.no_statements) (sym (mark h))
+      (subst (λ (g : Form90). AreBlock90 function is_target (placed_form line None g ∷ []) tree.no_statements) (sym h)
       (unnamed line [] [] tree.no_statements z nothing))
 
   pub test_step : (os : List Opened) (p : Placed) (ps : List Placed) (self : Rest) (r : Result Rest Memory) (line : ℕ)
@@ -120,7 +120,7 @@ module _ (function : List ℕ → Option Intrinsic) (is_target : ℕ → Bool) w
       made os (p ∷ ps) (tree.statement
       (tree.If line (tree.arm (expression_of e) (done_seen done) tree.no_arms) tree.no_statements) b) es r
       (subst (λ c. IsRestOf os (p ∷ ps) (tree.statement c b) es) is
-      (subst (λ g. IsRestOf os (at p.line p.mark g ∷ ps)
+      (subst (λ g. IsRestOf os (placed_form p.line p.mark g ∷ ps)
       (tree.statement (tree.If p.line (tree.arm (tree_of function q) (done_seen done) tree.no_arms) tree.no_statements)
       b) es) (sym i.2) stood))
       told
@@ -128,14 +128,14 @@ module _ (function : List ℕ → Option Intrinsic) (is_target : ℕ → Bool) w
   -- a label before the block where it is a target, as the code has it; no label counts as 0
   continued : (os : List Opened) (ps : List Placed) (b : Block) (es : List Ended) (line : ℕ) (digits : List ℕ)
       (t : Bool) → is_target (value_of_digits digits) ≡ t → IsRestOf os ps b es
-      → IsRestOf os (at line None (forms.Continue digits) ∷ ps)
+      → IsRestOf os (placed_form line None (forms.Continue digits) ∷ ps)
       (cond t (tree.statement (tree.Label (value_of_digits digits)) b) b) es
   continued os ps b es line digits true t r = with_named function is_target os ps b es line digits t r
   continued os ps b es line digits false t r = with_unnamed function is_target os ps b es line digits t r
 
   label_digits : (os : List Opened) (p : Placed) (ps : List Placed) (self : Rest) (digits : List ℕ) (t : Bool)
       → is_target (value_of_digits digits) ≡ t
-      → p ≡ at p.line None (forms.Continue digits) → StandsOf (opened_by p.form os) ps self
+      → p ≡ placed_form p.line None (forms.Continue digits) → StandsOf (opened_by p.form os) ps self
       → IsRestOf os (p ∷ ps) (cond t
       (tree.statement (tree.Label (value_of_digits digits)) (block_seen self.stmts.items))
       (block_seen self.stmts.items)) (opens_seen self.opened.items)
@@ -169,12 +169,12 @@ module _ (function : List ℕ → Option Intrinsic) (is_target : ℕ → Bool) w
       → closes_wrongly forms.EndIf os ≡ false
       → IsRestOf (opened_by forms.EndIf os) ps b es
       → IfOk r (λ x. Shows x tree.no_statements (EndedIf tree.no_arms tree.no_statements b ∷ es))
-      → Made r os (at line None forms.EndIf ∷ ps)
+      → Made r os (placed_form line None forms.EndIf ∷ ps)
   end_if_rest (InIf ∷ os) ps b es line r fits h told =
-      made (InIf ∷ os) (at line None forms.EndIf ∷ ps) tree.no_statements
+      made (InIf ∷ os) (placed_form line None forms.EndIf ∷ ps) tree.no_statements
       (EndedIf tree.no_arms tree.no_statements b ∷ es) r (with_end_if function is_target os ps b es line h) told
   end_if_rest (InElse ∷ os) ps b es line r fits h told =
-      made (InElse ∷ os) (at line None forms.EndIf ∷ ps) tree.no_statements
+      made (InElse ∷ os) (placed_form line None forms.EndIf ∷ ps) tree.no_statements
       (EndedIf tree.no_arms tree.no_statements b ∷ es) r (with_end_else function is_target os ps b es line h) told
   end_if_rest [] ps b es line r fits h told = absurd cc
   end_if_rest (InDo x ∷ os) ps b es line r fits h told = absurd cc
@@ -182,9 +182,9 @@ module _ (function : List ℕ → Option Intrinsic) (is_target : ℕ → Bool) w
   end_do_rest : (os : List Opened) (ps : List Placed) (b : Block) (es : List Ended) (line : ℕ) (r : Result Rest Memory)
       → closes_wrongly forms.EndDo os ≡ false
       → IsRestOf (opened_by forms.EndDo os) ps b es → IfOk r (λ x. Shows x tree.no_statements (EndedDo b ∷ es))
-      → Made r os (at line None forms.EndDo ∷ ps)
+      → Made r os (placed_form line None forms.EndDo ∷ ps)
   end_do_rest (InDo x ∷ os) ps b es line r fits h told =
-      made (InDo x ∷ os) (at line None forms.EndDo ∷ ps) tree.no_statements (EndedDo b ∷ es) r
+      made (InDo x ∷ os) (placed_form line None forms.EndDo ∷ ps) tree.no_statements (EndedDo b ∷ es) r
       (with_end_do function is_target os x ps b es line h) told
   end_do_rest [] ps b es line r fits h told = absurd cc
   end_do_rest (InIf ∷ os) ps b es line r fits h told = absurd cc
@@ -197,29 +197,29 @@ module _ (function : List ℕ → Option Intrinsic) (is_target : ℕ → Bool) w
   ToldOfIf r es Is = (later : Arms) (o behind : Block) (more : List Ended) → es ≡ EndedIf later o behind ∷ more
       → IfOk r (Is later o behind more)
 
-  if_rest : (os : List Opened) (ps : List Placed) (b : Block) (es : List Ended) (line : ℕ) (q : Phrase) (e : Expression)
+  if_rest : (os : List Opened) (ps : List Placed) (b : Block) (es : List Ended) (line : ℕ) (q : Phrase90) (e : Expression)
       (r : Result Rest Memory) → e ≡ tree_of function q
       → IsRestOf (InIf ∷ os) ps b es
       → ToldOfIf r es (λ later o behind more x. Shows x (tree.statement (tree.If line (tree.arm e b later) o) behind)
-      more) → Made r os (at line None (forms.If q) ∷ ps)
+      more) → Made r os (placed_form line None (forms.If q) ∷ ps)
   if_rest os ps b (EndedIf later o behind ∷ es) line q e r g h told =
-      made os (at line None (forms.If q) ∷ ps) (tree.statement (tree.If line (tree.arm e b later) o) behind) es r
-      (subst (λ v. IsRestOf os (at line None (forms.If q) ∷ ps)
+      made os (placed_form line None (forms.If q) ∷ ps) (tree.statement (tree.If line (tree.arm e b later) o) behind) es r
+      (subst (λ v. IsRestOf os (placed_form line None (forms.If q) ∷ ps)
       (tree.statement (tree.If line (tree.arm v b later) o) behind) es) (sym g)
       (with_if function is_target os ps b behind later o es line q h))
       (told later o behind es refl)
   if_rest os ps b [] line q e r g h told = absurd h
   if_rest os ps b (EndedDo behind ∷ es) line q e r g h told = absurd h
 
-  arm_rest : (os : List Opened) (ps : List Placed) (b : Block) (es : List Ended) (line : ℕ) (q : Phrase)
+  arm_rest : (os : List Opened) (ps : List Placed) (b : Block) (es : List Ended) (line : ℕ) (q : Phrase90)
       (e : Expression) (r : Result Rest Memory) → e ≡ tree_of function q
       → closes_wrongly (forms.ElseIf q) os ≡ false → IsRestOf os ps b es
       → ToldOfIf r es (λ later o behind more x. Shows x tree.no_statements
-      (EndedIf (tree.arm e b later) o behind ∷ more)) → Made r os (at line None (forms.ElseIf q) ∷ ps)
+      (EndedIf (tree.arm e b later) o behind ∷ more)) → Made r os (placed_form line None (forms.ElseIf q) ∷ ps)
   arm_rest (InIf ∷ os) ps b (EndedIf later o behind ∷ es) line q e r g fits h told =
-      made (InIf ∷ os) (at line None (forms.ElseIf q) ∷ ps) tree.no_statements
+      made (InIf ∷ os) (placed_form line None (forms.ElseIf q) ∷ ps) tree.no_statements
       (EndedIf (tree.arm e b later) o behind ∷ es) r
-      (subst (λ v. IsRestOf (InIf ∷ os) (at line None (forms.ElseIf q) ∷ ps) tree.no_statements
+      (subst (λ v. IsRestOf (InIf ∷ os) (placed_form line None (forms.ElseIf q) ∷ ps) tree.no_statements
       (EndedIf (tree.arm v b later) o behind ∷ es)) (sym g)
       (with_arm function is_target os ps b behind later o es line q h))
       (told later o behind es refl)
@@ -233,9 +233,9 @@ module _ (function : List ℕ → Option Intrinsic) (is_target : ℕ → Bool) w
       → closes_wrongly forms.Else os ≡ false
       → IsRestOf (opened_by forms.Else os) ps b es
       → ToldOfIf r es (λ later o behind more x. Shows x tree.no_statements (EndedIf later b behind ∷ more))
-      → Made r os (at line None forms.Else ∷ ps)
+      → Made r os (placed_form line None forms.Else ∷ ps)
   else_rest (InIf ∷ os) ps b (EndedIf later o behind ∷ es) line r fits h told =
-      made (InIf ∷ os) (at line None forms.Else ∷ ps) tree.no_statements (EndedIf later b behind ∷ es) r
+      made (InIf ∷ os) (placed_form line None forms.Else ∷ ps) tree.no_statements (EndedIf later b behind ∷ es) r
       (with_else function is_target os ps b behind later o es line h) (told later o behind es refl)
   else_rest (InIf ∷ os) ps b [] line r fits h told = absurd h
   else_rest (InIf ∷ os) ps b (EndedDo behind ∷ es) line r fits h told = absurd h
@@ -243,17 +243,17 @@ module _ (function : List ℕ → Option Intrinsic) (is_target : ℕ → Bool) w
   else_rest (InElse ∷ os) ps b es line r fits h told = absurd cc
   else_rest (InDo x ∷ os) ps b es line r fits h told = absurd cc
 
-  do_rest : (os : List Opened) (ps : List Placed) (b : Block) (es : List Ended) (line : ℕ) (x : List ℕ) (p q : Phrase)
-      (s : Option Phrase) (d e f : Expression) (r : Result Rest Memory)
-      → d ≡ tree_of function p → e ≡ tree_of function q → f ≡ step_tree function s → IsRestOf (InDo x ∷ os) ps b es
+  do_rest : (os : List Opened) (ps : List Placed) (b : Block) (es : List Ended) (line : ℕ) (x : List ℕ) (p q : Phrase90)
+      (s : Option Phrase90) (d e f : Expression) (r : Result Rest Memory)
+      → d ≡ tree_of function p → e ≡ tree_of function q → f ≡ step_tree90 function s → IsRestOf (InDo x ∷ os) ps b es
       → ((behind : Block) (more : List Ended) → es ≡ EndedDo behind ∷ more
       → IfOk r (λ y. Shows y (tree.statement (tree.Do line x d e f b) behind) more))
-      → Made r os (at line None (forms.Do x p q s) ∷ ps)
+      → Made r os (placed_form line None (forms.Do x p q s) ∷ ps)
   do_rest os ps b (EndedDo behind ∷ es) line x p q s d e f r i j k h told =
-      let same : tree.Do line x (tree_of function p) (tree_of function q) (step_tree function s) b
+      let same : tree.Do line x (tree_of function p) (tree_of function q) (step_tree90 function s) b
       ≡ tree.Do line x d e f b = cc in
-      made os (at line None (forms.Do x p q s) ∷ ps) (tree.statement (tree.Do line x d e f b) behind) es r
-      (subst (λ v. IsRestOf os (at line None (forms.Do x p q s) ∷ ps) (tree.statement v behind) es) same
+      made os (placed_form line None (forms.Do x p q s) ∷ ps) (tree.statement (tree.Do line x d e f b) behind) es r
+      (subst (λ v. IsRestOf os (placed_form line None (forms.Do x p q s) ∷ ps) (tree.statement v behind) es) same
       (with_do function is_target os ps b behind es line x p q s h))
       (told behind es refl)
   do_rest os ps b [] line x p q s d e f r i j k h told = absurd h
@@ -262,12 +262,12 @@ module _ (function : List ℕ → Option Intrinsic) (is_target : ℕ → Bool) w
   -- ---- the same of the statement at its place
 
   -- a statement of this form at this line
-  as_is : (os : List Opened) (p : Placed) (ps : List Placed) (r : Result Rest Memory) (line : ℕ) (f : Form)
-      → line ≡ p.line → p ≡ at p.line None f
-      → Made r os (at line None f ∷ ps) → Made r os (p ∷ ps)
-  as_is os p ps r line f l e h = subst (λ (x : Placed). Made r os (x ∷ ps)) (ap (λ n. at n None f) l ∙ sym e) h
+  as_is : (os : List Opened) (p : Placed) (ps : List Placed) (r : Result Rest Memory) (line : ℕ) (f : Form90)
+      → line ≡ p.line → p ≡ placed_form p.line None f
+      → Made r os (placed_form line None f ∷ ps) → Made r os (p ∷ ps)
+  as_is os p ps r line f l e h = subst (λ (x : Placed). Made r os (x ∷ ps)) (ap (λ n. placed_form n None f) l ∙ sym e) h
 
-  form_is : (p : Placed) (f : Form) → p ≡ at p.line None f → p.form ≡ f
+  form_is : (p : Placed) (f : Form90) → p ≡ placed_form p.line None f → p.form ≡ f
   form_is p f e = ap (λ (x : Placed). x.form) e
 
   pub if_step : (os : List Opened) (p : Placed) (ps : List Placed) (self : Rest) (r : Result Rest Memory) (line : ℕ)

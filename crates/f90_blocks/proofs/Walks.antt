@@ -6,12 +6,12 @@ use Rattle.tree.specs.Plain as tree
 use Rattle.tree.specs.declared.functions.Intrinsic.{Intrinsic}
 use Rattle.f90_laws.specs.blocks.Blocks.{name_target}
 use Rattle.f90_grammar.specs.Forms as forms
-use Rattle.f90_grammar.specs.Forms.{Form}
-use Rattle.f90_grammar.specs.Blocks.{Placed, IsSimple, AreBlock}
+use Rattle.f90_grammar.specs.Forms.{Form90}
+use Rattle.f90_grammar.specs.Blocks.{Placed, IsSimple, AreBlock90}
 use Rattle.f90_grammar.specs.Blocks.IsSimple.{assigns, masks, goes, stops, reads, reads_nothing, prints, prints_nothing}
 use Rattle.f90_grammar.specs.Blocks.IsSimple.{allocates, deallocates}
-use Rattle.f90_grammar.specs.Blocks.AreBlock.{nothing}
-use Rattle.f90_grammar.specs.Order.{Opened, Place, IsInOrder, is_executable, opened_by, opened_behind}
+use Rattle.f90_grammar.specs.Blocks.AreBlock90.{nothing}
+use Rattle.f90_grammar.specs.Order.{Opened, Place90, IsInOrder, is_executable90, opened_by, opened_behind}
 use Rattle.f90_statement.specs.Views.{AreOf}
 use Rattle.f90_blocks.specs.statement_trees.Trees.{IsTreeOf, IsTreeIn}
 use Rattle.f90_blocks.specs.declared.statement_trees.nodes.StatementTree.{StatementTree}
@@ -27,7 +27,7 @@ use Rattle.f90_blocks.proofs.Named.{targets_named}
 use Rattle.f90_blocks.proofs.Steps.{shown}
 
 abbrev executables : List Placed → List Placed
-executables ps = filter (λ (p : Placed). is_executable p.form) ps
+executables ps = filter (λ (p : Placed). is_executable90 p.form) ps
 
 -- the last of them, and those before it
 pub record Split (function : List ℕ → Option Intrinsic) (ts : List Treed) (t : Treed) (ps : List Placed) : Type 0 where
@@ -52,7 +52,7 @@ none_are function [] a = refl
 none_are function (p ∷ ps) a = absurd a
 
 simple_runs : (function : List ℕ → Option Intrinsic) (p : Placed) (c : tree.Statement)
-    → IsSimple function (λ n. false) p c → is_executable p.form ≡ true
+    → IsSimple function (λ n. false) p c → is_executable90 p.form ≡ true
 simple_runs function p c (assigns line m l r) = refl
 simple_runs function p c (masks line m q l r) = refl
 simple_runs function p c (goes line digits) = refl
@@ -65,19 +65,19 @@ simple_runs function p c (allocates line x es) = refl
 simple_runs function p c (deallocates line x) = refl
 
 runs : (function : List ℕ → Option Intrinsic) (p : Placed) (t : StatementTree) → IsTreeOf function p t
-    → is_executable p.form ≡ true
+    → is_executable90 p.form ≡ true
 runs function p (Simple s) h = simple_runs function p _ h
-runs function p (Test e s) h = ap is_executable h.2
-runs function p (If e) h = ap (λ (x : Placed). is_executable x.form) h.1
-runs function p (ElseIf e) h = ap (λ (x : Placed). is_executable x.form) h.1
-runs function p Else h = ap (λ (x : Placed). is_executable x.form) h
-runs function p EndIf h = ap (λ (x : Placed). is_executable x.form) h
-runs function p (Do x a b c) h = ap (λ (x : Placed). is_executable x.form) h.3
-runs function p EndDo h = ap (λ (x : Placed). is_executable x.form) h
-runs function p (Continue None) h = ap (λ (x : Placed). is_executable x.form) h
-runs function p (Continue (Some n)) h = ap (λ (x : Placed). is_executable x.form) h.2
+runs function p (Test e s) h = ap is_executable90 h.2
+runs function p (If e) h = ap (λ (x : Placed). is_executable90 x.form) h.1
+runs function p (ElseIf e) h = ap (λ (x : Placed). is_executable90 x.form) h.1
+runs function p Else h = ap (λ (x : Placed). is_executable90 x.form) h
+runs function p EndIf h = ap (λ (x : Placed). is_executable90 x.form) h
+runs function p (Do x a b c) h = ap (λ (x : Placed). is_executable90 x.form) h.3
+runs function p EndDo h = ap (λ (x : Placed). is_executable90 x.form) h
+runs function p (Continue None) h = ap (λ (x : Placed). is_executable90 x.form) h
+runs function p (Continue (Some n)) h = ap (λ (x : Placed). is_executable90 x.form) h.2
 
-idle_opens : (f : Form) (os : List Opened) → is_executable f ≡ false → opened_by f os ≡ os
+idle_opens : (f : Form90) (os : List Opened) → is_executable90 f ≡ false → opened_by f os ≡ os
 idle_opens (forms.Program x) os e = refl
 idle_opens forms.ImplicitNone os e = refl
 idle_opens (forms.Declare k a es) os e = refl
@@ -157,7 +157,7 @@ walks_on all us ts t r s line tree has e on_line some targets begun walks functi
     let w = comes function ps us ts t r e (walks function ps are order marks z) in
     let is : IsTreeOf function w.here tree = subst (λ o. IsTreeIn function o w.here) some w.is.is in
     let os = opened_behind [] w.front in
-    let here : Place = record { before = w.front; here = w.here; after = w.behind } in
+    let here : Place90 = record { before = w.front; here = w.here; after = w.behind } in
     let next : IsNext function os line tree w.here = record {
       on_line = sym on_line ∙ w.is.line;
       is = is;
@@ -179,7 +179,7 @@ pub walks_past : (all us ts : List Treed) (t : Treed) (r : Rest) → us ≡ ts +
     → Walks all ts r
 walks_past all us ts t r e no_tree walks function ps are order marks z =
     let w = comes function ps us ts t r e (walks function ps are order marks z) in
-    let idle : is_executable w.here.form ≡ false = subst (λ o. IsTreeIn function o w.here) no_tree w.is.is in
+    let idle : is_executable90 w.here.form ≡ false = subst (λ o. IsTreeIn function o w.here) no_tree w.is.is in
     let os = opened_behind [] w.front in
     record {
       front = w.front;
@@ -195,7 +195,7 @@ walks_past all us ts t r e no_tree walks function ps are order marks z =
 
 outermost : (function : List ℕ → Option Intrinsic) (is_target : ℕ → Bool) (ps : List Placed) (b : tree.Block)
     (es : List Ended) → IsRest function is_target [] ps b es
-    → AreBlock function is_target ps b
+    → AreBlock90 function is_target ps b
 outermost function is_target ps b [] h = h
 outermost function is_target ps b (e ∷ es) h = absurd h
 
@@ -203,12 +203,12 @@ pub walks_end : (all ts : List Treed) (r : Rest) (b : tree.Block) → ts ≡ [] 
     → Walks all ts r
     → (function : List ℕ → Option Intrinsic) (ps : List Placed) → AreOf (IsTreedOf function) all ps → IsInOrder ps
     → MarksAreTaken ps → name_target ps 0 ≡ false
-    → AreBlock function (name_target ps) (executables ps) b
+    → AreBlock90 function (name_target ps) (executables ps) b
 walks_end all ts r b e g walks function ps are order marks z =
     let w = walks function ps are order marks z in
     let none : w.front ≡ [] = none_are function w.front (subst (λ us. AreOf (IsTreedOf function) us w.front) e w.are) in
     let all_behind : w.behind ≡ ps = sym (w.same ∙ ap (λ qs. qs ++ w.behind) none) in
     let stands = subst (λ qs. Stands function (name_target ps) [] (executables qs) r) all_behind
     (subst (λ qs. Stands function (name_target ps) (opened_behind [] qs) (executables w.behind) r) none w.stands) in
-    subst (λ c. AreBlock function (name_target ps) (executables ps) c) (sym g)
+    subst (λ c. AreBlock90 function (name_target ps) (executables ps) c) (sym g)
     (outermost function (name_target ps) (executables ps) (block_seen r.stmts.items) (opens_seen r.opened.items) stands)

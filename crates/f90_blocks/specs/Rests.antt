@@ -7,7 +7,7 @@ use Rattle.tree.specs.View.{statement_of, tested_of, block_of, arms}
 use Rattle.tree.specs.declared.functions.Intrinsic.{Intrinsic}
 use Rattle.tree.specs.declared.stmts.Stmt.{Stmt}
 use Rattle.f90_grammar.specs.Forms as forms
-use Rattle.f90_grammar.specs.Blocks.{Placed, at, AreBlock, AreArms}
+use Rattle.f90_grammar.specs.Blocks.{Placed, placed_form, AreBlock90, AreArms90}
 use Rattle.f90_grammar.specs.Order.{Opened, InIf, InElse, InDo, closes_wrongly}
 use Rattle.f90_grammar.specs.Reading.{takes_mark}
 use Rattle.f90_blocks.specs.statement_trees.Trees.{IsTreeOf}
@@ -63,21 +63,21 @@ module _ (function : List ℕ → Option Intrinsic) (is_target : ℕ → Bool) w
     pub arms : List Placed
     pub behind : List Placed
     pub same : ps ≡ inside ++ (arms ++ behind)
-    pub block : AreBlock function is_target inside b
-    pub are_arms : AreArms function is_target arms later other
+    pub block : AreBlock90 function is_target inside b
+    pub are_arms : AreArms90 function is_target arms later other
     pub round : Round behind
 
-  pub record IsInside (end : forms.Form) (Round : List Placed → Type 0) (ps : List Placed) (b : Block) : Type 0 where
+  pub record IsInside (end : forms.Form90) (Round : List Placed → Type 0) (ps : List Placed) (b : Block) : Type 0 where
     pub inside : List Placed
     pub line : ℕ
     pub behind : List Placed
-    pub same : ps ≡ inside ++ (at line None end ∷ behind)
-    pub block : AreBlock function is_target inside b
+    pub same : ps ≡ inside ++ (placed_form line None end ∷ behind)
+    pub block : AreBlock90 function is_target inside b
     pub round : Round behind
 
   -- Behind a place in these open blocks stand the rest of a block and the rests of the blocks round it
   abbrev pub IsRest : List Opened → List Placed → Block → List Ended → Type 0
-  IsRest [] ps b [] = AreBlock function is_target ps b
+  IsRest [] ps b [] = AreBlock90 function is_target ps b
   IsRest (InIf ∷ os) ps b (EndedIf later other behind ∷ es) = IsInIf (λ qs. IsRest os qs behind es) ps b later other
   IsRest (InElse ∷ os) ps b (EndedIf later other behind ∷ es) =
       (later ≡ tree.no_arms) × (other ≡ tree.no_statements)

@@ -2,7 +2,7 @@
 use Rattle.std.specs.Prelude.{◌≡◌, ℕ, false, Option, None, List}
 use Rattle.tree.specs.declared.functions.Intrinsic.{Intrinsic}
 use Rattle.f90_grammar.specs.Blocks.{Placed}
-use Rattle.f90_grammar.specs.Order.{Place, IsPlaceIn}
+use Rattle.f90_grammar.specs.Order.{Place90, IsPlaceIn}
 use Rattle.f90_grammar.specs.Reading.{takes_mark}
 use Rattle.f90_blocks.specs.statement_trees.Trees.{IsTreeIn}
 use Rattle.f90_blocks.specs.declared.nodes.Treed.{Treed}
@@ -14,4 +14,4 @@ pub record IsTreedOf (function : List ℕ → Option Intrinsic) (t : Treed) (p :
 
 -- no statement has a mark but those that take one
 abbrev pub MarksAreTaken : List Placed → Type 0
-MarksAreTaken ps = (p : Place) → IsPlaceIn ps p → takes_mark p.here.form ≡ false → p.here.mark ≡ None
+MarksAreTaken ps = (p : Place90) → IsPlaceIn ps p → takes_mark p.here.form ≡ false → p.here.mark ≡ None

@@ -7,8 +7,8 @@ ghost use Rattle.tree.specs.Plain as plain;
 ghost use Rattle.tree.specs.View.{expression_of, statement_of, block_of};
 ghost use Rattle.tree.specs.declared.functions.Intrinsic.{Intrinsic};
 ghost use Rattle.f90_laws.specs.blocks.Blocks.{name_target};
-ghost use Rattle.f90_grammar.specs.Blocks.{Placed, AreBlock};
-ghost use Rattle.f90_grammar.specs.Order.{IsInOrder, Opened, is_executable, opened_by};
+ghost use Rattle.f90_grammar.specs.Blocks.{Placed, AreBlock90};
+ghost use Rattle.f90_grammar.specs.Order.{IsInOrder, Opened, is_executable90, opened_by};
 ghost use Rattle.f90_statement.specs.Views.{AreOf};
 ghost use Rattle.f90_blocks.specs.Rests.{IsNext, Shows, Stands, block_seen, done_seen, opens_seen, with_label};
 ghost use Rattle.f90_blocks.specs.Treed.{IsTreedOf, MarksAreTaken};
@@ -118,8 +118,8 @@ impl Rest {
 pub fn block(alloc: Global, trees: Seq<Treed>) -> Result<Block, Memory>
     ensures { (function : List ℕ → Option Intrinsic) (ps : List Placed) → AreOf (IsTreedOf function) trees ps
         → IsInOrder ps → MarksAreTaken ps → name_target ps 0 ≡ false
-        → IfOk result (λ made. AreBlock function (name_target ps)
-        (filter (λ (p : Placed). is_executable p.form) ps) (block_of made)) }
+        → IfOk result (λ made. AreBlock90 function (name_target ps)
+        (filter (λ (p : Placed). is_executable90 p.form) ps) (block_of made)) }
 {
     let targets = targets(alloc, trees.as_slice())?;
     let mut rest = Rest::new(alloc);

@@ -10,8 +10,8 @@ use Rattle.std.proofs.lemmas.List.{take-append-drop, take_all}
 use Rattle.std.proofs.lemmas.Int.Digits.{digits_value_more}
 use Rattle.tree.specs.Limits.{greatest_literal}
 use Rattle.f90_grammar.specs.Phrases as phrases
-use Rattle.f90_grammar.specs.Phrases.{Phrase, Part, Value, Range, Strided, Parts, Phrases, Turn, depth}
-use Rattle.f90_grammar.specs.Contents.{is_wide, has_wide_literal, part_has_wide_literal, parts_have_wide_literal, values_have_wide_literal, turn_has_wide_literal, is_deep}
+use Rattle.f90_grammar.specs.Phrases.{Phrase90, ListPart, Value, Range, Strided, ListParts, Phrases90, Turn, phrase_depth90}
+use Rattle.f90_grammar.specs.Contents.{is_wide_literal, has_wide_literal90, part_has_wide_literal, parts_have_wide_literal, values_have_wide_literal, turn_has_wide_literal, is_deep}
 use Rattle.f90_expressions.specs.declared.nodes.Expression.{Expression}
 use Rattle.f90_expressions.specs.Flat as flats
 use Rattle.f90_expressions.specs.Flat.{Node, flat, flat_part, flat_parts, flat_values, flat_turn}
@@ -64,13 +64,13 @@ with_less digits i n l e h =
     let m : digits_value 10 (take (i + 1) digits) ≡ 10 * n + d
     = digits_value_more 10 digits i l ∙ (ap (λ (x : ℕ). x * 10 + d) (sym e) ∙ sym (ten_times n d)) in
     let w : greatest_literal < digits_value 10 digits = omega (arith, k, m, front_least digits (i + 1)) in
-    sym (cond-true (is_wide digits) None (Some (digits_value 10 digits)) (lt-ltb greatest_literal (digits_value 10 digits) w))
+    sym (cond-true (is_wide_literal digits) None (Some (digits_value 10 digits)) (lt-ltb greatest_literal (digits_value 10 digits) w))
 
 pub value_all : (digits : List ℕ) (i n : ℕ) → length digits ≤ i → n ≡ digits_value 10 (take i digits) → n < 2 ^ 127 → Some n ≡ value_in digits
 value_all digits i n l e h =
     let k : n ≡ digits_value 10 digits = e ∙ ap (digits_value 10) (take_all i digits l) in
     ap Some k
-    ∙ sym (cond-false (is_wide digits) None (Some (digits_value 10 digits)) (le-ltb greatest_literal (digits_value 10 digits) (omega (arith, k, h))))
+    ∙ sym (cond-false (is_wide_literal digits) None (Some (digits_value 10 digits)) (le-ltb greatest_literal (digits_value 10 digits) (omega (arith, k, h))))
 
 pub ruleset values = (with_more, with_less, value_all)
 
@@ -94,8 +94,8 @@ any_end xs n h =
     any_both xs (n ∷ []) ∙ (ap (λ (b : Bool). list_any is_wide_node xs || (b || false)) h ∙ or_none (list_any is_wide_node xs))
 
 mutual
-  pub wide : (p : Phrase) → list_any is_wide_node (flat p) ≡ has_wide_literal p
-  wide (phrases.Literal t) = or_none (is_wide t)
+  pub wide : (p : Phrase90) → list_any is_wide_node (flat p) ≡ has_wide_literal90 p
+  wide (phrases.Literal t) = or_none (is_wide_literal t)
   wide (phrases.Truth b) = refl
   wide (phrases.Name x) = refl
   wide (phrases.Listed x ps) = any_end (flat_parts ps) (flats.Listed x) refl ∙ wide_parts ps
@@ -106,7 +106,7 @@ mutual
   wide (phrases.Values ps) = any_end (flat_values ps) flats.Values refl ∙ wide_values ps
   wide (phrases.Looped t) = any_end (flat_turn t) flats.Looped refl ∙ wide_turn t
 
-  wide_part : (p : Part) → list_any is_wide_node (flat_part p) ≡ part_has_wide_literal p
+  wide_part : (p : ListPart) → list_any is_wide_node (flat_part p) ≡ part_has_wide_literal p
   wide_part (Value p) = any_end (flat p) flats.One refl ∙ wide p
   wide_part (Range a b) =
       any_both (flat a) (flat b ++ flats.Bounds ∷ []) ∙ ap₂ (λ (x y : Bool). x || y) (wide a) (any_end (flat b) flats.Bounds refl ∙ wide b)
@@ -115,11 +115,11 @@ mutual
       ∙ ap₂ (λ (x y : Bool). x || y) (wide a)
       (any_both (flat b) (flat c ++ flats.Stride ∷ []) ∙ ap₂ (λ (x y : Bool). x || y) (wide b) (any_end (flat c) flats.Stride refl ∙ wide c))
 
-  wide_parts : (ps : Parts) → list_any is_wide_node (flat_parts ps) ≡ parts_have_wide_literal ps
+  wide_parts : (ps : ListParts) → list_any is_wide_node (flat_parts ps) ≡ parts_have_wide_literal ps
   wide_parts (phrases.One p) = wide_part p
   wide_parts (phrases.Then ps p) = any_both (flat_parts ps) (flat_part p) ∙ ap₂ (λ (x y : Bool). x || y) (wide_parts ps) (wide_part p)
 
-  wide_values : (ps : Phrases) → list_any is_wide_node (flat_values ps) ≡ values_have_wide_literal ps
+  wide_values : (ps : Phrases90) → list_any is_wide_node (flat_values ps) ≡ values_have_wide_literal ps
   wide_values (phrases.Sole p) = wide p
   wide_values (phrases.More ps p) = any_both (flat_values ps) (flat p) ∙ ap₂ (λ (x y : Bool). x || y) (wide_values ps) (wide p)
 
@@ -133,11 +133,11 @@ mutual
       ∙ ap₂ (λ (x y : Bool). x || y) (wide_turn t)
       (any_both (flat a) (flat b ++ flats.Outer x ∷ []) ∙ ap₂ (λ (x y : Bool). x || y) (wide a) (any_end (flat b) (flats.Outer x) refl ∙ wide b))
 
-pub has_wide_is : (b : Bool) (e : Expression) (p : Phrase) → b ≡ list_any is_wide_node (nodes_seen e.nodes) → IsMadeOf e p → b ≡ has_wide_literal p
+pub has_wide_is : (b : Bool) (e : Expression) (p : Phrase90) → b ≡ list_any is_wide_node (nodes_seen e.nodes) → IsMadeOf e p → b ≡ has_wide_literal90 p
 has_wide_is b e p h m = h ∙ (ap (list_any is_wide_node) m.nodes ∙ wide p)
 
-pub deep_is : (e : Expression) (p : Phrase) → IsMadeOf e p → nat_lt 1000 e.depth ≡ is_deep p
-deep_is e p m = ap (nat_lt 1000) m.depth ∙ by (depth p)
+pub deep_is : (e : Expression) (p : Phrase90) → IsMadeOf e p → nat_lt 1000 e.depth ≡ is_deep p
+deep_is e p m = ap (nat_lt 1000) m.depth ∙ by (phrase_depth90 p)
   where
     by : (n : ℕ) → nat_lt 1000 (counted n) ≡ nat_lt 1000 n
     by n =

@@ -5,13 +5,12 @@ use Rattle.std.specs.Prelude.{Option, Some, None, if◌then◌else◌}
 use Rattle.tree.specs.declared.ops.Op.{Op}
 use Rattle.tree.specs.OperatorTable.{Sign, Plus, level_of, left_least, right_least, stands_between}
 use Rattle.tree.specs.OperatorTable.{sign_level, is_relation, may_follow}
-use Rattle.reading.specs.Signs.{sign_leads, sign_of}
-use Rattle.f90_grammar.specs.Phrases.{Phrase, level, depth, begins_with_sign, sign_word}
+use Rattle.reading.specs.Signs.{sign_leads, sign_of, sign_word}
+use Rattle.f90_grammar.specs.Phrases.{Phrase90, phrase_level90, phrase_depth90, begins_with_sign90}
 use Rattle.f90_grammar.specs.Words as words
-use Rattle.f90_grammar.specs.Words.{Word}
+use Rattle.f90_grammar.specs.Words.{Word90}
 use Rattle.f90_expressions.specs.Flat.{Node, Digits, Truth, Name, Parenthesis, Prefix, Infix, One, Bounds, Stride}
-use Rattle.f90_expressions.specs.Flat.{Begin}
-use Rattle.f90_expressions.specs.Flat.{Listed, Values, Inner, Outer, Looped, placed}
+use Rattle.f90_expressions.specs.Flat.{Begin, Listed, Values, Inner, Outer, Looped, placed}
 
 -- ---- what is known of an operand. A depth is counted up to the first that is too deep
 
@@ -30,8 +29,8 @@ counted n = min n 1001
 abbrev pub deeper : ℕ → ℕ
 deeper n = counted (n + 1)
 
-abbrev pub info_of : Phrase → Info
-info_of p = info (level p) (counted (depth p)) (begins_with_sign p) (placed p)
+abbrev pub info_of : Phrase90 → Info
+info_of p = info (phrase_level90 p) (counted (phrase_depth90 p)) (begins_with_sign90 p) (placed p)
 
 abbrev pub sign_deeper : Sign → ℕ → ℕ
 sign_deeper Plus n = n
@@ -122,7 +121,7 @@ abbrev pub operand : List Frame → List Node → Node → Step
 operand fs ns n = Go (Has fs primary) (ns ++ n ∷ [])
 
 -- a word where an operand is due
-abbrev pub begin : List Frame → Word → List Node → Step
+abbrev pub begin : List Frame → Word90 → List Node → Step
 begin fs (words.Digits t) ns = operand fs ns (Digits t)
 begin fs (words.Truth b) ns = operand fs ns (Truth b)
 begin fs (words.Name x) ns = operand fs ns (Name x)
@@ -187,7 +186,7 @@ shut_list [] m ns = Stop m ns
 shut_list fs m ns = Fail
 
 -- a word behind an operand
-abbrev pub go_on : List Frame → Info → Word → List Node → Step
+abbrev pub go_on : List Frame → Info → Word90 → List Node → Step
 go_on fs m (words.Operator o) ns =
     if stands_between o then join o (close (level_of o) fs m ns) else halted (close 0 fs m ns)
 go_on fs m words.Close ns = let h = close 0 fs m ns in shut h.frames h.info h.nodes
@@ -205,20 +204,20 @@ abbrev pub end_looped : List Frame → ℕ → Bool → List Node → Step
 end_looped (Items false e h ∷ fs) d g ns = Go (Has fs (enclosed d g)) (ns ++ Looped ∷ [])
 end_looped fs d g ns = Fail
 
-abbrev pub after_turn : List Frame → ℕ → Bool → Word → List Node → Step
+abbrev pub after_turn : List Frame → ℕ → Bool → Word90 → List Node → Step
 after_turn fs d g words.Comma ns = loop_round fs d g ns
 after_turn fs d g words.CloseList ns = end_looped fs d g ns
 after_turn fs d g w ns = Fail
 
-abbrev pub take_name : List Frame → Bool → ℕ → Bool → Word → List Node → Step
+abbrev pub take_name : List Frame → Bool → ℕ → Bool → Word90 → List Node → Step
 take_name fs k d g (words.Name x) ns = Go (WantsEquals fs k x d g) ns
 take_name fs k d g w ns = Fail
 
-abbrev pub take_equals : List Frame → Bool → List ℕ → ℕ → Bool → Word → List Node → Step
+abbrev pub take_equals : List Frame → Bool → List ℕ → ℕ → Bool → Word90 → List Node → Step
 take_equals fs k x d g words.Equals ns = Go (Wants (First k x d g ∷ fs)) ns
 take_equals fs k x d g w ns = Fail
 
-abbrev pub step : State → Word → List Node → Step
+abbrev pub step : State → Word90 → List Node → Step
 step (Wants fs) w ns = begin fs w ns
 step (Has fs m) w ns = go_on fs m w ns
 step (HasTurn fs d g) w ns = after_turn fs d g w ns
@@ -230,12 +229,12 @@ step (WantsEquals fs k x d g) w ns = take_equals fs k x d g w ns
 pub record Read : Type 0 where
   pub info : Info
   pub nodes : List Node
-  pub rest : List Word
+  pub rest : List Word90
 
-abbrev pub answer : Info → List Node → List Word → Option Read
+abbrev pub answer : Info → List Node → List Word90 → Option Read
 answer m ns ws = Some (record { info = m; nodes = ns; rest = ws })
 
-abbrev pub stopped : Step → List Word → Option Read
+abbrev pub stopped : Step → List Word90 → Option Read
 stopped (Stop m ns) ws = answer m ns ws
 stopped s ws = None
 
@@ -243,12 +242,12 @@ abbrev pub ended : State → List Node → Option Read
 ended (Has fs m) ns = stopped (halted (close 0 fs m ns)) []
 ended s ns = None
 
-abbrev pub went : Step → Word → List Word → (State → List Node → Option Read) → Option Read
+abbrev pub went : Step → Word90 → List Word90 → (State → List Node → Option Read) → Option Read
 went (Go s ns) w ws on = on s ns
 went (Stop m ns) w ws on = answer m ns (w ∷ ws)
 went Fail w ws on = None
 
-abbrev pub run : List Word → State → List Node → Option Read
+abbrev pub run : List Word90 → State → List Node → Option Read
 run [] s ns = ended s ns
 run (w ∷ ws) s ns = went (step s w ns) w ws (run ws)
 
@@ -257,5 +256,5 @@ abbrev pub if_placed : Option Read → Option Read
 if_placed (Some r) = if r.info.placed then Some r else None
 if_placed None = None
 
-abbrev pub read : List Word → Option Read
+abbrev pub read : List Word90 → Option Read
 read ws = if_placed (run ws (Wants []) [])

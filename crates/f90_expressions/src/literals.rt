@@ -2,8 +2,8 @@
 ghost use Rattle.std.specs.Prelude.{◌≡◌, ◌+◌, ◌*◌};
 ghost use Rattle.std.specs.List.{list_any};
 ghost use Rattle.std.specs.Char.{digit_value};
-ghost use Rattle.f90_grammar.specs.Contents.{has_wide_literal, is_deep};
-ghost use Rattle.f90_grammar.specs.Phrases.{Phrase};
+ghost use Rattle.f90_grammar.specs.Contents.{has_wide_literal90, is_deep};
+ghost use Rattle.f90_grammar.specs.Phrases.{Phrase90};
 ghost use Rattle.f90_expressions.specs.Literals.{is_wide_node, narrow, value_in};
 ghost use Rattle.f90_expressions.specs.Reading.{IsMadeOf};
 ghost use Rattle.f90_expressions.specs.Views.{node_seen, nodes_seen};
@@ -86,7 +86,7 @@ impl Expression {
     /// Whether one of its literals is above 2^127-1.
     #[tactic(auto, using(crate::proofs::LiteralLaws::has_wide_is))]
     pub fn has_wide_literal(&self) -> bool
-        ensures { (p : Phrase) → IsMadeOf self.now p → result ≡ has_wide_literal p }
+        ensures { (p : Phrase90) → IsMadeOf self.now p → result ≡ has_wide_literal90 p }
     {
         has_wide(self.nodes.as_slice())
     }
@@ -94,7 +94,7 @@ impl Expression {
     /// Whether it is more than 1,000 deep.
     #[tactic(auto, using(crate::proofs::LiteralLaws::deep_is))]
     pub fn is_deep(&self) -> bool
-        ensures { (p : Phrase) → IsMadeOf self.now p → result ≡ is_deep p }
+        ensures { (p : Phrase90) → IsMadeOf self.now p → result ≡ is_deep p }
     {
         self.depth > EXPRESSION_DEPTH_90
     }

@@ -5,9 +5,8 @@ ghost use Rattle.f90_grammar.specs.Words as words;
 ghost use Rattle.f90_expressions.specs.words.Tokens.{word_of, words_of};
 ghost use Rattle.f90_expressions.specs.Machine as machine;
 ghost use Rattle.f90_expressions.specs.Views.{info_seen, frame_seen, node_seen, nodes_seen, stack, state_in, Goes};
-ghost use Rattle.f90_expressions.specs.Views.{Opens};
-ghost use Rattle.f90_expressions.specs.Views.{Turns, Halts, Finishes, Reads, Continues};
-ghost use Rattle.f90_grammar.specs.Phrases.{Phrase, IsExpression, written};
+ghost use Rattle.f90_expressions.specs.Views.{Opens, Turns, Halts, Finishes, Reads, Continues};
+ghost use Rattle.f90_grammar.specs.Phrases.{Phrase90, IsExpression90, written90};
 ghost use Rattle.f90_laws.specs.unique.Unique.{EndsExpression};
 ghost use Rattle.f90_expressions.specs.Reading.{Begins, Gives};
 ghost use Rattle.reading.specs.Signs.{sign_of};
@@ -615,8 +614,8 @@ pub fn read(alloc: Global, tokens: &[Token]) -> Result<(Expression, &[Token]), S
     // What is read is an expression.
     ensures found { IfOk result (λ r. Begins (words_of tokens.now) r.0 (words_of r.1.now)) }
     // An expression is read, in one way alone.
-    ensures only { (p : Phrase) (rest : List words.Word) → IsExpression p → EndsExpression rest
-        → words_of tokens.now ≡ written p ++ rest → Gives result p rest }
+    ensures only { (p : Phrase90) (rest : List words.Word90) → IsExpression90 p → EndsExpression rest
+        → words_of tokens.now ≡ written90 p ++ rest → Gives result p rest }
 {
     let mut nodes = Vec::new(alloc);
     let (operand, rest) = run(alloc, tokens, &mut nodes)?;

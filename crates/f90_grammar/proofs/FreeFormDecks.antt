@@ -1,27 +1,27 @@
 -- Lines in free form, and the statements that they are.
 use Rattle.std.proofs.Common.{refl, ℕ, true, false, List, [], ◌∷◌, codes}
 use Prim.Native.String.{String}
-use Rattle.f90_grammar.specs.FreeForm.{Piece, IsPiece, Block, FreeStatement, AreStatements}
+use Rattle.f90_grammar.specs.FreeForm.{LinePiece, IsPiece, CommentedPiece, FreeStatement, AreStatements}
 use Rattle.f90_grammar.specs.FreeForm.AreStatements.{ends, begins}
 use Rattle.f90_grammar.specs.FreeForm.AreMarks.{none}
 
-abbrev alone : String → Piece
+abbrev alone : String → LinePiece
 alone t = record { before = []; is_pulled = false; chars = codes t; is_continued = false; is_single = false; behind = []; comment = [] }
 
 -- A = &
 --   &B
-abbrev first : Piece
+abbrev first : LinePiece
 first = record { before = []; is_pulled = false; chars = codes "A = "; is_continued = true; is_single = false; behind = []; comment = [] }
 
-abbrev second : Piece
+abbrev second : LinePiece
 second = record { before = codes "  "; is_pulled = true; chars = codes "B"; is_continued = false; is_single = false; behind = []; comment = [] }
 
 -- PRINT *, 'X! &
 -- &Y' ! end
-abbrev third : Piece
+abbrev third : LinePiece
 third = record { before = []; is_pulled = false; chars = codes "PRINT *, 'X! "; is_continued = true; is_single = false; behind = codes " "; comment = [] }
 
-abbrev fourth : Piece
+abbrev fourth : LinePiece
 fourth = record { before = []; is_pulled = true; chars = codes "Y' "; is_continued = false; is_single = false; behind = []; comment = codes "! end" }
 
 is_first : IsPiece false first
@@ -36,7 +36,7 @@ is_third = record { blanks = refl; comment = refl; in_constant = refl; leading =
 is_fourth : IsPiece true fourth
 is_fourth = record { blanks = refl; comment = refl; in_constant = refl; leading = refl; final = refl; single = refl; is_line = refl }
 
-abbrev plain : Piece → Block
+abbrev plain : LinePiece → CommentedPiece
 plain p = record { comments = []; piece = p }
 
 abbrev statement : ℕ → List ℕ → FreeStatement
@@ -51,16 +51,16 @@ two_statements =
 -- A = B &
 -- &
 -- & + C
-abbrev lone : Piece
+abbrev lone : LinePiece
 lone = record { before = []; is_pulled = true; chars = []; is_continued = true; is_single = true; behind = []; comment = [] }
 
 is_lone : IsPiece false lone
 is_lone = record { blanks = refl; comment = refl; in_constant = refl; leading = refl; final = refl; single = refl; is_line = refl }
 
-abbrev sum_first : Piece
+abbrev sum_first : LinePiece
 sum_first = record { before = []; is_pulled = false; chars = codes "A = B "; is_continued = true; is_single = false; behind = []; comment = [] }
 
-abbrev sum_last : Piece
+abbrev sum_last : LinePiece
 sum_last = record { before = []; is_pulled = true; chars = codes " + C"; is_continued = false; is_single = false; behind = []; comment = [] }
 
 lone_ampersand : AreStatements 1 (codes "A = B &" ∷ codes "&" ∷ codes "& + C" ∷ []) (statement 1 (codes "A = B  + C") ∷ [])

@@ -11,9 +11,10 @@ use Rattle.tree.specs.declared.ops.Op.TheVariants.{Neg, Not}
 use Rattle.tree.specs.Plain as tree
 use Rattle.tree.specs.Plain.{Expression, Expressions, Subscript, Subscripts, Loops}
 use Rattle.tree.specs.OperatorTable.{left_least, right_least}
-use Rattle.f90_grammar.specs.Phrases.{Phrase, Literal, Paren, Value, Parts, One, Then, Phrases, Sole, More, Turn, Innermost, Round, level, called, argument_of, arguments_of, tree_of, tree_of_part, trees_of_parts, trees_of_values, looped}
+use Rattle.f90_grammar.specs.Phrases.{Phrase90, Literal, Paren, Value, ListParts, One, Then, Phrases90, Sole, More, Turn, Innermost, Round, phrase_level90, called, arguments90_of, tree_of, tree_of_part, trees_of_parts, trees_of_values, looped}
+use Rattle.reading.specs.Signs.{argument_of}
 use Rattle.tree.specs.Functions.{name_of_function, name_of_reduction}
-use Rattle.f90_grammar.specs.Printing.{fit, unary_phrase, digits_of, is_one, section, phrase_of, part_of, more_parts}
+use Rattle.f90_grammar.specs.Printing.{fit, unary_phrase, digits_of, is_one, section_part, phrase_of, list_part_of, more_parts}
 use Rattle.f90_grammar.specs.Printing.{more_arguments, more_values, rounds}
 use Rattle.f90_grammar.specs.Sources.{IsLiteral, is_negating, IsSource, EachIsSource, IsSourceSubscript, AreSource}
 use Rattle.f90_grammar.specs.Sources.{LoopsAreSource}
@@ -37,7 +38,7 @@ expressions-list : (es : Expressions) → tree.expressions (expression_list es) 
 expressions-list tree.no_expressions = refl
 expressions-list (tree.expression e es) = ap (tree.expression e) (expressions-list es)
 
-arguments-append : (xs ys : List Subscript) → arguments_of (xs ++ ys) ≡ arguments_of xs ++ arguments_of ys
+arguments-append : (xs ys : List Subscript) → arguments90_of (xs ++ ys) ≡ arguments90_of xs ++ arguments90_of ys
 arguments-append [] ys = refl
 arguments-append (x ∷ xs) ys = ap (λ zs. argument_of x ∷ zs) (arguments-append xs ys)
 
@@ -58,10 +59,10 @@ one-is (tree.Reshape a es) e = cc
 one-is (tree.Reduce r a) e = cc
 
 module _ (function : List ℕ → Option Intrinsic) where
-  fit_tree : (n : ℕ) (p : Phrase) → tree_of function (fit n p) ≡ tree_of function p
-  fit_tree n p = cond_both (nat_le n (level p)) p (Paren p) (λ q. tree_of function q ≡ tree_of function p) (λ e. refl) (λ e. refl)
+  fit_tree : (n : ℕ) (p : Phrase90) → tree_of function (fit n p) ≡ tree_of function p
+  fit_tree n p = cond_both (nat_le n (phrase_level90 p)) p (Paren p) (λ q. tree_of function q ≡ tree_of function p) (λ e. refl) (λ e. refl)
 
-  unary_tree : (o : Op) (p : Phrase) → IsTrue (is_negating o) → tree_of function (unary_phrase o p) ≡ tree.Unary o (tree_of function p)
+  unary_tree : (o : Op) (p : Phrase90) → IsTrue (is_negating o) → tree_of function (unary_phrase o p) ≡ tree.Unary o (tree_of function p)
   unary_tree Neg p h = ap (tree.Unary Neg) (fit_tree 8 p)
   unary_tree Not p h = ap (tree.Unary Not) (fit_tree 6 p)
   unary_tree o p h = cc
@@ -70,8 +71,8 @@ module _ (function : List ℕ → Option Intrinsic) where
   literal_tree (pos n) h = ap (λ m. tree.Number (pos m)) (read_decimal n h)
   literal_tree (negsuc n) h = absurd h
 
-  section_tree : (t : Bool) (pa pb pc : Phrase) (a b c : Expression) → (t ≡ true → tree.Number (pos 1) ≡ c)
-      → tree_of function pa ≡ a → tree_of function pb ≡ b → tree_of function pc ≡ c → tree_of_part function (section t pa pb pc) ≡ tree.Section a b c
+  section_tree : (t : Bool) (pa pb pc : Phrase90) (a b c : Expression) → (t ≡ true → tree.Number (pos 1) ≡ c)
+      → tree_of function pa ≡ a → tree_of function pb ≡ b → tree_of function pc ≡ c → tree_of_part function (section_part t pa pb pc) ≡ tree.Section a b c
   section_tree true pa pb pc a b c one ea eb ec = ap₂ (λ x y. tree.Section x y (tree.Number (pos 1))) ea eb ∙ ap (tree.Section a b) (one refl)
   section_tree false pa pb pc a b c one ea eb ec = ap₂ (λ x y. tree.Section x y (tree_of function pc)) ea eb ∙ ap (tree.Section a b) ec
 
@@ -81,8 +82,8 @@ module _ (function : List ℕ → Option Intrinsic) where
     back (tree.Logic b) h = refl
     back (tree.Named x tree.no_subscripts) h = refl
     back (tree.Named x (tree.subscript s ss)) h =
-        ap (λ f. called f x (trees_of_parts function (more_parts (One (part_of s)) ss))) h.0
-        ∙ ap (λ xs. tree.Named x (tree.subscripts xs)) (parts_back (One (part_of s)) ss h.1.1 ∙ ap (λ t. t ∷ [] ++ subscript_list ss) (part_back s h.1.0))
+        ap (λ f. called f x (trees_of_parts function (more_parts (One (list_part_of s)) ss))) h.0
+        ∙ ap (λ xs. tree.Named x (tree.subscripts xs)) (parts_back (One (list_part_of s)) ss h.1.1 ∙ ap (λ t. t ∷ [] ++ subscript_list ss) (part_back s h.1.0))
         ∙ ap (λ ts. tree.Named x (tree.subscript s ts)) (subscripts-list ss)
     back (tree.Unary o a) h = unary_tree o (phrase_of a) h.0 ∙ ap (tree.Unary o) (back a h.1)
     back (tree.Binary o a b) h =
@@ -112,24 +113,24 @@ module _ (function : List ℕ → Option Intrinsic) where
         ∙ ap (λ ts. tree.Reshape a (tree.expression e ts)) (expressions-list es))
     back (tree.Reduce r a) h = ap (λ g. called g (name_of_reduction r) (tree.Only (tree_of function (phrase_of a)) ∷ [])) h.0 ∙ ap (tree.Reduce r) (back a h.1)
 
-    part_back : (s : Subscript) → IsSourceSubscript function s → tree_of_part function (part_of s) ≡ s
+    part_back : (s : Subscript) → IsSourceSubscript function s → tree_of_part function (list_part_of s) ≡ s
     part_back (tree.Only e) h = ap tree.Only (back e h)
     part_back (tree.Section a b c) h = section_tree (is_one c) (phrase_of a) (phrase_of b) (phrase_of c) a b c (one-is c) (back a h.0) (back b h.1) (back c h.2)
 
-    parts_back : (ps : Parts) (ss : Subscripts) → AreSource function ss → trees_of_parts function (more_parts ps ss) ≡ trees_of_parts function ps ++ subscript_list ss
+    parts_back : (ps : ListParts) (ss : Subscripts) → AreSource function ss → trees_of_parts function (more_parts ps ss) ≡ trees_of_parts function ps ++ subscript_list ss
     parts_back ps tree.no_subscripts h = sym (append-nil (trees_of_parts function ps))
     parts_back ps (tree.subscript s ss) h =
-        parts_back (Then ps (part_of s)) ss h.1 ∙ (append_assoc (trees_of_parts function ps) _ (subscript_list ss) ∙ ap (λ t. trees_of_parts function ps ++ t ∷ subscript_list ss) (part_back s h.0))
+        parts_back (Then ps (list_part_of s)) ss h.1 ∙ (append_assoc (trees_of_parts function ps) _ (subscript_list ss) ∙ ap (λ t. trees_of_parts function ps ++ t ∷ subscript_list ss) (part_back s h.0))
 
-    arguments_back : (ps : Parts) (es : Expressions) → EachIsSource function es
-        → arguments_of (trees_of_parts function (more_arguments ps es)) ≡ arguments_of (trees_of_parts function ps) ++ expression_list es
-    arguments_back ps tree.no_expressions h = sym (append-nil (arguments_of (trees_of_parts function ps)))
+    arguments_back : (ps : ListParts) (es : Expressions) → EachIsSource function es
+        → arguments90_of (trees_of_parts function (more_arguments ps es)) ≡ arguments90_of (trees_of_parts function ps) ++ expression_list es
+    arguments_back ps tree.no_expressions h = sym (append-nil (arguments90_of (trees_of_parts function ps)))
     arguments_back ps (tree.expression e es) h =
         arguments_back (Then ps (Value (phrase_of e))) es h.1
         ∙ (ap (λ xs. xs ++ expression_list es) (arguments-append (trees_of_parts function ps) (tree.Only (tree_of function (phrase_of e)) ∷ []))
-        ∙ (append_assoc (arguments_of (trees_of_parts function ps)) _ (expression_list es) ∙ ap (λ t. arguments_of (trees_of_parts function ps) ++ t ∷ expression_list es) (back e h.0)))
+        ∙ (append_assoc (arguments90_of (trees_of_parts function ps)) _ (expression_list es) ∙ ap (λ t. arguments90_of (trees_of_parts function ps) ++ t ∷ expression_list es) (back e h.0)))
 
-    values_back : (ps : Phrases) (es : Expressions) → EachIsSource function es → trees_of_values function (more_values ps es) ≡ trees_of_values function ps ++ expression_list es
+    values_back : (ps : Phrases90) (es : Expressions) → EachIsSource function es → trees_of_values function (more_values ps es) ≡ trees_of_values function ps ++ expression_list es
     values_back ps tree.no_expressions h = sym (append-nil (trees_of_values function ps))
     values_back ps (tree.expression e es) h =
         values_back (More ps (phrase_of e)) es h.1 ∙ (append_assoc (trees_of_values function ps) _ (expression_list es) ∙ ap (λ t. trees_of_values function ps ++ t ∷ expression_list es) (back e h.0))

@@ -5,31 +5,31 @@ use Rattle.std.specs.List.{list_any}
 use Rattle.tree.specs.Causes.{refusal_at}
 use Rattle.tree.specs.declared.ops.Kind.TheVariants.{Integer, Logical}
 use Rattle.tree.specs.declared.refusals.Cause.TheVariants.{BadByte90, LongLine, Continuation, Declared90, TypeClash90}
-use Rattle.f90_grammar.specs.FreeForm.{Piece, IsPiece}
-use Rattle.f90_grammar.specs.LineCauses.{Between, Within, LeadTo, HasLineCause, is_bad_byte}
+use Rattle.f90_grammar.specs.FreeForm.{LinePiece, IsPiece}
+use Rattle.f90_grammar.specs.LineCauses.{Between, Within, LeadTo, HasLineCause, is_bad_byte90}
 use Rattle.f90_grammar.specs.LineCauses.LeadTo.{nothing, comment, piece}
 use Rattle.f90_grammar.specs.LineCauses.HasLineCause.{HoldsBadByte, EndsWithin}
-use Rattle.f90_grammar.specs.Phrases.{Phrase, Literal, Truth, Name, Listed, One, Value, Looped, Innermost, Round, depth}
+use Rattle.f90_grammar.specs.Phrases.{Phrase90, Literal, Truth, Name, Listed, One, Value, Looped, Innermost, Round, phrase_depth90}
 use Rattle.f90_grammar.specs.Forms as forms
-use Rattle.f90_grammar.specs.Forms.{Form}
-use Rattle.f90_grammar.specs.Blocks.{Placed, at}
-use Rattle.f90_grammar.specs.Order.{Place, is_disordered}
-use Rattle.f90_grammar.specs.Contents.{has_wide_literal}
+use Rattle.f90_grammar.specs.Forms.{Form90}
+use Rattle.f90_grammar.specs.Blocks.{Placed, placed_form}
+use Rattle.f90_grammar.specs.Order.{Place90, is_disordered}
+use Rattle.f90_grammar.specs.Contents.{has_wide_literal90}
 use Rattle.f90_grammar.specs.Declared.{declares_again}
-use Rattle.f90_grammar.specs.Surroundings.{is_wrong_label}
+use Rattle.f90_grammar.specs.Surroundings.{is_wrong_label90}
 use Rattle.f90_grammar.specs.Refusals.{HoldsAt}
 
 -- ---- lines
 
 -- A = &
-abbrev cut : Piece
+abbrev cut : LinePiece
 cut = record { before = []; is_pulled = false; chars = codes "A = "; is_continued = true; is_single = false; behind = []; comment = [] }
 
 is_cut : IsPiece false cut
 is_cut = record { blanks = refl; comment = refl; in_constant = refl; leading = refl; final = refl; single = refl; is_line = refl }
 
 -- &
-abbrev lone : Piece
+abbrev lone : LinePiece
 lone = record { before = []; is_pulled = true; chars = []; is_continued = true; is_single = true; behind = []; comment = [] }
 
 is_lone : IsPiece false lone
@@ -48,42 +48,42 @@ ampersand_first : HasLineCause (codes "! none" ++ 10 ∷ codes "&") (refusal_at 
 ampersand_first = EndsWithin 2 false (piece (codes "! none" ∷ []) lone Between is_lone (comment [] (codes "! none") Between refl nothing))
 
 -- a tab, outside a comment and in one
-abbrev tabbed : Piece
+abbrev tabbed : LinePiece
 tabbed = record { before = []; is_pulled = false; chars = codes "A =" ++ 9 ∷ codes "1"; is_continued = false; is_single = false; behind = []; comment = [] }
 
 holds_tab : HasLineCause (codes "A =" ++ 9 ∷ codes "1") (refusal_at BadByte90 1)
 holds_tab = HoldsBadByte [] [] tabbed Between refl nothing (record { blanks = refl; comment = refl; in_constant = refl; leading = refl; final = refl; single = refl; is_line = refl }) refl
 
-abbrev explained : Piece
+abbrev explained : LinePiece
 explained = record { before = []; is_pulled = false; chars = codes "A = 1 "; is_continued = false; is_single = false; behind = []; comment = codes "!" ++ 9 ∷ [] }
 
 is_explained : IsPiece false explained
 is_explained = record { blanks = refl; comment = refl; in_constant = refl; leading = refl; final = refl; single = refl; is_line = refl }
 
-explained_free : list_any is_bad_byte explained.chars ≡ false
+explained_free : list_any is_bad_byte90 explained.chars ≡ false
 explained_free = refl
 
 -- ---- statements
 
-abbrev s : ℕ → Form → Placed
-s line f = at line None f
+abbrev s : ℕ → Form90 → Placed
+s line f = placed_form line None f
 
-abbrev v : String → Phrase
+abbrev v : String → Phrase90
 v x = Name (codes x)
 
-abbrev n : String → Phrase
+abbrev n : String → Phrase90
 n digits = Literal (codes digits)
 
-abbrev place : List Placed → Placed → List Placed → Place
+abbrev place : List Placed → Placed → List Placed → Place90
 place before here after = record { before = before; here = here; after = after }
 
-abbrev scalar : String → forms.Entity
+abbrev scalar : String → forms.EntityForm90
 scalar x = record { name = codes x; dimensions = [] }
 
 abbrev up_to : String → forms.Dimension
 up_to digits = forms.Upper (record { sign = None; digits = codes digits })
 
-abbrev array : String → List forms.Dimension → forms.Entity
+abbrev array : String → List forms.Dimension → forms.EntityForm90
 array x ds = record { name = codes x; dimensions = ds }
 
 -- PROGRAM P
@@ -151,8 +151,8 @@ open_loop : is_disordered (second ∷ fifth ∷ []) (place [] second (fifth ∷ 
 open_loop = refl
 
 -- labels: 0, and one that stands twice
-labels : (is_wrong_label [] (codes "0") ≡ true) × (is_wrong_label (s 1 (forms.Continue (codes "10")) ∷ []) (codes "10") ≡ true)
-    × (is_wrong_label (s 1 (forms.Continue (codes "10")) ∷ []) (codes "20") ≡ false)
+labels : (is_wrong_label90 [] (codes "0") ≡ true) × (is_wrong_label90 (s 1 (forms.Continue (codes "10")) ∷ []) (codes "10") ≡ true)
+    × (is_wrong_label90 (s 1 (forms.Continue (codes "10")) ∷ []) (codes "20") ≡ false)
 labels = (refl, refl, refl)
 
 -- INTEGER :: K, A(3)
@@ -185,9 +185,9 @@ scalar_to_array : HoldsAt TypeClash90 kinds (place (declared ∷ to_scalar ∷ [
 scalar_to_array h = h (((((refl, tt), tt), ((refl, tt), tt)), inl refl))
 
 -- 2^127 and the literal before it
-literals : (has_wide_literal (n "170141183460469231731687303715884105728") ≡ true) × (has_wide_literal (n "170141183460469231731687303715884105727") ≡ false)
+literals : (has_wide_literal90 (n "170141183460469231731687303715884105728") ≡ true) × (has_wide_literal90 (n "170141183460469231731687303715884105727") ≡ false)
 literals = (refl, refl)
 
 -- (/ ((K, I = 1, 3), J = 1, 3) /) is three deep, and A(K) one
-depths : (depth (Looped (Round (Innermost (v "K") (codes "I") (n "1") (n "3")) (codes "J") (n "1") (n "3"))) ≡ 3) × (depth (Listed (codes "A") (One (Value (v "K")))) ≡ 1)
+depths : (phrase_depth90 (Looped (Round (Innermost (v "K") (codes "I") (n "1") (n "3")) (codes "J") (n "1") (n "3"))) ≡ 3) × (phrase_depth90 (Listed (codes "A") (One (Value (v "K")))) ≡ 1)
 depths = (refl, refl)

@@ -5,9 +5,7 @@ use Rattle.std.specs.Prelude.{IsTrue, List, [], ◌∷◌, ◌++◌, length, map
 use Rattle.std.specs.List.{list_all}
 use Rattle.std.specs.Str.Parse.{IsNumeral, digits_value}
 use Rattle.tree.specs.declared.stmts.Mark.{Mark}
-
-abbrev pub is_blank : ℕ → Bool
-is_blank c = c == 32
+use Rattle.reading.specs.Characters.{is_blank}
 
 -- the first and the last character but blanks
 abbrev pub starts_with : ℕ → List ℕ → Bool
@@ -34,7 +32,7 @@ has_comment o (c ∷ cs) = (not o && c == 33) || has_comment (if c == 39 then no
 
 -- A line of a statement: its characters; whether an ampersand stands before them, behind blanks, and one behind them,
 -- before blanks; whether a single one does both, on a line without characters; a comment, or nothing
-pub record Piece : Type 0 where
+pub record LinePiece : Type 0 where
   pub before : List ℕ
   pub is_pulled : Bool
   pub chars : List ℕ
@@ -47,7 +45,7 @@ abbrev pub ampersand : Bool → List ℕ
 ampersand true = 38 ∷ []
 ampersand false = []
 
-abbrev pub written_piece : Piece → List ℕ
+abbrev pub written_piece : LinePiece → List ℕ
 written_piece p = p.before ++ (ampersand p.is_pulled ++ (p.chars ++ (ampersand (p.is_continued
     && not p.is_single) ++ (p.behind ++ p.comment))))
 
@@ -61,7 +59,7 @@ is_nothing (c ∷ cs) = false
 
 -- An ampersand is a leading one where it is the first character but blanks, and a final one where it is the last before
 -- any comment. Outside constants alone a comment may follow
-pub record IsPiece (o : Bool) (p : Piece) : Type 0 where
+pub record IsPiece (o : Bool) (p : LinePiece) : Type 0 where
   pub blanks : IsTrue (list_all is_blank p.before && list_all is_blank p.behind)
   pub comment : IsTrue (is_tail p.comment && not (has_comment o p.chars))
   pub in_constant : IsTrue (not (is_open_behind o p.chars) || is_nothing p.comment)
@@ -72,21 +70,21 @@ pub record IsPiece (o : Bool) (p : Piece) : Type 0 where
   pub is_line : is_comment_line (written_piece p) ≡ false
 
 -- all lines of a statement but the last are continued
-abbrev pub AreFurtherPieces : Bool → List Piece → Type 0
+abbrev pub AreFurtherPieces : Bool → List LinePiece → Type 0
 AreFurtherPieces o [] = ⊥
 AreFurtherPieces o (p ∷ []) = IsPiece o p × (p.is_continued ≡ false)
 AreFurtherPieces o (p ∷ q ∷ ps) = IsPiece o p × (p.is_continued ≡ true)
     × AreFurtherPieces (is_open_behind o p.chars) (q ∷ ps)
 
-abbrev pub ArePieces : List Piece → Type 0
+abbrev pub ArePieces : List LinePiece → Type 0
 ArePieces ps = AreFurtherPieces false ps
 
 -- a line without leading ampersand is set off from the one before
-abbrev pub joint : Piece → List ℕ
+abbrev pub joint : LinePiece → List ℕ
 joint p = if p.is_pulled then p.chars else 10 ∷ p.chars
 
 -- no statement goes on with the first line, so a leading ampersand there is one of its characters
-abbrev pub characters : List Piece → List ℕ
+abbrev pub characters : List LinePiece → List ℕ
 characters [] = []
 characters (p ∷ ps) = ampersand p.is_pulled ++ (p.chars ++ flat_map joint ps)
 
@@ -126,22 +124,22 @@ pub record FreeStatement : Type 0 where
   pub chars : List ℕ
   pub within : List Mark
 
-abbrev pub statement_at : ℕ → List Mark → List ℕ → List Mark → FreeStatement
-statement_at n ahead cs within = record { line = n; ahead = ahead; chars = cs; within = within }
+abbrev pub free_statement_at : ℕ → List Mark → List ℕ → List Mark → FreeStatement
+free_statement_at n ahead cs within = record { line = n; ahead = ahead; chars = cs; within = within }
 
 -- the lines of a statement, with the comment lines before each
-pub record Block : Type 0 where
+pub record CommentedPiece : Type 0 where
   pub comments : List (List ℕ)
-  pub piece : Piece
+  pub piece : LinePiece
 
-abbrev pub written_block : Block → List (List ℕ)
+abbrev pub written_block : CommentedPiece → List (List ℕ)
 written_block b = b.comments ++ written_piece b.piece ∷ []
 
-abbrev pub pieces_of : List Block → List Piece
-pieces_of bs = map (λ (b : Block). b.piece) bs
+abbrev pub pieces_of : List CommentedPiece → List LinePiece
+pieces_of bs = map (λ (b : CommentedPiece). b.piece) bs
 
-abbrev pub comments_of : List Block → List (List ℕ)
-comments_of bs = flat_map (λ (b : Block). b.comments) bs
+abbrev pub comments_of : List CommentedPiece → List (List ℕ)
+comments_of bs = flat_map (λ (b : CommentedPiece). b.comments) bs
 
 abbrev pub AreComments : List (List ℕ) → Type 0
 AreComments ls = IsTrue (list_all is_comment_line ls)
@@ -150,10 +148,10 @@ AreComments ls = IsTrue (list_all is_comment_line ls)
 -- last one
 pub data AreStatements : ℕ → List (List ℕ) → List FreeStatement → Type 0 where
   ends : (n : ℕ) (comments : List (List ℕ)) → AreComments comments → AreStatements n comments []
-  begins : (n : ℕ) (b : Block) (bs : List Block) (ahead within : List Mark) (rest : List (List ℕ))
+  begins : (n : ℕ) (b : CommentedPiece) (bs : List CommentedPiece) (ahead within : List Mark) (rest : List (List ℕ))
       (more : List FreeStatement)
       → AreComments (comments_of (b ∷ bs)) → ArePieces (pieces_of (b ∷ bs))
       → AreMarks b.comments ahead → AreMarks (comments_of bs) within
       → AreStatements (n + length (flat_map written_block (b ∷ bs))) rest more
       → AreStatements n (flat_map written_block (b ∷ bs) ++ rest)
-      (statement_at (n + length b.comments) ahead (characters (pieces_of (b ∷ bs))) within ∷ more)
+      (free_statement_at (n + length b.comments) ahead (characters (pieces_of (b ∷ bs))) within ∷ more)

@@ -8,52 +8,52 @@ use Rattle.tree.specs.Plain.{Expression, Expressions, Reference, Item, Items, St
 use Rattle.tree.specs.Plain.{Extent, Given, Later, Declaration, Program}
 use Rattle.tree.specs.OperatorTable.{Minus}
 use Rattle.tree.specs.declared.stmts.Mark.{Mark}
-use Rattle.f90_grammar.specs.Phrases.{Phrase}
-use Rattle.f90_grammar.specs.Items.{ItemPhrase, Of, Text, Loop, ItemPhrases, Sole, More}
+use Rattle.f90_grammar.specs.Phrases.{Phrase90}
+use Rattle.f90_grammar.specs.Items.{ItemPhrase90, Of, Text, Loop, ItemPhrases90, Sole, More}
 use Rattle.f90_grammar.specs.Forms as forms
-use Rattle.f90_grammar.specs.Forms.{Form, Bound, Dimension}
+use Rattle.f90_grammar.specs.Forms.{Form90, Bound90, Dimension}
 use Rattle.f90_grammar.specs.Printing.{phrase_of, is_one}
 
 pub record Printed : Type 0 where
   pub mark : Option Mark
-  pub form : Form
+  pub form : Form90
 
-abbrev pub unmarked : Form → Printed
+abbrev pub unmarked : Form90 → Printed
 unmarked f = record { mark = None; form = f }
 
 -- ---- parts of statements
 
-abbrev pub reference_phrase : Reference → Phrase
+abbrev pub reference_phrase : Reference → Phrase90
 reference_phrase r = phrase_of (tree.Named r.name r.subscripts)
 
-abbrev pub phrases_of : Expressions → List Phrase
+abbrev pub phrases_of : Expressions → List Phrase90
 phrases_of tree.no_expressions = []
 phrases_of (tree.expression e es) = phrase_of e ∷ phrases_of es
 
 -- a step of 1 isn't written
-abbrev pub step_phrase : Expression → Option Phrase
+abbrev pub step_phrase : Expression → Option Phrase90
 step_phrase e = if is_one e then None else Some (phrase_of e)
 
 -- a list of items has one at least
 abbrev mutual
-  pub item_phrase : Item → ItemPhrase
+  pub item_phrase : Item → ItemPhrase90
   item_phrase (tree.Single e) = Of (phrase_of e)
   item_phrase (tree.Constant t) = Text t
   item_phrase (tree.ImpliedDo is x a b c) = Loop (item_phrases is) x (phrase_of a) (phrase_of b) (step_phrase c)
 
-  pub item_phrases : Items → ItemPhrases
+  pub item_phrases : Items → ItemPhrases90
   item_phrases tree.no_items = Sole (Text [])
   item_phrases (tree.item i is) = more_items (Sole (item_phrase i)) is
 
-  pub more_items : ItemPhrases → Items → ItemPhrases
+  pub more_items : ItemPhrases90 → Items → ItemPhrases90
   more_items ps tree.no_items = ps
   more_items ps (tree.item i is) = more_items (More ps (item_phrase i)) is
 
-abbrev pub read_form : Items → Form
+abbrev pub read_form : Items → Form90
 read_form tree.no_items = forms.ReadNothing
 read_form (tree.item i is) = forms.Read (item_phrases (tree.item i is))
 
-abbrev pub print_form : Items → Form
+abbrev pub print_form : Items → Form90
 print_form tree.no_items = forms.PrintNothing
 print_form (tree.item i is) = forms.Print (item_phrases (tree.item i is))
 
@@ -99,7 +99,7 @@ abbrev mutual
 
 -- ---- declarations: a lower bound of 1 isn't written
 
-abbrev pub bound : ℤ → Bound
+abbrev pub bound : ℤ → Bound90
 bound (pos n) = record { sign = None; digits = decimal n }
 bound (negsuc n) = record { sign = Some Minus; digits = decimal (n + 1) }
 
@@ -123,11 +123,11 @@ printed_declaration d =
 -- ---- programs
 
 -- one without a name gets this one
-abbrev pub title_of : Option (List ℕ) → List ℕ
-title_of None = codes "FV_PROGRAM"
-title_of (Some x) = x
+abbrev pub printed_title_of : Option (List ℕ) → List ℕ
+printed_title_of None = codes "FV_PROGRAM"
+printed_title_of (Some x) = x
 
 abbrev pub printed_program : Program → List Printed
 printed_program p =
-    unmarked (forms.Program (title_of p.name)) ∷ unmarked forms.ImplicitNone
+    unmarked (forms.Program (printed_title_of p.name)) ∷ unmarked forms.ImplicitNone
     ∷ (map printed_declaration p.declarations ++ (printed_block p.body ++ unmarked forms.End ∷ []))

@@ -6,13 +6,15 @@ use Rattle.std.specs.List.{AllByRecursion}
 use Rattle.tree.specs.OperatorTable.{Sign, Plus, Minus, Negation, spelling90_of}
 use Rattle.tree.specs.Plain.{Expression, Reference, Program}
 use Rattle.tree.specs.declared.stmts.Mark.{Mark}
-use Rattle.f90_grammar.specs.Words.{doubled, truth_text}
-use Rattle.f90_grammar.specs.Phrases.{Phrase, Literal, Truth, Name, Listed, Paren, Signed, Joined, Values, Looped, Part}
-use Rattle.f90_grammar.specs.Phrases.{Value, Range, Strided, Parts, One, Then, Phrases, Turn, Innermost, Round}
+use Rattle.f90_grammar.specs.Words.{truth_text}
+use Rattle.reading.specs.Characters.{doubled, keyword_of}
+use Rattle.f90_grammar.specs.Phrases.{Phrase90, Literal, Truth, Name, Listed, Paren, Signed, Joined, Values, Looped}
+use Rattle.f90_grammar.specs.Phrases.{ListPart}
+use Rattle.f90_grammar.specs.Phrases.{Value, Range, Strided, ListParts, One, Then, Phrases90, Turn, Innermost, Round}
 use Rattle.f90_grammar.specs.Phrases as phrases
-use Rattle.f90_grammar.specs.Items.{ItemPhrase, Of, Text, Loop, ItemPhrases, Sole, More}
+use Rattle.f90_grammar.specs.Items.{ItemPhrase90, Of, Text, Loop, ItemPhrases90, Sole, More}
 use Rattle.f90_grammar.specs.Forms as forms
-use Rattle.f90_grammar.specs.Forms.{Form, Bound, Dimension, Entity, keyword_of}
+use Rattle.f90_grammar.specs.Forms.{Form90, Bound90, Dimension, EntityForm90}
 use Rattle.f90_grammar.specs.Printing.{phrase_of}
 use Rattle.f90_grammar.specs.PrintedForms.{Printed, printed_program, reference_phrase}
 
@@ -39,7 +41,7 @@ abbrev pub loop_text : List ℕ → List ℕ → List ℕ → List ℕ
 loop_text x a b = x ++ (codes " = " ++ (a ++ (comma ++ b)))
 
 abbrev mutual
-  pub phrase_text : Phrase → List ℕ
+  pub phrase_text : Phrase90 → List ℕ
   phrase_text (Literal t) = t
   phrase_text (Truth b) = truth_text b
   phrase_text (Name x) = x
@@ -51,16 +53,16 @@ abbrev mutual
   phrase_text (Looped t) = codes "(/ " ++ (turn_text t ++ codes " /)")
 
   -- no blank stands at a colon
-  pub part_text : Part → List ℕ
+  pub part_text : ListPart → List ℕ
   part_text (Value p) = phrase_text p
   part_text (Range a b) = phrase_text a ++ (58 ∷ phrase_text b)
   part_text (Strided a b c) = phrase_text a ++ (58 ∷ (phrase_text b ++ (58 ∷ phrase_text c)))
 
-  pub parts_text : Parts → List ℕ
+  pub parts_text : ListParts → List ℕ
   parts_text (One p) = part_text p
   parts_text (Then ps p) = parts_text ps ++ (comma ++ part_text p)
 
-  pub values_text : Phrases → List ℕ
+  pub values_text : Phrases90 → List ℕ
   values_text (phrases.Sole p) = phrase_text p
   values_text (phrases.More ps p) = values_text ps ++ (comma ++ phrase_text p)
 
@@ -69,23 +71,23 @@ abbrev mutual
       in_parentheses (phrase_text p ++ (comma ++ loop_text x (phrase_text a) (phrase_text b)))
   turn_text (Round t x a b) = in_parentheses (turn_text t ++ (comma ++ loop_text x (phrase_text a) (phrase_text b)))
 
-abbrev pub step_text : Option Phrase → List ℕ
+abbrev pub step_text : Option Phrase90 → List ℕ
 step_text None = []
 step_text (Some p) = comma ++ phrase_text p
 
-abbrev pub bounds_text : List ℕ → Phrase → Phrase → Option Phrase → List ℕ
+abbrev pub bounds_text : List ℕ → Phrase90 → Phrase90 → Option Phrase90 → List ℕ
 bounds_text x a b c = loop_text x (phrase_text a) (phrase_text b) ++ step_text c
 
 abbrev pub constant_text : List ℕ → List ℕ
 constant_text t = 39 ∷ (doubled t ++ 39 ∷ [])
 
 abbrev mutual
-  pub item_text : ItemPhrase → List ℕ
+  pub item_text : ItemPhrase90 → List ℕ
   item_text (Of p) = phrase_text p
   item_text (Text t) = constant_text t
   item_text (Loop is x a b c) = in_parentheses (items_text is ++ (comma ++ bounds_text x a b c))
 
-  pub items_text : ItemPhrases → List ℕ
+  pub items_text : ItemPhrases90 → List ℕ
   items_text (Sole i) = item_text i
   items_text (More is i) = items_text is ++ (comma ++ item_text i)
 
@@ -95,7 +97,7 @@ abbrev pub bound_sign_text : Option Sign → List ℕ
 bound_sign_text None = []
 bound_sign_text (Some s) = sign_text s
 
-abbrev pub bound_text : Bound → List ℕ
+abbrev pub bound_text : Bound90 → List ℕ
 bound_text b = bound_sign_text b.sign ++ b.digits
 
 abbrev pub dimension_text : Dimension → List ℕ
@@ -107,7 +109,7 @@ abbrev pub dimensions_text : List Dimension → List ℕ
 dimensions_text [] = []
 dimensions_text (d ∷ ds) = in_parentheses (separated_text dimension_text (d ∷ ds))
 
-abbrev pub entity_text : Entity → List ℕ
+abbrev pub entity_text : EntityForm90 → List ℕ
 entity_text e = e.name ++ dimensions_text e.dimensions
 
 abbrev pub attribute_text : Bool → List ℕ
@@ -116,7 +118,7 @@ attribute_text false = []
 
 -- ---- statements
 
-abbrev pub extent_text : Phrase → List ℕ
+abbrev pub extent_text : Phrase90 → List ℕ
 extent_text p = codes "1:" ++ phrase_text p
 
 abbrev pub labelled_text : List ℕ → List ℕ
@@ -127,10 +129,10 @@ abbrev pub named_text : Option (List ℕ) → List ℕ
 named_text None = []
 named_text (Some x) = 32 ∷ x
 
-abbrev pub assignment_text : Phrase → Phrase → List ℕ
+abbrev pub assignment_text : Phrase90 → Phrase90 → List ℕ
 assignment_text l r = phrase_text l ++ (codes " = " ++ phrase_text r)
 
-abbrev pub form_text : Form → List ℕ
+abbrev pub form_text : Form90 → List ℕ
 form_text (forms.Program x) = codes "PROGRAM " ++ x
 form_text forms.ImplicitNone = codes "IMPLICIT NONE"
 form_text (forms.Declare k a es) = keyword_of k ++ (attribute_text a ++ (codes " :: " ++ separated_text entity_text es))

@@ -11,40 +11,40 @@ use Rattle.std.specs.List.{list_any}
 use Rattle.tree.specs.declared.stmts.Mark.{Mark}
 use Rattle.tree.specs.Functions.{intrinsic_named}
 use Rattle.f90_grammar.specs.FreeForm.{FreeStatement, AreStatements}
-use Rattle.f90_grammar.specs.Words.{Word, HasWords}
+use Rattle.f90_grammar.specs.Words.{Word90, HasWords}
 use Rattle.f90_grammar.specs.Phrases.{value_of_digits}
 use Rattle.f90_grammar.specs.Forms as forms
-use Rattle.f90_grammar.specs.Forms.{Form, IsWritten}
+use Rattle.f90_grammar.specs.Forms.{Form90, IsWritten90}
 use Rattle.f90_grammar.specs.Blocks.{Placed}
 use Rattle.tree.specs.declared.functions.Intrinsic.{Intrinsic}
 
 -- the mark that a statement takes is the last one since the assignment before it
-abbrev pub takes_mark : Form → Bool
+abbrev pub takes_mark : Form90 → Bool
 takes_mark (forms.Assign l r) = true
 takes_mark (forms.Where m l r) = true
 takes_mark (forms.Test p f) = takes_mark f
 takes_mark f = false
 
-abbrev pub last_of : Option Mark → List Mark → Option Mark
-last_of m [] = m
-last_of m (n ∷ ns) = last_of (Some n) ns
+abbrev pub last_mark : Option Mark → List Mark → Option Mark
+last_mark m [] = m
+last_mark m (n ∷ ns) = last_mark (Some n) ns
 
 abbrev pub if_taken : Bool → Option Mark → Option Mark
 if_taken true m = m
 if_taken false m = None
 
-abbrev pub left_over : Bool → Option Mark → Option Mark
-left_over true m = None
-left_over false m = m
+abbrev pub mark_left_over : Bool → Option Mark → Option Mark
+mark_left_over true m = None
+mark_left_over false m = m
 
 -- each statement of the text has its form; `pending` is the mark so far
 abbrev pub HaveForms : Option Mark → List FreeStatement → List Placed → Type 0
 HaveForms pending [] [] = Unit {0}
 HaveForms pending (s ∷ ss) (p ∷ ps) =
     (p.line ≡ s.line)
-    × (p.mark ≡ if_taken (takes_mark p.form) (last_of pending s.ahead))
-    × ((ws : List Word) × HasWords s.chars ws × IsWritten p.form ws)
-    × HaveForms (last_of (left_over (takes_mark p.form) (last_of pending s.ahead)) s.within) ss ps
+    × (p.mark ≡ if_taken (takes_mark p.form) (last_mark pending s.ahead))
+    × ((ws : List Word90) × HasWords s.chars ws × IsWritten90 p.form ws)
+    × HaveForms (last_mark (mark_left_over (takes_mark p.form) (last_mark pending s.ahead)) s.within) ss ps
 HaveForms pending _ _ = ⊥
 
 -- The statements of a text: its lines are those of the statements, and each of these has a form
@@ -80,7 +80,7 @@ abbrev mutual
 
 -- ---- declarations: each name with its kind and extent
 
-abbrev pub bound_value : forms.Bound → ℤ
+abbrev pub bound_value : forms.Bound90 → ℤ
 bound_value b = signed_value b.sign (value_of_digits b.digits)
 
 abbrev pub dimension_bounds : forms.Dimension → ℤ × ℤ
@@ -88,12 +88,12 @@ dimension_bounds (forms.Upper b) = (pos 1, bound_value b)
 dimension_bounds (forms.Both a b) = (bound_value a, bound_value b)
 dimension_bounds forms.Deferred = (pos 1, pos 0)
 
-abbrev pub extent_of : Bool → List forms.Dimension → Extent
-extent_of true ds = Later (length ds)
-extent_of false ds = Given (map dimension_bounds ds)
+abbrev pub extent_of_dimensions : Bool → List forms.Dimension → Extent
+extent_of_dimensions true ds = Later (length ds)
+extent_of_dimensions false ds = Given (map dimension_bounds ds)
 
-abbrev pub entity_declaration : Kind → Bool → forms.Entity → Declaration
-entity_declaration k a e = record { name = e.name; kind = k; extent = extent_of a e.dimensions }
+abbrev pub entity_declaration : Kind → Bool → forms.EntityForm90 → Declaration
+entity_declaration k a e = record { name = e.name; kind = k; extent = extent_of_dimensions a e.dimensions }
 
 -- a name is a function where it is the name of one and no declared name
 abbrev pub function_by : List Declaration → List ℕ → Option Intrinsic

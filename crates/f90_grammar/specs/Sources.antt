@@ -6,7 +6,7 @@ use Rattle.tree.specs.declared.ops.Op.TheVariants.{Neg, Not}
 use Rattle.tree.specs.Plain as tree
 use Rattle.tree.specs.Plain.{Expression, Expressions, Subscript, Subscripts, Loops}
 use Rattle.tree.specs.OperatorTable.{stands_between}
-use Rattle.f90_grammar.specs.Phrases.{Phrase}
+use Rattle.f90_grammar.specs.Phrases.{Phrase90}
 use Rattle.tree.specs.Functions.{name_of_function, name_of_reduction}
 use Rattle.tree.specs.declared.functions.Intrinsic.{Intrinsic}
 use Rattle.tree.specs.declared.functions.Intrinsic.TheVariants.{Elemental, Reduction, Spread, Transpose, Reshape}
@@ -68,6 +68,6 @@ module _ (function : List ℕ → Option Intrinsic) where
     LoopsAreSource (tree.loop x a b ls) = IsSource a × IsSource b × LoopsAreSource ls
 
 -- what is written is read as the tree again
-abbrev pub PrintedIsReadBack : ((List ℕ → Option Intrinsic) → Phrase → Expression) → Type 0
+abbrev pub PrintedIsReadBack : ((List ℕ → Option Intrinsic) → Phrase90 → Expression) → Type 0
 PrintedIsReadBack tree_of = (function : List ℕ → Option Intrinsic) (e : Expression) → IsSource function e
     → tree_of function (phrase_of e) ≡ e

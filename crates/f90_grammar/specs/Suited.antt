@@ -9,11 +9,12 @@ use Rattle.meaning.specs.Value.{named}
 use Rattle.meaning.specs.Typed.{declared, number_of_arguments}
 use Rattle.meaning.specs.Typed90.{rank_of, rank_of_subscripts, HasKind, IsScalar, AreScalars, HasSomeKind}
 use Rattle.meaning.specs.Extents.{IsAllocatable}
-use Rattle.f90_grammar.specs.Phrases.{Phrase, tree_of}
-use Rattle.f90_grammar.specs.Items.{Direction, Input, Output, step_tree, item_trees}
+use Rattle.f90_grammar.specs.Phrases.{Phrase90, tree_of}
+use Rattle.f90_grammar.specs.Items.{Direction, Input, Output, step_tree90, item_trees90}
 use Rattle.f90_grammar.specs.Forms as forms
-use Rattle.f90_grammar.specs.Forms.{Form}
-use Rattle.f90_grammar.specs.Blocks.{reference_in, trees}
+use Rattle.f90_grammar.specs.Forms.{Form90}
+use Rattle.f90_grammar.specs.Blocks.{trees_by}
+use Rattle.reading.specs.Signs.{reference_in}
 use Rattle.f90_grammar.specs.Reading.{function_by}
 
 -- by the declarations `ds`
@@ -53,19 +54,19 @@ module _ (ds : List Declaration) where
   SuitsAllocation x es =
       IsSomeAnd (declared ds x) (λ d. d.extent ≡ Later (number_of_arguments es)) × AreScalars ds es Integer
 
-  abbrev pub tree : Phrase → Expression
-  tree p = tree_of (function_by ds) p
+  abbrev pub suited_tree : Phrase90 → Expression
+  suited_tree p = tree_of (function_by ds) p
 
-  abbrev pub Suits : Form → Type 0
-  Suits (forms.Assign l r) = SuitsAssignment (reference_in (tree l)) (tree r)
-  Suits (forms.Where m l r) = SuitsMask (tree m) (reference_in (tree l))
-      × SuitsAssignment (reference_in (tree l)) (tree r)
-  Suits (forms.Test p f) = IsScalar ds (tree p) Logical × Suits f
-  Suits (forms.If p) = IsScalar ds (tree p) Logical
-  Suits (forms.ElseIf p) = IsScalar ds (tree p) Logical
-  Suits (forms.Do x a b c) = AreNumbers (tree a) (tree b) (step_tree (function_by ds) c)
-  Suits (forms.Read is) = SuitsItems Input (items (item_trees (function_by ds) is))
-  Suits (forms.Print is) = SuitsItems Output (items (item_trees (function_by ds) is))
-  Suits (forms.Allocate x es) = SuitsAllocation x (expressions (trees tree es))
+  abbrev pub Suits : Form90 → Type 0
+  Suits (forms.Assign l r) = SuitsAssignment (reference_in (suited_tree l)) (suited_tree r)
+  Suits (forms.Where m l r) = SuitsMask (suited_tree m) (reference_in (suited_tree l))
+      × SuitsAssignment (reference_in (suited_tree l)) (suited_tree r)
+  Suits (forms.Test p f) = IsScalar ds (suited_tree p) Logical × Suits f
+  Suits (forms.If p) = IsScalar ds (suited_tree p) Logical
+  Suits (forms.ElseIf p) = IsScalar ds (suited_tree p) Logical
+  Suits (forms.Do x a b c) = AreNumbers (suited_tree a) (suited_tree b) (step_tree90 (function_by ds) c)
+  Suits (forms.Read is) = SuitsItems Input (items (item_trees90 (function_by ds) is))
+  Suits (forms.Print is) = SuitsItems Output (items (item_trees90 (function_by ds) is))
+  Suits (forms.Allocate x es) = SuitsAllocation x (expressions (trees_by suited_tree es))
   Suits (forms.Deallocate x) = IsSomeAnd (declared ds x) (λ d. IsAllocatable d.extent)
   Suits f = Unit {0}

@@ -9,11 +9,11 @@ use Rattle.meaning.specs.Typed90.{IsDoVariable}
 use Rattle.f90_grammar.specs.Phrases.{value_of_digits}
 use Rattle.f90_grammar.specs.Items.{Direction, Input, Output}
 use Rattle.f90_grammar.specs.Forms as forms
-use Rattle.f90_grammar.specs.Forms.{Form}
-use Rattle.f90_grammar.specs.Blocks.{Placed, AreBlock}
+use Rattle.f90_grammar.specs.Forms.{Form90}
+use Rattle.f90_grammar.specs.Blocks.{Placed, AreBlock90}
 use Rattle.f90_grammar.specs.Reading.{is_target_in}
 use Rattle.f90_grammar.specs.Declared.{declarations_of, functions_in}
-use Rattle.f90_grammar.specs.Order.{Place, IsPlaceIn, is_executable}
+use Rattle.f90_grammar.specs.Order.{Place90, IsPlaceIn, is_executable90}
 
 -- ---- the statements of a block, each with what surrounds it
 
@@ -88,30 +88,30 @@ module _ (ds : List Declaration) where
 
 -- ---- labels
 
-abbrev pub label_in : Form → List ℕ
-label_in (forms.Continue digits) = digits
-label_in f = []
+abbrev pub label_digits_in : Form90 → List ℕ
+label_digits_in (forms.Continue digits) = digits
+label_digits_in f = []
 
 abbrev pub bears_label : ℕ → List ℕ → Bool
 bears_label n [] = false
 bears_label n (d ∷ digits) = n == value_of_digits (d ∷ digits)
 
 -- the label is 0, or stands before too
-abbrev pub is_wrong_label : List Placed → List ℕ → Bool
-is_wrong_label before [] = false
-is_wrong_label before (d ∷ digits) =
+abbrev pub is_wrong_label90 : List Placed → List ℕ → Bool
+is_wrong_label90 before [] = false
+is_wrong_label90 before (d ∷ digits) =
     let n = value_of_digits (d ∷ digits) in
-    (n == 0) || list_any (λ (p : Placed). bears_label n (label_in p.form)) before
+    (n == 0) || list_any (λ (p : Placed). bears_label n (label_digits_in p.form)) before
 
 -- ---- both, where blocks and the order of statements are right
 
 -- the executable statements form this block
 abbrev pub AreBody : List Placed → Block → Type 0
-AreBody ps b = AreBlock (functions_in ps) (is_target_in b) (filter (λ (p : Placed). is_executable p.form) ps) b
+AreBody ps b = AreBlock90 (functions_in ps) (is_target_in b) (filter (λ (p : Placed). is_executable90 p.form) ps) b
 
 -- a label, a jump or a DO variable is wrong at the line
 pub data IsMisplaced (ps : List Placed) : ℕ → Type 0 where
-  HasWrongLabel : (p : Place) → IsPlaceIn ps p → IsTrue (is_wrong_label p.before (label_in p.here.form))
+  HasWrongLabel : (p : Place90) → IsPlaceIn ps p → IsTrue (is_wrong_label90 p.before (label_digits_in p.here.form))
       → IsMisplaced ps p.here.line
   HasWrongSurroundings : (b : Block) (c : Statement) (w : Surroundings) → AreBody ps b → StandsIn b outermost c w
       → (SuitsSurroundings (declarations_of ps) c w → ⊥) → IsMisplaced ps (line_of c)

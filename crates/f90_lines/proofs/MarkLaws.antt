@@ -14,7 +14,8 @@ use Rattle.std.proofs.lemmas.Int.Digits.{digits_value_more}
 use Rattle.std.proofs.lemmas.Str.{digit_value_digit}
 use Rattle.std.proofs.lemmas.Str.Parse.{digit_from_value}
 use Rattle.tree.specs.declared.stmts.Mark.{Mark}
-use Rattle.f90_grammar.specs.FreeForm.{is_blank, IsMarkNumber, IsMark}
+use Rattle.f90_grammar.specs.FreeForm.{IsMarkNumber, IsMark}
+use Rattle.reading.specs.Characters.{is_blank}
 use Rattle.f90_lines.specs.Marks.{is_number, number_in, with_level, with_stmt, behind_second, with_nest, behind_first, numbers_in, mark_in}
 
 -- ---- a number, digit by digit

@@ -5,8 +5,9 @@ use Rattle.std.specs.List.{list_all}
 use Rattle.std.proofs.lemmas.Bool.{cond-true, cond-false, and_parts, and_from, or_parts, or_cases, or_left, or_right, eqb-true, not_from_false}
 use Rattle.std.proofs.lemmas.List.{take_more, drop_more, take-append-drop, append-nil}
 use Rattle.std.proofs.lemmas.List.Folds.{list_all-append}
-use Rattle.f90_grammar.specs.FreeForm.{is_blank, starts_with, ends_with, is_comment_line, is_open_behind, has_comment, Piece, ampersand, written_piece, is_tail, is_nothing, IsPiece}
-use Rattle.f90_lines.specs.Parts.{Part, part, turned, without_comment, after_blanks, before_last, IsEnd, ended, pulled_part, part_by, part_of}
+use Rattle.f90_grammar.specs.FreeForm.{starts_with, ends_with, is_comment_line, is_open_behind, has_comment, LinePiece, ampersand, written_piece, is_tail, is_nothing, IsPiece}
+use Rattle.reading.specs.Characters.{is_blank}
+use Rattle.f90_lines.specs.Parts.{LinePart, part, turned, without_comment, after_blanks, before_last, IsEnd, ended, pulled_part, part_by, part_of}
 
 clash : {P : Type 0} (b : Bool) → b ≡ true → b ≡ false → P
 clash b h k = absurd (cc)
@@ -285,8 +286,8 @@ starts_past (c ∷ cs) ys d h =
 
 -- ---- the piece
 
-pub record IsPartOf (o : Bool) (line : List ℕ) (p : Part) : Type 0 where
-  pub piece : Piece
+pub record IsPartOf (o : Bool) (line : List ℕ) (p : LinePart) : Type 0 where
+  pub piece : LinePiece
   pub is_piece : IsPiece o piece
   pub written : written_piece piece ≡ line
   pub seen : part piece.is_pulled piece.is_continued piece.chars ≡ p
@@ -324,7 +325,7 @@ module _ (o : Bool) (line front : List ℕ) (comment : List ℕ) (same : line �
         ap (is_open_behind o) regrouped
         ∙ (open_past o (before ++ ampersand pulled) (chars ++ ampersands) quiet_front ∙ open_before o chars ampersands quiet_behind)
 
-    abbrev the_piece : Piece
+    abbrev the_piece : LinePiece
     the_piece = record {
       before = before;
       is_pulled = pulled;

@@ -8,12 +8,12 @@ use Rattle.tree.specs.Causes.{refusal_at}
 use Rattle.tree.specs.declared.refusals.Cause.TheVariants.{BadByte90, LongLine, Continuation}
 use Rattle.tree.specs.declared.refusals.Refusal.{Refusal}
 use Rattle.reading.specs.refusal_order.Answered.{comes_before, IsAnswered}
-use Rattle.f90_grammar.specs.FreeForm.{Piece, IsPiece, written_piece, is_comment_line}
-use Rattle.f90_grammar.specs.LineCauses.{Standing, Between, Within, is_in_constant, behind_piece, LeadTo, is_bad_byte, line_characters, HasLineCause}
+use Rattle.f90_grammar.specs.FreeForm.{LinePiece, IsPiece, written_piece, is_comment_line}
+use Rattle.f90_grammar.specs.LineCauses.{LineState, Between, Within, is_in_constant, behind_piece, LeadTo, is_bad_byte90, line_characters, HasLineCause}
 use Rattle.f90_grammar.specs.LineCauses.LeadTo.{nothing, comment, piece}
 use Rattle.f90_grammar.specs.LineCauses.HasLineCause.{HoldsBadByte, IsLong, EndsWithin}
 use Rattle.f90_laws.proofs.unique.Pieces.{piece_once}
-use Rattle.f90_lines.specs.Parts.{Part, part, part_of}
+use Rattle.f90_lines.specs.Parts.{LinePart, part, part_of}
 use Rattle.f90_lines.specs.Standings.{behind_part, behind_line, behind_lines, has_bad_byte, first_bad, is_long, first_long, initial_of}
 use Rattle.f90_lines.proofs.PartLaws.{has_part}
 
@@ -31,7 +31,7 @@ the_same n m e = cc
 part_same : (a b c d : Bool) (x y : List ℕ) → a ≡ c → b ≡ d → x ≡ y → part a b x ≡ part c d y
 part_same a b c d x y e f g = rw (e, f, g) refl
 
-pub seen_once : (o : Bool) (p : Piece) → IsPiece o p → part p.is_pulled p.is_continued p.chars ≡ part_of o (written_piece p)
+pub seen_once : (o : Bool) (p : LinePiece) → IsPiece o p → part p.is_pulled p.is_continued p.chars ≡ part_of o (written_piece p)
 seen_once o p h =
     let r = has_part o (written_piece p) h.is_line in
     let s = piece_once o p r.piece h r.is_piece (sym r.written) in
@@ -39,38 +39,38 @@ seen_once o p h =
 
 -- ---- line by line
 
-pub behind_comment : (n : ℕ) (s : Standing) (l : List ℕ) → is_comment_line l ≡ true → behind_line n s l ≡ s
+pub behind_comment : (n : ℕ) (s : LineState) (l : List ℕ) → is_comment_line l ≡ true → behind_line n s l ≡ s
 behind_comment n s l h = cond-true (is_comment_line l) s (behind_part n s (part_of (is_in_constant s) l)) h
 
-pub behind_other : (n : ℕ) (s : Standing) (l : List ℕ) (p : Part) → is_comment_line l ≡ false → p ≡ part_of (is_in_constant s) l
+pub behind_other : (n : ℕ) (s : LineState) (l : List ℕ) (p : LinePart) → is_comment_line l ≡ false → p ≡ part_of (is_in_constant s) l
     → behind_line n s l ≡ behind_part n s p
 behind_other n s l p h e =
     cond-false (is_comment_line l) s (behind_part n s (part_of (is_in_constant s) l)) h ∙ ap (behind_part n s) (sym e)
 
-behind_written : (n : ℕ) (s : Standing) (p : Piece) → IsPiece (is_in_constant s) p → behind_line n s (written_piece p) ≡ behind_piece n s p
+behind_written : (n : ℕ) (s : LineState) (p : LinePiece) → IsPiece (is_in_constant s) p → behind_line n s (written_piece p) ≡ behind_piece n s p
 behind_written n s p h =
     behind_other n s (written_piece p) (part p.is_pulled p.is_continued p.chars) h.is_line (seen_once (is_in_constant s) p h)
 
-behind_last : (n : ℕ) (s : Standing) (ls : List (List ℕ)) (l : List ℕ) → behind_lines n s (ls ++ l ∷ [])
+behind_last : (n : ℕ) (s : LineState) (ls : List (List ℕ)) (l : List ℕ) → behind_lines n s (ls ++ l ∷ [])
     ≡ behind_line (n + length ls + 1) (behind_lines n s ls) l
 behind_last n s [] l = ap (λ (k : ℕ). behind_line k s l) (omega arith)
 behind_last n s (k ∷ ks) l =
     behind_last (n + 1) (behind_line (n + 1) s k) ks l
     ∙ ap (λ (m : ℕ). behind_line m (behind_lines (n + 1) (behind_line (n + 1) s k) ks) l) (omega arith)
 
-pub lead_behind : {ls : List (List ℕ)} {s : Standing} → LeadTo ls s → s ≡ behind_lines 0 Between ls
+pub lead_behind : {ls : List (List ℕ)} {s : LineState} → LeadTo ls s → s ≡ behind_lines 0 Between ls
 lead_behind nothing = refl
 lead_behind (comment front line s c l) =
     let e = lead_behind l in
-    sym (behind_last 0 Between front line ∙ (ap (λ (t : Standing). behind_line (0 + length front + 1) t line) (sym e)
+    sym (behind_last 0 Between front line ∙ (ap (λ (t : LineState). behind_line (0 + length front + 1) t line) (sym e)
     ∙ behind_comment (0 + length front + 1) s line c))
 lead_behind (piece front p s i l) =
     let e = lead_behind l in
     let k : 0 + length front + 1 ≡ length front + 1 = omega arith in
-    sym (behind_last 0 Between front (written_piece p) ∙ (ap (λ (t : Standing). behind_line (0 + length front + 1) t (written_piece p)) (sym e)
+    sym (behind_last 0 Between front (written_piece p) ∙ (ap (λ (t : LineState). behind_line (0 + length front + 1) t (written_piece p)) (sym e)
     ∙ (behind_written (0 + length front + 1) s p i ∙ ap (λ (m : ℕ). behind_piece m s p) k)))
 
-lead_by : (b : Bool) (front : List (List ℕ)) (s : Standing) (l : List ℕ) → is_comment_line l ≡ b → LeadTo front s
+lead_by : (b : Bool) (front : List (List ℕ)) (s : LineState) (l : List ℕ) → is_comment_line l ≡ b → LeadTo front s
     → LeadTo (front ++ l ∷ []) (behind_line (length front + 1) s l)
 lead_by true front s l e h =
     subst (LeadTo (front ++ l ∷ [])) (sym (behind_comment (length front + 1) s l e)) (comment front l s e h)
@@ -81,7 +81,7 @@ lead_by false front s l e h =
     subst (λ (x : List ℕ). LeadTo (front ++ x ∷ []) (behind_line n s l)) r.written
     (subst (LeadTo (front ++ written_piece r.piece ∷ [])) k (piece front r.piece s r.is_piece h))
 
-lead_on : (front ls : List (List ℕ)) (s : Standing) → LeadTo front s → LeadTo (front ++ ls) (behind_lines (length front) s ls)
+lead_on : (front ls : List (List ℕ)) (s : LineState) → LeadTo front s → LeadTo (front ++ ls) (behind_lines (length front) s ls)
 lead_on front [] s h = subst (λ (us : List (List ℕ)). LeadTo us s) (sym (append-nil front)) h
 lead_on front (l ∷ ls) s h =
     let n = length front in
@@ -96,7 +96,7 @@ leads ls = lead_on [] ls Between nothing
 
 -- ---- the first line with a bad byte
 
-record BadAt (n : ℕ) (s : Standing) (ls : List (List ℕ)) (k : ℕ) : Type 0 where
+record BadAt (n : ℕ) (s : LineState) (ls : List (List ℕ)) (k : ℕ) : Type 0 where
   pub front : List (List ℕ)
   pub line : List ℕ
   pub back : List (List ℕ)
@@ -104,7 +104,7 @@ record BadAt (n : ℕ) (s : Standing) (ls : List (List ℕ)) (k : ℕ) : Type 0 
   pub number : k ≡ n + length front + 1
   pub bad : has_bad_byte (behind_lines n s front) line ≡ true
 
-bad_by : (b : Bool) (n : ℕ) (s : Standing) (l : List ℕ) (ls : List (List ℕ)) (k : ℕ) → has_bad_byte s l ≡ b
+bad_by : (b : Bool) (n : ℕ) (s : LineState) (l : List ℕ) (ls : List (List ℕ)) (k : ℕ) → has_bad_byte s l ≡ b
     → cond b (Some (n + 1)) (first_bad (n + 1) (behind_line (n + 1) s l) ls) ≡ Some k
     → (first_bad (n + 1) (behind_line (n + 1) s l) ls ≡ Some k → BadAt (n + 1) (behind_line (n + 1) s l) ls k) → BadAt n s (l ∷ ls) k
 bad_by true n s l ls k e h more =
@@ -121,7 +121,7 @@ bad_by false n s l ls k e h more =
       bad = r.bad;
     }
 
-bad_found : (n : ℕ) (s : Standing) (ls : List (List ℕ)) (k : ℕ) → first_bad n s ls ≡ Some k → BadAt n s ls k
+bad_found : (n : ℕ) (s : LineState) (ls : List (List ℕ)) (k : ℕ) → first_bad n s ls ≡ Some k → BadAt n s ls k
 bad_found n s [] k h = absurd (cc)
 bad_found n s (l ∷ ls) k h = bad_by (has_bad_byte s l) n s l ls k refl h (λ e. bad_found (n + 1) (behind_line (n + 1) s l) ls k e)
 
@@ -136,7 +136,7 @@ later_by : (b : Bool) (n m : ℕ) (o : Option ℕ) → n ≤ m → Later o m →
 later_by true n m o h r = no_later n refl h
 later_by false n m o h r = r
 
-bad_later : (n : ℕ) (s : Standing) (ls front : List (List ℕ)) (line : List ℕ) (back : List (List ℕ)) → ls ≡ front ++ line ∷ back
+bad_later : (n : ℕ) (s : LineState) (ls front : List (List ℕ)) (line : List ℕ) (back : List (List ℕ)) → ls ≡ front ++ line ∷ back
     → has_bad_byte (behind_lines n s front) line ≡ true → Later (first_bad n s ls) (n + length front + 1)
 bad_later n s [] [] line back e h = absurd (cc)
 bad_later n s [] (f ∷ fs) line back e h = absurd (cc)
@@ -201,16 +201,16 @@ long_later n (l ∷ ls) (f ∷ fs) line back e h =
 -- ---- which refusals hold
 
 module _ (text : List ℕ) where
-  bad_seen : (front back : List (List ℕ)) (p : Piece) (s : Standing) → lines text ≡ front ++ written_piece p ∷ back → LeadTo front s
-      → IsPiece (is_in_constant s) p → list_any is_bad_byte p.chars ≡ true → Later (first_bad 0 Between (lines text)) (length front + 1)
+  bad_seen : (front back : List (List ℕ)) (p : LinePiece) (s : LineState) → lines text ≡ front ++ written_piece p ∷ back → LeadTo front s
+      → IsPiece (is_in_constant s) p → list_any is_bad_byte90 p.chars ≡ true → Later (first_bad 0 Between (lines text)) (length front + 1)
   bad_seen front back p s e l i b =
       let c = seen_once (is_in_constant s) p i in
-      let k : list_any is_bad_byte (part_of (is_in_constant s) (written_piece p)).chars ≡ true
-      = ap (λ (q : Part). list_any is_bad_byte q.chars) (sym c) ∙ b in
+      let k : list_any is_bad_byte90 (part_of (is_in_constant s) (written_piece p)).chars ≡ true
+      = ap (λ (q : LinePart). list_any is_bad_byte90 q.chars) (sym c) ∙ b in
       let g : has_bad_byte s (written_piece p) ≡ true
-      = ap (λ (t : Bool). not t && list_any is_bad_byte (part_of (is_in_constant s) (written_piece p)).chars) i.is_line ∙ k in
+      = ap (λ (t : Bool). not t && list_any is_bad_byte90 (part_of (is_in_constant s) (written_piece p)).chars) i.is_line ∙ k in
       let h : has_bad_byte (behind_lines 0 Between front) (written_piece p) ≡ true
-      = ap (λ (t : Standing). has_bad_byte t (written_piece p)) (sym (lead_behind l)) ∙ g in
+      = ap (λ (t : LineState). has_bad_byte t (written_piece p)) (sym (lead_behind l)) ∙ g in
       let m : 0 + length front + 1 ≡ length front + 1 = omega arith in
       subst (Later (first_bad 0 Between (lines text))) m (bad_later 0 Between (lines text) front (written_piece p) back e h)
 
@@ -218,10 +218,10 @@ module _ (text : List ℕ) where
   bad_cause k h =
       let r = bad_found 0 Between (lines text) k h in
       let s = behind_lines 0 Between r.front in
-      let p = and_parts (not (is_comment_line r.line)) (list_any is_bad_byte (part_of (is_in_constant s) r.line).chars) r.bad in
+      let p = and_parts (not (is_comment_line r.line)) (list_any is_bad_byte90 (part_of (is_in_constant s) r.line).chars) r.bad in
       let q = has_part (is_in_constant s) r.line (not-true (is_comment_line r.line) p.0) in
       let e : lines text ≡ r.front ++ written_piece q.piece ∷ r.back = r.same ∙ ap (λ (x : List ℕ). r.front ++ x ∷ r.back) (sym q.written) in
-      let b : list_any is_bad_byte q.piece.chars ≡ true = ap (λ (x : Part). list_any is_bad_byte x.chars) q.seen ∙ p.1 in
+      let b : list_any is_bad_byte90 q.piece.chars ≡ true = ap (λ (x : LinePart). list_any is_bad_byte90 x.chars) q.seen ∙ p.1 in
       let m : length r.front + 1 ≡ k = omega (arith, r.number) in
       subst (λ (n : ℕ). HasLineCause text (refusal_at BadByte90 n)) m (HoldsBadByte r.front r.back q.piece s e (leads r.front) q.is_piece b)
 
@@ -238,11 +238,11 @@ module _ (text : List ℕ) where
       subst (λ (n : ℕ). HasLineCause text (refusal_at LongLine n)) m
       (IsLong r.front r.back r.line r.same (ltb-true line_characters (length r.line) r.long))
 
-  record IsWithin (s : Standing) (k : ℕ) : Type 0 where
+  record IsWithin (s : LineState) (k : ℕ) : Type 0 where
     pub opened : Bool
     pub same : s ≡ Within k opened
 
-  within : (s : Standing) (k : ℕ) → initial_of s ≡ Some k → IsWithin s k
+  within : (s : LineState) (k : ℕ) → initial_of s ≡ Some k → IsWithin s k
   within Between k h = absurd (cc)
   within (Within i o) k h = record { opened = o; same = ap (λ (x : ℕ). Within x o) (the_same i k h) }
 
@@ -312,7 +312,7 @@ module _ (text : List ℕ) where
   pub ends_between : ((r : Refusal) → HasLineCause text r → ⊥) → behind_lines 0 Between (lines text) ≡ Between
   ends_between h = by (behind_lines 0 Between (lines text)) (leads (lines text))
     where
-      by : (s : Standing) → LeadTo (lines text) s → s ≡ Between
+      by : (s : LineState) → LeadTo (lines text) s → s ≡ Between
       by Between l = refl
       by (Within i o) l = absurd (h (refusal_at Continuation i) (EndsWithin i o l))
 

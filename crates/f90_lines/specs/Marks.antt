@@ -5,7 +5,7 @@ use Rattle.std.specs.List.{list_all}
 use Rattle.std.specs.Char.{is_ascii_digit}
 use Rattle.std.specs.Str.Parse.{digits_value}
 use Rattle.tree.specs.declared.stmts.Mark.{Mark}
-use Rattle.f90_grammar.specs.FreeForm.{is_blank}
+use Rattle.reading.specs.Characters.{is_blank}
 
 -- one to ten digits that write a number below 2^32
 abbrev pub is_number : List ℕ → Bool

@@ -2,15 +2,16 @@
 use Rattle.std.specs.Prelude.{◌≡◌, ℕ, ◌-◌, ◌<◌, ◌≤◌, ◌==◌, Bool, true, false, not, ◌&&◌, if◌then◌else◌}
 use Rattle.std.specs.Prelude.{List, [], ◌∷◌, ◌++◌, length, drop, slice_index}
 use Rattle.std.specs.List.{list_all}
-use Rattle.f90_grammar.specs.FreeForm.{is_blank, ends_with, ampersand}
+use Rattle.f90_grammar.specs.FreeForm.{ends_with, ampersand}
+use Rattle.reading.specs.Characters.{is_blank}
 
 -- whether an ampersand stands before the characters, and one behind them
-pub record Part : Type 0 where
+pub record LinePart : Type 0 where
   pub is_pulled : Bool
   pub is_continued : Bool
   pub chars : List ℕ
 
-abbrev pub part : Bool → Bool → List ℕ → Part
+abbrev pub part : Bool → Bool → List ℕ → LinePart
 part pulled continued cs = record { is_pulled = pulled; is_continued = continued; chars = cs }
 
 -- whether a constant is open behind the character
@@ -37,22 +38,22 @@ pub record IsEnd (text : List ℕ) (n : ℕ) : Type 0 where
   pub blanks : list_all is_blank (drop n text) ≡ true
   pub last : 0 < n → is_blank (slice_index text (n - 1)) ≡ false
 
-abbrev pub ended : Bool → List ℕ → Part
+abbrev pub ended : Bool → List ℕ → LinePart
 ended pulled text = if ends_with 38 text then part pulled true (before_last text) else part pulled false text
 
 -- behind a leading ampersand, which may be the final one too
-abbrev pub pulled_part : List ℕ → Part
+abbrev pub pulled_part : List ℕ → LinePart
 pulled_part text = if list_all is_blank text then part true true [] else ended true text
 
-abbrev pub part_by : List ℕ → List ℕ → Part
+abbrev pub part_by : List ℕ → List ℕ → LinePart
 part_by front [] = ended false front
 part_by front (c ∷ cs) = if c == 38 then pulled_part cs else ended false front
 
-abbrev pub part_of : Bool → List ℕ → Part
+abbrev pub part_of : Bool → List ℕ → LinePart
 part_of o line = part_by (without_comment o line) (after_blanks (without_comment o line))
 
-abbrev pub first_chars : Part → List ℕ
+abbrev pub first_chars : LinePart → List ℕ
 first_chars p = ampersand p.is_pulled ++ p.chars
 
-abbrev pub further_chars : Part → List ℕ
+abbrev pub further_chars : LinePart → List ℕ
 further_chars p = if p.is_pulled then p.chars else 10 ∷ p.chars

@@ -2,7 +2,7 @@
 use Rattle.std.specs.Prelude.{List, map}
 use Rattle.f90_grammar.specs.FreeForm as free
 use Rattle.f90_grammar.specs.LineCauses as grammar
-use Rattle.f90_lines.specs.declared.parts.Part.{Part}
+use Rattle.f90_lines.specs.declared.parts.LinePart.{LinePart}
 use Rattle.f90_lines.specs.declared.readings.Reading.{Reading}
 use Rattle.f90_lines.specs.declared.readings.Reading.TheVariants.{Ahead, Inside}
 use Rattle.f90_lines.specs.declared.readings.Statement.{Statement}
@@ -11,15 +11,15 @@ use Rattle.f90_lines.specs.declared.refusals.Standing.TheVariants.{Between, With
 use Rattle.f90_lines.specs.Parts as parts
 use Rattle.f90_lines.specs.Readings as readings
 
-abbrev pub part_seen : Part → parts.Part
+abbrev pub part_seen : LinePart → parts.LinePart
 part_seen p = parts.part p.is_pulled p.is_continued p.chars.now
 
-abbrev pub standing_seen : Standing → grammar.Standing
+abbrev pub standing_seen : Standing → grammar.LineState
 standing_seen Between = grammar.Between
 standing_seen (Within initial o) = grammar.Within initial o
 
 abbrev pub statement_seen : Statement → free.FreeStatement
-statement_seen s = free.statement_at s.line s.ahead s.chars s.within
+statement_seen s = free.free_statement_at s.line s.ahead s.chars s.within
 
 abbrev pub statements_seen : List Statement → List free.FreeStatement
 statements_seen ss = map statement_seen ss

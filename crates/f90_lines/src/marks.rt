@@ -3,7 +3,7 @@ ghost use Rattle.std.specs.Prelude.{◌≡◌, ◌+◌, ◌<◌, ◌≤◌, ◌^
 ghost use Rattle.std.specs.List.{list_all};
 ghost use Rattle.std.specs.Char.{is_ascii_digit};
 ghost use Rattle.std.specs.Str.Parse.{digits_value};
-ghost use Rattle.f90_grammar.specs.FreeForm.{is_blank};
+ghost use Rattle.reading.specs.Characters.{is_blank};
 ghost use Rattle.f90_lines.specs.Marks.{number_in, numbers_in, with_nest, behind_second, mark_in};
 
 use tree::Mark;

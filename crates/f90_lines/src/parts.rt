@@ -1,17 +1,17 @@
 //! The part of a statement that a line is.
 ghost use Rattle.std.specs.Prelude.{◌≡◌, ◌+◌, ◌≤◌, length, take};
 ghost use Rattle.std.specs.List.{list_all, list_any};
-ghost use Rattle.f90_grammar.specs.FreeForm.{is_blank, is_comment_line, is_open_behind};
-ghost use Rattle.f90_grammar.specs.LineCauses.{is_bad_byte};
-ghost use Rattle.f90_lines.specs.Parts.{turned, without_comment, after_blanks, IsEnd, ended, pulled_part};
-ghost use Rattle.f90_lines.specs.Parts.{part_of};
+ghost use Rattle.f90_grammar.specs.FreeForm.{is_comment_line, is_open_behind};
+ghost use Rattle.reading.specs.Characters.{is_blank};
+ghost use Rattle.f90_grammar.specs.LineCauses.{is_bad_byte90};
+ghost use Rattle.f90_lines.specs.Parts.{turned, without_comment, after_blanks, IsEnd, ended, pulled_part, part_of};
 ghost use Rattle.f90_lines.specs.Views.{part_seen};
 
 const BLANK: u8 = b' ';
 
 /// The part of a statement that a line is.
 #[derive(Clone, Copy, Debug)]
-pub(crate) struct Part<'a> {
+pub(crate) struct LinePart<'a> {
     /// An ampersand stands before the characters.
     pub is_pulled: bool,
     /// An ampersand stands behind them.
@@ -71,18 +71,18 @@ fn is_blank(text: &[u8]) -> bool
     text.iter().all(|byte| *byte == BLANK)
 }
 
-fn ended(is_pulled: bool, text: &[u8]) -> Part<'_>
+fn ended(is_pulled: bool, text: &[u8]) -> LinePart<'_>
     ensures { part_seen result ≡ ended is_pulled text.now }
 {
     let end = end(text);
     if end > 0 && text[end - 1] == b'&' {
-        Part {
+        LinePart {
             is_pulled,
             is_continued: true,
             chars: &text[..end - 1],
         }
     } else {
-        Part {
+        LinePart {
             is_pulled,
             is_continued: false,
             chars: text,
@@ -91,11 +91,11 @@ fn ended(is_pulled: bool, text: &[u8]) -> Part<'_>
 }
 
 // Behind a leading ampersand.
-fn pulled_part(text: &[u8]) -> Part<'_>
+fn pulled_part(text: &[u8]) -> LinePart<'_>
     ensures { part_seen result ≡ pulled_part text.now }
 {
     if is_blank(text) {
-        Part {
+        LinePart {
             is_pulled: true,
             is_continued: true,
             chars: &[],
@@ -106,7 +106,7 @@ fn pulled_part(text: &[u8]) -> Part<'_>
 }
 
 /// The part that a line is of a statement; whether a constant is open at its beginning is given.
-pub(crate) fn part_in(in_constant: bool, line: &[u8]) -> Part<'_>
+pub(crate) fn part_in(in_constant: bool, line: &[u8]) -> LinePart<'_>
     ensures { part_seen result ≡ part_of in_constant line.now }
 {
     let front = without_comment(in_constant, line);
@@ -140,7 +140,7 @@ pub(crate) fn is_open_behind(in_constant: bool, chars: &[u8]) -> bool
 
 /// Whether one of the characters isn't printable.
 pub(crate) fn has_bad_byte(chars: &[u8]) -> bool
-    ensures { result ≡ list_any is_bad_byte chars.now }
+    ensures { result ≡ list_any is_bad_byte90 chars.now }
 {
     chars.iter().any(|byte| !matches!(byte, b' '..=b'~'))
 }

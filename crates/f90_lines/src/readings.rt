@@ -9,7 +9,7 @@ ghost use Rattle.f90_grammar.specs.FreeForm as free;
 
 use crate::lines::Line;
 use crate::marks::mark;
-use crate::parts::{Part, is_comment_line, is_open_behind, part_in};
+use crate::parts::{LinePart, is_comment_line, is_open_behind, part_in};
 use std::alloc::Global;
 use tree::{Mark, Memory, Seq};
 
@@ -60,7 +60,7 @@ fn mark_within(statement: Statement, line: &[u8]) -> Result<Statement, Memory>
     })
 }
 
-fn first_chars(alloc: Global, part: &Part<'_>) -> Result<Seq<u8>, Memory>
+fn first_chars(alloc: Global, part: &LinePart<'_>) -> Result<Seq<u8>, Memory>
     ensures { IfOk result (λ chars. chars ≡ first_chars (part_seen part.now)) }
 {
     let mut chars = Vec::new(alloc);
@@ -71,7 +71,7 @@ fn first_chars(alloc: Global, part: &Part<'_>) -> Result<Seq<u8>, Memory>
     Ok(Seq::from_vec(chars))
 }
 
-fn add_chars(statement: Statement, part: &Part<'_>) -> Result<Statement, Memory>
+fn add_chars(statement: Statement, part: &LinePart<'_>) -> Result<Statement, Memory>
     ensures { IfOk result (λ more. statement_seen more
         ≡ statement_with (statement_seen statement) (part_seen part.now)) }
 {
@@ -98,7 +98,7 @@ fn add_chars(statement: Statement, part: &Part<'_>) -> Result<Statement, Memory>
 fn behind(
     alloc: Global,
     in_constant: bool,
-    part: &Part<'_>,
+    part: &LinePart<'_>,
     statement: Statement,
     statements: &mut Seq<Statement>,
 ) -> Result<Reading, Memory>

@@ -11,7 +11,7 @@ ghost use Rattle.f90_lines.specs.Views.{part_seen, standing_seen};
 
 use crate::lines::{Line, Lines};
 use crate::parts;
-use crate::parts::{Part, is_comment_line, is_open_behind, part_in};
+use crate::parts::{LinePart, is_comment_line, is_open_behind, part_in};
 use tree::{Cause, Refusal};
 
 /// How many characters a line has at most (ISO/IEC 1539:1991, section 3.3.1).
@@ -45,7 +45,7 @@ impl Standing {
         }
     }
 
-    fn behind_part(self, number: u32, part: &Part<'_>) -> Standing
+    fn behind_part(self, number: u32, part: &LinePart<'_>) -> Standing
         ensures { standing_seen result ≡ behind_part number (standing_seen self) (part_seen part.now) }
     {
         if !part.is_continued {

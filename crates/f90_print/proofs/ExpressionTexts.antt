@@ -16,13 +16,13 @@ use Rattle.tree.specs.declared.exprs.Sub.TheVariants as subs
 use Rattle.tree.specs.declared.exprs.Ref.{Ref, out-Ref}
 use Rattle.tree.specs.declared.exprs.Turn.{Turn, out-Turn}
 use Rattle.tree.specs.Plain as P
-use Rattle.tree.specs.View.{expression_of, subscript_of, reference_of, loop_of, loops, ConstructorLoop}
+use Rattle.tree.specs.View.{expression_of, subscript_of, reference_of, loop_of, constructor_loops, ConstructorLoop}
 use Rattle.tree.specs.Functions.{name_of_function, name_of_reduction}
 use Rattle.tree.specs.OperatorTable.{left_least, right_least, spelling90_of, sign_level}
 use Rattle.tree.proofs.Equations.{expression_of-int, expression_of-truth, expression_of-item, expression_of-un, expression_of-bin, expression_of-call, expression_of-list, expression_of-spread, expression_of-transpose, expression_of-reshape, expression_of-reduce, subscript_of-one, subscript_of-part, reference_of-is, loop_of-is}
 use Rattle.f90_grammar.specs.Words.{truth_text}
-use Rattle.f90_grammar.specs.Phrases.{Phrase, Signed, Value, Parts, One, Then, Phrases, Sole, More, Turn as Turns, Innermost, Round, level}
-use Rattle.f90_grammar.specs.Printing.{phrase_of, part_of, more_parts, more_arguments, list_of, more_values, values, first_value, constructed, rounds, is_one, section, fit, unary_phrase, digits_of}
+use Rattle.f90_grammar.specs.Phrases.{Phrase90, Signed, Value, ListParts, One, Then, Phrases90, Sole, More, Turn as Turns, Innermost, Round, phrase_level90}
+use Rattle.f90_grammar.specs.Printing.{phrase_of, list_part_of, more_parts, more_arguments, list_of, more_values, values, first_value, constructor_phrase, rounds, is_one, section_part, fit, unary_phrase, digits_of}
 use Rattle.f90_grammar.specs.PrintedForms.{reference_phrase}
 use Rattle.f90_grammar.specs.PrintedText.{phrase_text, part_text, parts_text, values_text, turn_text, expression_text, separated_text, comma, in_parentheses, loop_text, sign_text}
 use Rattle.f90_print.specs.Texts.{operand_text, subscript_text, listed_text, after_comma, loop_end_text, sign_of}
@@ -30,7 +30,7 @@ use Rattle.f90_print.proofs.Lists.{separated-first, listed-first}
 
 -- ---- signs
 
-pub unary_phrase-is : (o : Op) (p : Phrase) → unary_phrase o p ≡ Signed (sign_of o) (fit (sign_level (sign_of o) + 1) p)
+pub unary_phrase-is : (o : Op) (p : Phrase90) → unary_phrase o p ≡ Signed (sign_of o) (fit (sign_level (sign_of o) + 1) p)
 unary_phrase-is Pow p = refl
 unary_phrase-is Mul p = refl
 unary_phrase-is Div p = refl
@@ -51,21 +51,21 @@ unary_phrase-is Neqv p = refl
 
 -- ---- lists of parts
 
-parts-more : (ps : Parts) (ss : List P.Subscript) → parts_text (more_parts ps (P.subscripts ss)) ≡ parts_text ps ++ flat_map (after_comma subscript_text) ss
+parts-more : (ps : ListParts) (ss : List P.Subscript) → parts_text (more_parts ps (P.subscripts ss)) ≡ parts_text ps ++ flat_map (after_comma subscript_text) ss
 parts-more ps [] = sym (append-nil (parts_text ps))
-parts-more ps (s ∷ ss) = parts-more (Then ps (part_of s)) ss ∙ append_assoc (parts_text ps) (comma ++ subscript_text s) (flat_map (after_comma subscript_text) ss)
+parts-more ps (s ∷ ss) = parts-more (Then ps (list_part_of s)) ss ∙ append_assoc (parts_text ps) (comma ++ subscript_text s) (flat_map (after_comma subscript_text) ss)
 
-arguments-more : (ps : Parts) (es : List P.Expression) → parts_text (more_arguments ps (P.expressions es)) ≡ parts_text ps ++ flat_map (after_comma expression_text) es
+arguments-more : (ps : ListParts) (es : List P.Expression) → parts_text (more_arguments ps (P.expressions es)) ≡ parts_text ps ++ flat_map (after_comma expression_text) es
 arguments-more ps [] = sym (append-nil (parts_text ps))
 arguments-more ps (e ∷ es) = arguments-more (Then ps (Value (phrase_of e))) es ∙ append_assoc (parts_text ps) (comma ++ expression_text e) (flat_map (after_comma expression_text) es)
 
-values-more : (ps : Phrases) (es : List P.Expression) → values_text (more_values ps (P.expressions es)) ≡ values_text ps ++ flat_map (after_comma expression_text) es
+values-more : (ps : Phrases90) (es : List P.Expression) → values_text (more_values ps (P.expressions es)) ≡ values_text ps ++ flat_map (after_comma expression_text) es
 values-more ps [] = sym (append-nil (values_text ps))
 values-more ps (e ∷ es) = values-more (More ps (phrase_of e)) es ∙ append_assoc (values_text ps) (comma ++ expression_text e) (flat_map (after_comma expression_text) es)
 
 pub named-text : (x : List ℕ) (ss : List P.Subscript) → expression_text (P.Named x (P.subscripts ss)) ≡ x ++ listed_text subscript_text ss
 named-text x [] = sym (append-nil x)
-named-text x (s ∷ ss) = ap (λ t. x ++ in_parentheses t) (parts-more (One (part_of s)) ss ∙ sym (separated-first subscript_text s ss))
+named-text x (s ∷ ss) = ap (λ t. x ++ in_parentheses t) (parts-more (One (list_part_of s)) ss ∙ sym (separated-first subscript_text s ss))
 
 pub apply-text : (f : Fun) (es : List P.Expression) → expression_text (P.Apply f (P.expressions es)) ≡ name_of_function f ++ listed_text expression_text es
 apply-text f [] = sym (append-nil (name_of_function f))
@@ -86,7 +86,7 @@ first_value-one e = refl
 pub first_value-none : phrase_text (first_value (list_of (P.expressions []))) ≡ truth_text false
 first_value-none = refl
 
-many_values : (ps : Phrases) (p : Phrase) (es : P.Expressions) → phrase_text (first_value (Some (more_values (More ps p) es))) ≡ truth_text false
+many_values : (ps : Phrases90) (p : Phrase90) (es : P.Expressions) → phrase_text (first_value (Some (more_values (More ps p) es))) ≡ truth_text false
 many_values ps p P.no_expressions = refl
 many_values ps p (P.expression e es) = many_values (More ps p) (phrase_of e) es
 
@@ -102,7 +102,7 @@ openings_before (suc n) t = ap (λ u. 40 ∷ u) (openings_before n t)
 round_joined : (t c l m : List ℕ) → (40 ∷ ((t ++ (c ++ l)) ++ 41 ∷ [])) ++ m ≡ 40 ∷ (t ++ ((c ++ (l ++ 41 ∷ [])) ++ m))
 round_joined t c l m = simp append_assoc
 
-rounds-text : (t : Turns) (ls : List ConstructorLoop) → turn_text (rounds t (loops ls)) ≡ replicate (length ls) 40 ++ (turn_text t ++ flat_map loop_end_text ls)
+rounds-text : (t : Turns) (ls : List ConstructorLoop) → turn_text (rounds t (constructor_loops ls)) ≡ replicate (length ls) 40 ++ (turn_text t ++ flat_map loop_end_text ls)
 rounds-text t [] = sym (append-nil (turn_text t))
 rounds-text t (l ∷ ls) =
     rounds-text (Round t l.variable (phrase_of l.first) (phrase_of l.last)) ls
@@ -112,10 +112,10 @@ rounds-text t (l ∷ ls) =
 looped_joined : (r f c l m e : List ℕ) → (r ++ ((40 ∷ ((f ++ (c ++ l)) ++ 41 ∷ [])) ++ m)) ++ e ≡ r ++ 40 ∷ (f ++ (((c ++ (l ++ 41 ∷ [])) ++ m) ++ e))
 looped_joined r f c l m e = simp append_assoc
 
-pub constructed-loops : (l : ConstructorLoop) (ls : List ConstructorLoop) (es : List P.Expression)
-    → phrase_text (constructed (loops (l ∷ ls)) (list_of (P.expressions es)))
+pub constructor_phrase-loops : (l : ConstructorLoop) (ls : List ConstructorLoop) (es : List P.Expression)
+    → phrase_text (constructor_phrase (constructor_loops (l ∷ ls)) (list_of (P.expressions es)))
     ≡ codes "(/ " ++ (replicate (length (l ∷ ls)) 40 ++ (phrase_text (first_value (list_of (P.expressions es))) ++ (flat_map loop_end_text (l ∷ ls) ++ codes " /)")))
-constructed-loops l ls es =
+constructor_phrase-loops l ls es =
     let p = first_value (list_of (P.expressions es)) in
     let t = loop_text l.variable (expression_text l.first) (expression_text l.last) in
     ap (λ u. codes "(/ " ++ (u ++ codes " /)")) (rounds-text (Innermost p l.variable (phrase_of l.first) (phrase_of l.last)) ls)
@@ -144,12 +144,12 @@ listed-parts s ss all h =
     ap (λ xs. listed_text subscript_text (map subscript_of xs)) (sym h) ∙ listed-first subscript_text (subscript_of s) (map subscript_of ss)
     ∙ ap (λ t. 40 ∷ t) (append_assoc (subscript_text (subscript_of s)) (flat_map (after_comma subscript_text) (map subscript_of ss)) (41 ∷ []))
 
-pub constructed-some : (ls : List Turn) (es : List P.Expression) → (ls ≡ [] → ⊥)
-    → phrase_text (constructed (loops (map loop_of ls)) (list_of (P.expressions es)))
+pub constructor_phrase-some : (ls : List Turn) (es : List P.Expression) → (ls ≡ [] → ⊥)
+    → phrase_text (constructor_phrase (constructor_loops (map loop_of ls)) (list_of (P.expressions es)))
     ≡ codes "(/ " ++ (replicate (length ls) 40 ++ (phrase_text (first_value (list_of (P.expressions es))) ++ (flat_map loop_end_text (map loop_of ls) ++ codes " /)")))
-constructed-some [] es h = absurd (h refl)
-constructed-some (l ∷ ls) es h =
-    constructed-loops (loop_of l) (map loop_of ls) es
+constructor_phrase-some [] es h = absurd (h refl)
+constructor_phrase-some (l ∷ ls) es h =
+    constructor_phrase-loops (loop_of l) (map loop_of ls) es
     ∙ ap (λ n. codes "(/ " ++ (40 ∷ (replicate n 40 ++ (phrase_text (first_value (list_of (P.expressions es))) ++ (flat_map loop_end_text (map loop_of (l ∷ ls)) ++ codes " /)"))))) (length-map ls loop_of)
 
 -- ---- the text of a tree of the program
@@ -180,7 +180,7 @@ pub call-text : (f : Fun) (es : Seq Expr)
 call-text f es = ap expression_text (expression_of-call f es) ∙ apply-text f (map expression_of es)
 
 pub list-text : (es : Seq Expr) (ls : Seq Turn)
-    → expression_text (expression_of (exprs.List es ls)) ≡ phrase_text (constructed (loops (map loop_of ls)) (list_of (P.expressions (map expression_of es))))
+    → expression_text (expression_of (exprs.List es ls)) ≡ phrase_text (constructor_phrase (constructor_loops (map loop_of ls)) (list_of (P.expressions (map expression_of es))))
 list-text es ls = ap expression_text (expression_of-list es ls)
 
 pub spread-text : (a : Box Expr Global) (d : ℕ) (n : Box Expr Global)
@@ -204,11 +204,11 @@ reduce-text r a = ap expression_text (expression_of-reduce r a)
 pub one-text : (e : Expr) → subscript_text (subscript_of (subs.One e)) ≡ expression_text (expression_of e)
 one-text e = ap subscript_text (subscript_of-one e)
 
-part_text-whole : (t : Bool) (a b c : Phrase) → t ≡ true → part_text (section t a b c) ≡ phrase_text a ++ (58 ∷ phrase_text b)
+part_text-whole : (t : Bool) (a b c : Phrase90) → t ≡ true → part_text (section_part t a b c) ≡ phrase_text a ++ (58 ∷ phrase_text b)
 part_text-whole true a b c e = refl
 part_text-whole false a b c e = cc
 
-part_text-strided : (t : Bool) (a b c : Phrase) → t ≡ false → part_text (section t a b c) ≡ phrase_text a ++ (58 ∷ (phrase_text b ++ (58 ∷ phrase_text c)))
+part_text-strided : (t : Bool) (a b c : Phrase90) → t ≡ false → part_text (section_part t a b c) ≡ phrase_text a ++ (58 ∷ (phrase_text b ++ (58 ∷ phrase_text c)))
 part_text-strided true a b c e = cc
 part_text-strided false a b c e = refl
 
@@ -230,9 +230,9 @@ pub ruleset expression_texts = (int-text, truth-text, item-text, list-text, one-
 
 -- ---- the root of an expression
 
-pub constructed-level : (ls : List ConstructorLoop) (es : List P.Expression) → level (phrase_of (P.Constructor (P.expressions es) (loops ls))) ≡ 10
-constructed-level [] [] = refl
-constructed-level [] (e ∷ es) = refl
-constructed-level (l ∷ ls) es = refl
+pub constructor_phrase-level : (ls : List ConstructorLoop) (es : List P.Expression) → phrase_level90 (phrase_of (P.Constructor (P.expressions es) (constructor_loops ls))) ≡ 10
+constructor_phrase-level [] [] = refl
+constructor_phrase-level [] (e ∷ es) = refl
+constructor_phrase-level (l ∷ ls) es = refl
 
-pub ruleset roots = (unary_phrase-is, constructed-level)
+pub ruleset roots = (unary_phrase-is, constructor_phrase-level)

@@ -8,8 +8,8 @@ use Rattle.tree.specs.declared.stmts.Item.TheVariants as variants
 use Rattle.tree.specs.Plain as P
 use Rattle.tree.specs.View.{expression_of, item_of}
 use Rattle.tree.proofs.Equations.{item_of-one, item_of-text, item_of-turns}
-use Rattle.f90_grammar.specs.Items.{ItemPhrases, Sole, More}
-use Rattle.f90_grammar.specs.Words.{doubled, doubled_one}
+use Rattle.f90_grammar.specs.Items.{ItemPhrases90, Sole, More}
+use Rattle.reading.specs.Characters.{doubled, doubled_one}
 use Rattle.f90_grammar.specs.Printing.{phrase_of}
 use Rattle.f90_grammar.specs.PrintedForms.{step_phrase, item_phrase, item_phrases, more_items}
 use Rattle.f90_grammar.specs.PrintedText.{expression_text, bounds_text, constant_text, item_text, items_text, comma}
@@ -26,7 +26,7 @@ pub turns-text : (is : Seq Item) (x : List ℕ) (a b c : Expr)
     ≡ codes "(" ++ (items_text (item_phrases (P.items (map item_of is))) ++ (codes ", " ++ (bounds_text x (phrase_of (expression_of a)) (phrase_of (expression_of b)) (step_phrase (expression_of c)) ++ codes ")")))
 turns-text is x a b c = ap (λ (i : P.Item). item_text (item_phrase i)) (item_of-turns is x a b c) ∙ simp append_assoc
 
-items-more : (ps : ItemPhrases) (is : List P.Item) → items_text (more_items ps (P.items is)) ≡ items_text ps ++ flat_map (after_comma (λ i. item_text (item_phrase i))) is
+items-more : (ps : ItemPhrases90) (is : List P.Item) → items_text (more_items ps (P.items is)) ≡ items_text ps ++ flat_map (after_comma (λ i. item_text (item_phrase i))) is
 items-more ps [] = sym (append-nil (items_text ps))
 items-more ps (i ∷ is) =
     items-more (More ps (item_phrase i)) is ∙ append_assoc (items_text ps) (comma ++ item_text (item_phrase i)) (flat_map (after_comma (λ i. item_text (item_phrase i))) is)

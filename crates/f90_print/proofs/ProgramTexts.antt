@@ -6,7 +6,7 @@ use Rattle.tree.specs.declared.programs.Program90.{Program90}
 use Rattle.tree.specs.Plain.{Declaration, Program}
 use Rattle.tree.specs.View.{declaration_of, block_of, program_of_90}
 use Rattle.f90_grammar.specs.Forms as forms
-use Rattle.f90_grammar.specs.PrintedForms.{Printed, unmarked, title_of, printed_declaration, printed_block, printed_program}
+use Rattle.f90_grammar.specs.PrintedForms.{Printed, unmarked, printed_title_of, printed_declaration, printed_block, printed_program}
 use Rattle.f90_grammar.specs.PrintedText.{with_line_feed, printed_lines, printed90}
 use Rattle.f90_print.specs.Texts.{lines_text, statement_lines, form_lines, printed_text, declaration_lines, block_text}
 
@@ -21,16 +21,16 @@ declarations-each (d ∷ ds) = ap (λ t. declaration_lines d ++ t) (declarations
 
 body-text : (p : Program)
     → flat_map printed_text (printed_program p)
-    ≡ form_lines (forms.Program (title_of p.name)) ++ (codes "IMPLICIT NONE\n" ++ (flat_map declaration_lines p.declarations ++ (block_text p.body ++ codes "END\n")))
+    ≡ form_lines (forms.Program (printed_title_of p.name)) ++ (codes "IMPLICIT NONE\n" ++ (flat_map declaration_lines p.declarations ++ (block_text p.body ++ codes "END\n")))
 unfolding statement_lines
 body-text p =
-    ap (λ t. form_lines (forms.Program (title_of p.name)) ++ (codes "IMPLICIT NONE\n" ++ t))
+    ap (λ t. form_lines (forms.Program (printed_title_of p.name)) ++ (codes "IMPLICIT NONE\n" ++ t))
     (flat_map-append printed_text (map printed_declaration p.declarations) (printed_block p.body ++ unmarked forms.End ∷ [])
     ∙ (λ i. declarations-each p.declarations i ++ flat_map-append printed_text (printed_block p.body) (unmarked forms.End ∷ []) i))
 
 pub program-text : (p : Program90) (notes : List (List ℕ))
     → printed90 (program_of_90 p) notes
-    ≡ lines_text notes ++ (form_lines (forms.Program (title_of p.name)) ++ (codes "IMPLICIT NONE\n"
+    ≡ lines_text notes ++ (form_lines (forms.Program (printed_title_of p.name)) ++ (codes "IMPLICIT NONE\n"
     ++ (flat_map declaration_lines (map declaration_of p.decls) ++ (block_text (block_of p.body) ++ codes "END\n"))))
 program-text p notes =
     flat_map-append with_line_feed notes (flat_map printed_lines (printed_program (program_of_90 p)))

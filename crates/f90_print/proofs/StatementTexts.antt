@@ -23,11 +23,11 @@ use Rattle.f90_print.specs.Texts.{lines_text, statement_lines, form_lines, print
 
 -- ---- one statement
 
-sole : (f : forms.Form) → flat_map printed_text (unmarked f ∷ []) ≡ form_lines f
+sole : (f : forms.Form90) → flat_map printed_text (unmarked f ∷ []) ≡ form_lines f
 unfolding statement_lines
 sole f = append-nil (form_lines f)
 
-marked : (m : Option Mark) (f : forms.Form) → printed_text (record { mark = m; form = f }) ++ [] ≡ lines_text (mark_lines m) ++ form_lines f
+marked : (m : Option Mark) (f : forms.Form90) → printed_text (record { mark = m; form = f }) ++ [] ≡ lines_text (mark_lines m) ++ form_lines f
 unfolding statement_lines
 marked m f = append-nil (printed_text (record { mark = m; form = f })) ∙ flat_map-append with_line_feed (mark_lines m) (lines_of_text (form_text f))
 

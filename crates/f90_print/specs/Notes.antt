@@ -5,8 +5,8 @@ use Rattle.tree.specs.declared.programs.Line.{Line}
 use Rattle.tree.specs.Plain.{Expression}
 use Rattle.tree.specs.View.{expression_of}
 
-abbrev pub text_of : Line → List ℕ
-text_of l = l.text
+abbrev pub line_text : Line → List ℕ
+line_text l = l.text
 
 abbrev pub guard_of : Option Expr → Option Expression
 guard_of None = None

@@ -5,15 +5,15 @@ use Rattle.tree.specs.View.{ConstructorLoop, Tested}
 use Rattle.tree.specs.declared.ops.Op.{Op}
 use Rattle.tree.specs.declared.ops.Op.TheVariants.{Not}
 use Rattle.tree.specs.OperatorTable.{Sign, Minus, Negation}
-use Rattle.f90_grammar.specs.Printing.{phrase_of, part_of, fit}
+use Rattle.f90_grammar.specs.Printing.{phrase_of, list_part_of, fit}
 use Rattle.f90_grammar.specs.PrintedText.{phrase_text, part_text, comma, expression_text, separated_text}
 use Rattle.f90_grammar.specs.PrintedText.{in_parentheses, loop_text, with_line_feed, lines_of_text, form_text}
 use Rattle.f90_grammar.specs.PrintedText.{printed_lines}
 use Rattle.f90_grammar.specs.PrintedForms.{Printed, printed_declaration, printed_statement, printed_block, printed_else}
-use Rattle.f90_grammar.specs.Forms.{Form, ElseIf}
+use Rattle.f90_grammar.specs.Forms.{Form90, ElseIf}
 
 abbrev pub subscript_text : Subscript → List ℕ
-subscript_text s = part_text (part_of s)
+subscript_text s = part_text (list_part_of s)
 
 -- what an operator with one operand is written as
 abbrev pub sign_of : Op → Sign
@@ -45,7 +45,7 @@ lines_text lines = flat_map with_line_feed lines
 unfoldable pub statement_lines : List ℕ → List ℕ
 statement_lines t = lines_text (lines_of_text t)
 
-abbrev pub form_lines : Form → List ℕ
+abbrev pub form_lines : Form90 → List ℕ
 form_lines f = statement_lines (form_text f)
 
 abbrev pub printed_text : Printed → List ℕ

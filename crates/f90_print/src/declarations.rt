@@ -1,7 +1,8 @@
 //! The text of declarations (ISO/IEC 1539:1991, section 5.1).
 ghost use Rattle.std.specs.Prelude.{◌≡◌, ◌++◌, OnOk, map, flat_map, replicate};
 ghost use Rattle.tree.specs.View.{bounds_of, extent_of, declaration_of};
-ghost use Rattle.f90_grammar.specs.Forms.{Deferred, keyword_of};
+ghost use Rattle.f90_grammar.specs.Forms.{Deferred};
+ghost use Rattle.reading.specs.Characters.{keyword_of};
 ghost use Rattle.f90_grammar.specs.PrintedForms.{bound, dimension, dimensions_of, is_allocatable};
 ghost use Rattle.f90_grammar.specs.PrintedText.{bound_text, dimension_text, dimensions_text, attribute_text};
 ghost use Rattle.f90_print.specs.Texts.{declaration_lines};

@@ -2,7 +2,7 @@
 ghost use Rattle.std.specs.Prelude.{◌≡◌, ◌++◌, OnOk, map, flat_map, replicate};
 ghost use Rattle.tree.specs.Plain.{expressions};
 ghost use Rattle.tree.specs.View.{expression_of, subscript_of, reference_of, loop_of};
-ghost use Rattle.f90_grammar.specs.Phrases.{level};
+ghost use Rattle.f90_grammar.specs.Phrases.{phrase_level90};
 ghost use Rattle.f90_grammar.specs.Printing.{phrase_of, is_one, list_of, values, first_value};
 ghost use Rattle.f90_grammar.specs.PrintedForms.{reference_phrase};
 ghost use Rattle.f90_grammar.specs.PrintedText.{phrase_text, expression_text, separated_text, sign_text};
@@ -43,7 +43,7 @@ fn sign_level(op: Op) -> u8
 // How tightly the expression's outermost operator binds; what has none binds more tightly than any operator.
 #[tactic(auto, using(tree::proofs::Equations::expression_equations, crate::proofs::ExpressionTexts::roots))]
 fn level(e: &Expr) -> u8
-    ensures { result ≡ level (phrase_of (expression_of e.now)) }
+    ensures { result ≡ phrase_level90 (phrase_of (expression_of e.now)) }
 {
     match e {
         Expr::Un(op, _) => sign_level(*op),

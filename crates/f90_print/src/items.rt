@@ -5,7 +5,7 @@ ghost use Rattle.tree.specs.View.{expression_of, item_of};
 ghost use Rattle.f90_grammar.specs.Printing.{phrase_of};
 ghost use Rattle.f90_grammar.specs.PrintedForms.{step_phrase, item_phrase, item_phrases};
 ghost use Rattle.f90_grammar.specs.PrintedText.{step_text, bounds_text, constant_text, item_text, items_text};
-ghost use Rattle.f90_grammar.specs.Words.{doubled};
+ghost use Rattle.reading.specs.Characters.{doubled};
 
 use crate::expressions::{is_one, print_expression};
 use crate::texts::push;

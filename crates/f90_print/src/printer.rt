@@ -2,10 +2,10 @@
 ghost use Rattle.std.specs.Prelude.{◌≡◌, ◌++◌, IfOk, OnOk, map, option_copied};
 ghost use Rattle.tree.specs.View.{expression_of, reference_of, program_of_90};
 ghost use Rattle.f90_grammar.specs.Forms as forms;
-ghost use Rattle.f90_grammar.specs.PrintedForms.{title_of};
+ghost use Rattle.f90_grammar.specs.PrintedForms.{printed_title_of};
 ghost use Rattle.f90_grammar.specs.PrintedText.{printed90, expression_text, guard_text, guarded_assignment_text};
 ghost use Rattle.f90_print.specs.Texts.{lines_text, form_lines};
-ghost use Rattle.f90_print.specs.Notes.{text_of, guard_of};
+ghost use Rattle.f90_print.specs.Notes.{line_text, guard_of};
 
 use crate::declarations::print_declarations;
 use crate::expressions::print_expression;
@@ -17,7 +17,7 @@ use std::alloc::Global;
 use tree::{Expr, Line, Memory, Name, Program90, Ref, Seq};
 
 fn print_notes(out: &mut Vec<u8>, notes: &[Line]) -> Result<(), Memory>
-    ensures { OnOk result (out.new.items ≡ out.old.items ++ lines_text (map text_of notes.now)) }
+    ensures { OnOk result (out.new.items ≡ out.old.items ++ lines_text (map line_text notes.now)) }
 {
     for note in notes {
         push(out, note.text.as_slice())?;
@@ -28,7 +28,7 @@ fn print_notes(out: &mut Vec<u8>, notes: &[Line]) -> Result<(), Memory>
 
 // A program without a name gets one.
 fn push_title(text: &mut Vec<u8>, name: Option<Name>) -> Result<(), Memory>
-    ensures { OnOk result (text.new.items ≡ text.old.items ++ title_of name) }
+    ensures { OnOk result (text.new.items ≡ text.old.items ++ printed_title_of name) }
 {
     match name {
         None => push(text, b"FV_PROGRAM"),
@@ -37,7 +37,7 @@ fn push_title(text: &mut Vec<u8>, name: Option<Name>) -> Result<(), Memory>
 }
 
 fn print_title(out: &mut Vec<u8>, line: &mut Vec<u8>, name: Option<Name>) -> Result<(), Memory>
-    ensures { OnOk result (out.new.items ≡ out.old.items ++ form_lines (forms.Program (title_of name))) }
+    ensures { OnOk result (out.new.items ≡ out.old.items ++ form_lines (forms.Program (printed_title_of name))) }
 {
     line.clear();
     push(line, b"PROGRAM ")?;
@@ -50,7 +50,7 @@ fn print_title(out: &mut Vec<u8>, line: &mut Vec<u8>, name: Option<Name>) -> Res
 /// A statement of more than 130 characters is continued. What no text of Fortran 90 has, such as an IF without an
 /// arm or a literal below 0, is printed too, as the definition has it, but isn't read back as itself.
 pub fn print90(alloc: Global, p: &Program90, notes: &Seq<Line>) -> Result<Vec<u8>, Memory>
-    ensures { IfOk result (λ text. text.items ≡ printed90 (program_of_90 p.now) (map text_of notes.now)) }
+    ensures { IfOk result (λ text. text.items ≡ printed90 (program_of_90 p.now) (map line_text notes.now)) }
 {
     let mut out = Vec::new(alloc);
     let mut line = Vec::new(alloc);

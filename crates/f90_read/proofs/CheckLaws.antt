@@ -14,14 +14,14 @@ use Rattle.tree.specs.declared.refusals.Refusal.{Refusal}
 use Rattle.tree.specs.declared.refusals.Refused.{Refused}
 use Rattle.tree.specs.declared.refusals.Refused.TheVariants as refused
 use Rattle.f90_grammar.specs.Blocks.{Placed}
-use Rattle.f90_grammar.specs.Bounds.{PassesLimit, HasManyNames, HasBounds, opens_block, declared_up_to}
+use Rattle.f90_grammar.specs.Bounds.{PassesLimit, HasManyNames, HasBounds, opens_block90, declared_up_to}
 use Rattle.f90_grammar.specs.Bounds.PassesLimit.{OfBlocks, OfBounds, OfElements}
 use Rattle.f90_grammar.specs.Declared.{declarations_in}
-use Rattle.f90_grammar.specs.Order.{Place, IsPlaceIn, IsInOrder, is_nothing, is_disordered, blocks_round}
+use Rattle.f90_grammar.specs.Order.{Place90, IsPlaceIn, IsInOrder, is_nothing90, is_disordered, blocks_round}
 use Rattle.f90_grammar.specs.Reading.{AreStatementsOf}
 use Rattle.f90_grammar.specs.Refusals.{HoldsAt, IsRefusable, Refused90, PassesNames}
 use Rattle.f90_grammar.specs.Refusals.HoldsIn.{HasNoStatement, IsWrongInBlocks}
-use Rattle.f90_grammar.specs.Refusals.HasCause.{InStatements}
+use Rattle.f90_grammar.specs.Refusals.HasCause90.{InStatements}
 use Rattle.f90_grammar.specs.Refusals.IsRefusable.{For, ForNames}
 use Rattle.f90_laws.specs.blocks.Places.{IsWrongAt}
 use Rattle.f90_laws.proofs.blocks.Misplaced.{misplaced_at_place}
@@ -42,21 +42,21 @@ nowhere_in : (front back : List Placed) (p : Placed) → [] ≡ front ++ p ∷ b
 nowhere_in [] back p e = cc
 nowhere_in (q ∷ front) back p e = cc
 
-no_place : (ps : List Placed) (p : Place) → ps ≡ [] → IsPlaceIn ps p → ⊥
+no_place : (ps : List Placed) (p : Place90) → ps ≡ [] → IsPlaceIn ps p → ⊥
 no_place ps p e i = nowhere_in p.before p.after p.here (sym e ∙ i)
 
 -- ---- what passes a limit
 
-abbrev pub IsDeepBlock : Place → Type 0
-IsDeepBlock p = IsTrue (opens_block p.here.form && nat_le limits.block_depth90 (length (blocks_round p)))
+abbrev pub IsDeepBlock : Place90 → Type 0
+IsDeepBlock p = IsTrue (opens_block90 p.here.form && nat_le limits.block_depth90 (length (blocks_round p)))
 
-abbrev pub IsBeyondBounds : Place → Type 0
+abbrev pub IsBeyondBounds : Place90 → Type 0
 IsBeyondBounds p = AllByRecursion HasBounds (declarations_in p.here.form) → ⊥
 
-abbrev pub IsBeyondElements : Place → Type 0
-IsBeyondElements p = limits.array_elements < all_elements (declared_up_to p)
+abbrev pub IsBeyondElements : Place90 → Type 0
+IsBeyondElements p = limits.most_array_elements < all_elements (declared_up_to p)
 
-abbrev pub IsBeyond : Place → Type 0
+abbrev pub IsBeyond : Place90 → Type 0
 IsBeyond p = ((IsDeepBlock p ⊎ IsBeyondBounds p) ⊎ IsBeyondElements p) ⊎ HasManyNames p
 
 module _ (text : List ℕ) (ps : List Placed) (t : AreStatementsOf text ps) where
@@ -96,7 +96,7 @@ module _ (text : List ℕ) (ps : List Placed) (t : AreStatementsOf text ps) wher
 
   -- ---- the order of statements
 
-  abbrev Disordered : Place → Type 0
+  abbrev Disordered : Place90 → Type 0
   Disordered p = IsTrue (is_disordered ps p)
 
   refusable_nothing : ps ≡ [] → IsRefusable text (refusal_at Structure 0)
@@ -105,7 +105,7 @@ module _ (text : List ℕ) (ps : List Placed) (t : AreStatementsOf text ps) wher
   by_nothing : (r : Refusal) → ps ≡ [] → IsShown ps r → r ≡ refusal_at Structure 0
   by_nothing r e (ShownAt d p i h f) = absurd (no_place ps p e i)
   by_nothing r e (ShownByNothing i f) = f
-  by_nothing r e (ShownInBlocks line o m f) = absurd (let k : true ≡ false = sym (ap is_nothing e) ∙ o.some in cc)
+  by_nothing r e (ShownInBlocks line o m f) = absurd (let k : true ≡ false = sym (ap is_nothing90 e) ∙ o.some in cc)
   by_nothing r e (ShownByNames p i m f) = absurd (no_place ps p e i)
 
   pub nothing : IsClearBelow text 37 → ps ≡ [] → Refused90 text (refusal_at Structure 0)
@@ -121,7 +121,7 @@ module _ (text : List ℕ) (ps : List Placed) (t : AreStatementsOf text ps) wher
                 omega (arith, w),
           )
 
-  disordered : (q : Place) → IsPlaceIn ps q → Disordered q → AreOfPlaces text ps Structure Disordered
+  disordered : (q : Place90) → IsPlaceIn ps q → Disordered q → AreOfPlaces text ps Structure Disordered
   disordered q j d r h n = by (shown text ps r t h (omega (arith, n)))
     where
       by : IsShown ps r → IsOfPlace ps Structure Disordered r
@@ -142,7 +142,7 @@ module _ (text : List ℕ) (ps : List Placed) (t : AreStatementsOf text ps) wher
     misplaced_by r n (ShownAt c p i k e) =
         let f = of_cause text ps Structure c p r i k e tt n in
         absurd (let b : true ≡ false = sym f.holds ∙ is_order.none f.place f.in_text in cc)
-    misplaced_by r n (ShownByNothing e f) = absurd (let b : true ≡ false = sym (ap is_nothing e) ∙ is_order.some in cc)
+    misplaced_by r n (ShownByNothing e f) = absurd (let b : true ≡ false = sym (ap is_nothing90 e) ∙ is_order.some in cc)
     misplaced_by r n (ShownInBlocks line o m e) =
         let w = (misplaced_at_place text ps line t o).0 m in
         record { place = w.0; in_text = w.1; holds = w.2; refusal = e ∙ ap (λ (l : ℕ). refusal_at Structure l) w.3 }
@@ -161,7 +161,7 @@ module _ (text : List ℕ) (ps : List Placed) (t : AreStatementsOf text ps) wher
         cleared text ps 37 Structure (IsWrongAt ps) refl clear
         (λ r k n. misplaced_by r n (shown text ps r t k (omega (arith, n)))) o t refuse_misplaced h
 
-  pub are_ordered : (ps ≡ [] → ⊥) → ((p : Place) → IsPlaceIn ps p → Disordered p → ⊥) → IsInOrder ps
+  pub are_ordered : (ps ≡ [] → ⊥) → ((p : Place90) → IsPlaceIn ps p → Disordered p → ⊥) → IsInOrder ps
   are_ordered some none = record {
     some = some_statement ps some;
     none =
@@ -170,7 +170,7 @@ module _ (text : List ℕ) (ps : List Placed) (t : AreStatementsOf text ps) wher
 
   -- ---- limits
 
-  beyond_by : (p : Place) → PassesLimit p → IsBeyond p
+  beyond_by : (p : Place90) → PassesLimit p → IsBeyond p
   beyond_by p (OfBlocks h) = inl (inl (inl h))
   beyond_by p (OfBounds h) = inl (inl (inr h))
   beyond_by p (OfElements h) = inl (inr h)
@@ -185,10 +185,10 @@ module _ (text : List ℕ) (ps : List Placed) (t : AreStatementsOf text ps) wher
       omega arith)
   limited_by r n (ShownByNames p i m e) = record { place = p; in_text = i; holds = inr m; refusal = e }
 
-  passes_names : (p : Place) → IsPlaceIn ps p → HasManyNames p → PassesNames text p.here.line
+  passes_names : (p : Place90) → IsPlaceIn ps p → HasManyNames p → PassesNames text p.here.line
   passes_names p i h = record { statements = ps; of_text = t; place = p; in_text = i; many = h; line_is = refl }
 
-  refuse_limit : (p : Place) → IsPlaceIn ps p → PassesLimit p → IsRefusable text (refusal_at Limit90 p.here.line)
+  refuse_limit : (p : Place90) → IsPlaceIn ps p → PassesLimit p → IsRefusable text (refusal_at Limit90 p.here.line)
   refuse_limit p i h = refuses text ps Limit90 t p i h
 
   refuse_beyond : Refuse text ps Limit90 IsBeyond
@@ -225,7 +225,7 @@ some_held (k ∷ ks) (p ∷ ps) n a e = cc
 -- ---- the refusal at a place
 
 -- where the first place is found, the refusal is for it
-pub first_refused : {A : Type 0} (ps : List Placed) (c : Cause) (Holds : Place → Type 0) (found : Option ℕ)
+pub first_refused : {A : Type 0} (ps : List Placed) (c : Cause) (Holds : Place90 → Type 0) (found : Option ℕ)
     (o : Result A Refused) → RefusesAt ps c found o
     → FindsFirst ps Holds found → RefusesFirst ps c Holds o
 first_refused ps c Holds None (Ok x) h f = f
@@ -242,7 +242,7 @@ first_refused ps c Holds (Some n) (Err e) h f = subst (λ (d : Refused). IfRefus
 
 -- ---- the first of two things
 
-pub first_of_either : (ps : List Placed) (F G : Place → Type 0) (a b found : Option ℕ) → found ≡ earlier a b
+pub first_of_either : (ps : List Placed) (F G : Place90 → Type 0) (a b found : Option ℕ) → found ≡ earlier a b
     → FindsFirst ps F a → FindsFirst ps G b
     → FindsFirst ps (λ p. F p ⊎ G p) found
 first_of_either ps F G a b found e f g = subst (FindsFirst ps (λ p. F p ⊎ G p)) (sym e) (first_of_two ps F G a b f g)

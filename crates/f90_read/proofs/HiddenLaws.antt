@@ -13,7 +13,7 @@ use Rattle.meaning.specs.Names.{is_among}
 use Rattle.f90_grammar.specs.Blocks as grammar
 use Rattle.f90_grammar.specs.Declared.{declarations_of, declarations_in}
 use Rattle.f90_grammar.specs.Forms as forms
-use Rattle.f90_grammar.specs.Forms.{Form}
+use Rattle.f90_grammar.specs.Forms.{Form90}
 use Rattle.f90_grammar.specs.Reading.{declares, entity_declaration}
 use Rattle.f90_trees.specs.declared.functions.Functions.{Functions}
 use Rattle.f90_statement.specs.Views.{AreOf, IsEntityOf, IsStatementOf}
@@ -53,7 +53,7 @@ turned x y =
     told_alike (bytes_eq x y) (bytes_eq y x) (λ e. (bytes_eq-Decides y x).1 (sym ((bytes_eq-Decides x y).0 e)))
     (λ e. (bytes_eq-Decides x y).1 (sym ((bytes_eq-Decides y x).0 e)))
 
-entities_declare : (k : Kind) (a : Bool) (es : List Entity) (gs : List forms.Entity) (x : List ℕ)
+entities_declare : (k : Kind) (a : Bool) (es : List Entity) (gs : List forms.EntityForm90) (x : List ℕ)
     → AreOf IsEntityOf es gs
     → is_among (names_of es) x ≡ declares (map (entity_declaration k a) gs) x
 entities_declare k a [] [] x h = refl
@@ -67,7 +67,7 @@ no_names : (s : Statement) → is_declaration s ≡ false → declared_by (Some 
 no_names (Declare k a es) n = cc
 no_names s n = refl
 
-statement_declares : (s : Statement) (f : Form) (x : List ℕ) → IsStatementOf s f
+statement_declares : (s : Statement) (f : Form90) (x : List ℕ) → IsStatementOf s f
     → is_among (declared_by (Some s)) x ≡ declares (declarations_in f) x
 statement_declares (Declare k a es) (forms.Declare l b gs) x h = entities_declare l b es gs x h.2
 statement_declares (Declare k a es) f x h = absurd h

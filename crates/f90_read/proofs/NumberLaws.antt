@@ -13,12 +13,12 @@ use Rattle.tree.specs.declared.refusals.Refused.TheVariants as refused
 use Rattle.f90_grammar.specs.Blocks.{Placed}
 use Rattle.f90_grammar.specs.LineCauses.{HasLineCause}
 use Rattle.f90_grammar.specs.LineCauses.HasLineCause.{HoldsBadByte, IsLong, EndsWithin}
-use Rattle.f90_grammar.specs.Order.{Place, IsPlaceIn, IsInOrder}
+use Rattle.f90_grammar.specs.Order.{Place90, IsPlaceIn, IsInOrder}
 use Rattle.f90_grammar.specs.Bounds.{HasManyNames}
 use Rattle.f90_grammar.specs.Reading.{AreStatementsOf}
 use Rattle.f90_grammar.specs.Refusals.{HoldsAt, HoldsIn, PassesNames, IsRefusable, Refused90}
 use Rattle.f90_grammar.specs.Refusals.HoldsIn.{AtPlace, HasNoStatement, IsWrongInBlocks}
-use Rattle.f90_grammar.specs.Refusals.HasCause.{InLines, InWords, InStatements}
+use Rattle.f90_grammar.specs.Refusals.HasCause90.{InLines, InWords, InStatements}
 use Rattle.f90_grammar.specs.Refusals.IsRefusable.{For, ForNames}
 use Rattle.f90_grammar.specs.Surroundings.{IsMisplaced}
 use Rattle.f90_laws.proofs.unique.Lines.{one_text}
@@ -29,18 +29,18 @@ use Rattle.f90_read.specs.Checks.{IfRefusal, IsClearBelow, Clears}
 -- ---- the first place at which something holds
 
 -- the refusal is for the cause, at the first place at which something holds
-pub record IsRefusedFirst (ps : List Placed) (c : Cause) (Holds : Place → Type 0) (r : Refusal)
+pub record IsRefusedFirst (ps : List Placed) (c : Cause) (Holds : Place90 → Type 0) (r : Refusal)
     : Type 0 where
-  pub place : Place
+  pub place : Place90
   pub in_text : IsPlaceIn ps place
   pub holds : Holds place
-  pub first : (other : Place) → IsPlaceIn ps other → Holds other → length place.before ≤ length other.before
+  pub first : (other : Place90) → IsPlaceIn ps other → Holds other → length place.before ≤ length other.before
   pub refusal : r ≡ refusal_at c place.here.line
 
 -- it holds at no place, or is refused so
-abbrev pub RefusesFirst : {A : Type 0} → List Placed → Cause → (Place → Type 0) → Result A Refused
+abbrev pub RefusesFirst : {A : Type 0} → List Placed → Cause → (Place90 → Type 0) → Result A Refused
     → Type 0
-RefusesFirst ps c Holds (Ok x) = (p : Place) → IsPlaceIn ps p → Holds p → ⊥
+RefusesFirst ps c Holds (Ok x) = (p : Place90) → IsPlaceIn ps p → Holds p → ⊥
 RefusesFirst ps c Holds (Err e) = IfRefusal e (IsRefusedFirst ps c Holds)
 
 -- ---- causes that are asked at places
@@ -54,7 +54,7 @@ IsOfPlaces TypeClash90 = Unit {0}
 IsOfPlaces Limit90 = Unit {0}
 IsOfPlaces _ = ⊥
 
-pub of_places : (c : Cause) (ps : List Placed) (p : Place) → HoldsAt c ps p → IsOfPlaces c
+pub of_places : (c : Cause) (ps : List Placed) (p : Place90) → HoldsAt c ps p → IsOfPlaces c
 of_places WideLiteral90 ps p h = tt
 of_places Deep90 ps p h = tt
 of_places Structure ps p h = tt
@@ -84,10 +84,10 @@ same_cause c d h g e = sym (told c h) ∙ (ap cause_with e ∙ told d g)
 -- ---- what a refusal of a text with statements says
 
 pub data IsShown (ps : List Placed) (r : Refusal) : Type 0 where
-  ShownAt : (c : Cause) (p : Place) → IsPlaceIn ps p → HoldsAt c ps p → r ≡ refusal_at c p.here.line → IsShown ps r
+  ShownAt : (c : Cause) (p : Place90) → IsPlaceIn ps p → HoldsAt c ps p → r ≡ refusal_at c p.here.line → IsShown ps r
   ShownByNothing : ps ≡ [] → r ≡ refusal_at Structure 0 → IsShown ps r
   ShownInBlocks : (line : ℕ) → IsInOrder ps → IsMisplaced ps line → r ≡ refusal_at Structure line → IsShown ps r
-  ShownByNames : (p : Place) → IsPlaceIn ps p → HasManyNames p → r ≡ refusal_at Limit90 p.here.line → IsShown ps r
+  ShownByNames : (p : Place90) → IsPlaceIn ps p → HasManyNames p → r ≡ refusal_at Limit90 p.here.line → IsShown ps r
 
 line_number : (text : List ℕ) (r : Refusal) → HasLineCause text r → r.number < 35
 line_number text r (HoldsBadByte front back p s e a i b) = let k : 31 < 35 = omega arith in k
@@ -118,21 +118,21 @@ shown text ps r t (ForNames line h) l = shown_by_names text ps line t h
 -- ---- a cause, and something that holds at places where it does
 
 -- the refusal is for the cause at a place where it holds
-pub record IsOfPlace (ps : List Placed) (c : Cause) (Holds : Place → Type 0) (r : Refusal) : Type 0 where
-  pub place : Place
+pub record IsOfPlace (ps : List Placed) (c : Cause) (Holds : Place90 → Type 0) (r : Refusal) : Type 0 where
+  pub place : Place90
   pub in_text : IsPlaceIn ps place
   pub holds : Holds place
   pub refusal : r ≡ refusal_at c place.here.line
 
 -- each refusal with the number is for the cause, at a place where it holds
-abbrev pub AreOfPlaces : List ℕ → List Placed → Cause → (Place → Type 0) → Type 0
+abbrev pub AreOfPlaces : List ℕ → List Placed → Cause → (Place90 → Type 0) → Type 0
 AreOfPlaces text ps c Holds = (r : Refusal) → IsRefusable text r → r.number ≡ number_of_cause c → IsOfPlace ps c Holds r
 
-abbrev pub Refuse : List ℕ → List Placed → Cause → (Place → Type 0) → Type 0
-Refuse text ps c Holds = (p : Place) → IsPlaceIn ps p → Holds p → IsRefusable text (refusal_at c p.here.line)
+abbrev pub Refuse : List ℕ → List Placed → Cause → (Place90 → Type 0) → Type 0
+Refuse text ps c Holds = (p : Place90) → IsPlaceIn ps p → Holds p → IsRefusable text (refusal_at c p.here.line)
 
 -- at a place the refusal is one for the cause, where nothing else has its number
-pub of_cause : (text : List ℕ) (ps : List Placed) (c d : Cause) (p : Place) (r : Refusal) → IsPlaceIn ps p
+pub of_cause : (text : List ℕ) (ps : List Placed) (c d : Cause) (p : Place90) (r : Refusal) → IsPlaceIn ps p
     → HoldsAt d ps p → r ≡ refusal_at d p.here.line → IsOfPlaces c → r.number ≡ number_of_cause c
     → IsOfPlace ps c (HoldsAt c ps) r
 of_cause text ps c d p r i h e o n =
@@ -161,9 +161,9 @@ refuses text ps c t p i h = For (refusal_at c p.here.line) (InStatements ps c p.
 
 -- ---- one number
 
-module _ (text : List ℕ) (ps : List Placed) (n : ℕ) (c : Cause) (Holds : Place → Type 0)
+module _ (text : List ℕ) (ps : List Placed) (n : ℕ) (c : Cause) (Holds : Place90 → Type 0)
     (is_number : n ≡ number_of_cause c) (clear : IsClearBelow text n) (of : AreOfPlaces text ps c Holds) where
-  pub clear_more : ((p : Place) → IsPlaceIn ps p → Holds p → ⊥) → IsClearBelow text (n + 1)
+  pub clear_more : ((p : Place90) → IsPlaceIn ps p → Holds p → ⊥) → IsClearBelow text (n + 1)
   clear_more none r h = ⊎_elim (λ (l : n < r.number). omega (arith, l)) (λ (l : r.number ≤ n). absurd (equal l))
       (cases_lt n r.number)
     where
@@ -174,7 +174,7 @@ module _ (text : List ℕ) (ps : List Placed) (n : ℕ) (c : Cause) (Holds : Pla
           let f = of r h (e ∙ is_number) in
           none f.place f.in_text f.holds
 
-  follows : (p q : Place) (other : Refusal) → AreStatementsOf text ps → IsPlaceIn ps p → IsPlaceIn ps q
+  follows : (p q : Place90) (other : Refusal) → AreStatementsOf text ps → IsPlaceIn ps p → IsPlaceIn ps q
       → length p.before ≤ length q.before
       → other ≡ refusal_at c q.here.line → FollowsIn (refusal_at c p.here.line) other
   follows p q other t i j l e same =
@@ -184,7 +184,7 @@ module _ (text : List ℕ) (ps : List Placed) (n : ℕ) (c : Cause) (Holds : Pla
       inl (omega (arith, g, line)))
       (λ (k : length q.before ≤ length p.before).
       let s : length p.before ≡ length q.before = omega (arith, l, k) in
-      inr (ap (λ (x : Place). x.here.line) (same_place ps p q i j s) ∙ line, omega (arith, word)))
+      inr (ap (λ (x : Place90). x.here.line) (same_place ps p q i j s) ∙ line, omega (arith, word)))
       (cases_lt (length p.before) (length q.before))
 
   pub answered : AreStatementsOf text ps → Refuse text ps c Holds → (r : Refusal) → IsRefusedFirst ps c Holds r
@@ -210,6 +210,6 @@ module _ (text : List ℕ) (ps : List Placed) (n : ℕ) (c : Cause) (Holds : Pla
 
 pub holds_nowhere : (text : List ℕ) (ps : List Placed) (n : ℕ) (c : Cause) → AreStatementsOf text ps
     → IsClearBelow text n → number_of_cause c < n
-    → (p : Place) → IsPlaceIn ps p → HoldsAt c ps p → ⊥
+    → (p : Place90) → IsPlaceIn ps p → HoldsAt c ps p → ⊥
 holds_nowhere text ps n c t clear l p i h = let k = clear (refusal_at c p.here.line) (refuses text ps c t p i h) in
     omega (arith, k, l)

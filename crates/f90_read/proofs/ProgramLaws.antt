@@ -11,18 +11,18 @@ use Rattle.tree.specs.Plain.{Declaration, Program, Block}
 use Rattle.tree.specs.declared.functions.Intrinsic.{Intrinsic}
 use Rattle.tree.specs.declared.refusals.Cause.TheVariants.{Structure, Declared90, Limit90}
 use Rattle.meaning.specs.Blocks.{Surroundings}
-use Rattle.f90_grammar.specs.Blocks.{Placed, AreBlock}
+use Rattle.f90_grammar.specs.Blocks.{Placed, AreBlock90}
 use Rattle.f90_grammar.specs.Bounds.PassesLimit.{OfBounds}
 use Rattle.f90_grammar.specs.Declared.{declarations_of, functions_in}
 use Rattle.f90_grammar.specs.Forms as forms
-use Rattle.f90_grammar.specs.Forms.{Form}
-use Rattle.f90_grammar.specs.Order.{Place, IsPlaceIn, IsInOrder, is_executable, title_of}
+use Rattle.f90_grammar.specs.Forms.{Form90}
+use Rattle.f90_grammar.specs.Order.{Place90, IsPlaceIn, IsInOrder, is_executable90, title_in_text}
 use Rattle.f90_grammar.specs.Phrases.{value_of_digits}
 use Rattle.f90_grammar.specs.Reading.{AreStatementsOf, is_target_in}
 use Rattle.f90_grammar.specs.Programs.{IsProgramOf}
 use Rattle.f90_grammar.specs.Surroundings.{AreBody}
 use Rattle.f90_grammar.specs.Refusals.HoldsIn.{IsWrongInBlocks}
-use Rattle.f90_grammar.specs.Refusals.HasCause.{InStatements}
+use Rattle.f90_grammar.specs.Refusals.HasCause90.{InStatements}
 use Rattle.f90_grammar.specs.Refusals.IsRefusable.{For}
 use Rattle.f90_laws.specs.blocks.Blocks.{goes_to, name_target}
 use Rattle.f90_laws.specs.blocks.Places.{SuitsPlace, surroundings_of, IsWrongAt}
@@ -38,12 +38,12 @@ use Rattle.f90_read.proofs.StatementLaws.{at_place, marked, in_order, not_true}
 
 -- ---- labels that are named
 
-executables_name : (ps : List Placed) (n : ℕ) → name_target (filter (λ (p : Placed). is_executable p.form) ps)
+executables_name : (ps : List Placed) (n : ℕ) → name_target (filter (λ (p : Placed). is_executable90 p.form) ps)
     n ≡ name_target ps n
 executables_name [] n = refl
-executables_name (p ∷ ps) n = by (is_executable p.form) refl (executables_name ps n)
+executables_name (p ∷ ps) n = by (is_executable90 p.form) refl (executables_name ps n)
   where
-    idle : (f : Form) → is_executable f ≡ false → goes_to n f ≡ false
+    idle : (f : Form90) → is_executable90 f ≡ false → goes_to n f ≡ false
     idle (forms.Program x) e = refl
     idle forms.ImplicitNone e = refl
     idle (forms.Declare k a es) e = refl
@@ -51,17 +51,17 @@ executables_name (p ∷ ps) n = by (is_executable p.form) refl (executables_name
     idle (forms.EndProgram x) e = refl
     idle f e = absurd (cc)
 
-    by : (b : Bool) → is_executable p.form ≡ b → name_target (filter (λ (p : Placed). is_executable p.form) ps)
+    by : (b : Bool) → is_executable90 p.form ≡ b → name_target (filter (λ (p : Placed). is_executable90 p.form) ps)
         n ≡ name_target ps n
-        → name_target (cond b (p ∷ filter (λ (p : Placed). is_executable p.form) ps)
-        (filter (λ (p : Placed). is_executable p.form) ps)) n ≡ name_target (p ∷ ps) n
+        → name_target (cond b (p ∷ filter (λ (p : Placed). is_executable90 p.form) ps)
+        (filter (λ (p : Placed). is_executable90 p.form) ps)) n ≡ name_target (p ∷ ps) n
     by true e h = ap (λ b. goes_to n p.form || b) h
     by false e h = h ∙ sym (ap (λ b. b || name_target ps n) (idle p.form e))
 
 not_zero : (v : ℕ) → (0 == v) ≡ true → 0 < v → ⊥
 not_zero v e l = grind (arith, nat_tests)
 
-no_zero : (ds : List Declaration) (function : List ℕ → Option Intrinsic) (f : Form) (w : Surroundings)
+no_zero : (ds : List Declaration) (function : List ℕ → Option Intrinsic) (f : Form90) (w : Surroundings)
     → goes_to 0 f ≡ true → SuitsPlace ds function f w → ⊥
 no_zero ds function (forms.Go label) w e s = not_zero (value_of_digits label) e s.0
 no_zero ds function (forms.Test p f) w e s = no_zero ds function f w e s
@@ -90,7 +90,7 @@ module _ (text : List ℕ) (ps : List Placed) (t : AreStatementsOf text ps) (cle
   pub marks_taken : MarksAreTaken ps
   marks_taken p i = at_place IsMarked ps p (marked text ps t) i
 
-  not_misplaced : (p : Place) → IsPlaceIn ps p → IsWrongAt ps p → ⊥
+  not_misplaced : (p : Place90) → IsPlaceIn ps p → IsWrongAt ps p → ⊥
   not_misplaced p i w =
       let m = (misplaced_at_place text ps p.here.line t order).1 (p, i, w, refl) in
       let r = refusal_at Structure p.here.line in
@@ -106,19 +106,19 @@ module _ (text : List ℕ) (ps : List Placed) (t : AreStatementsOf text ps) (cle
   module _ (ds : List Declaration) (b : Block) (function : List ℕ → Option Intrinsic)
       (o : AreInOrder (declarations_of ps) ds)
       (same : (x : List ℕ) → function x ≡ functions_in ps x)
-      (is_block : AreBlock function (name_target ps) (filter (λ (p : Placed). is_executable p.form) ps) b) where
+      (is_block : AreBlock90 function (name_target ps) (filter (λ (p : Placed). is_executable90 p.form) ps) b) where
     targets_same : name_target ps ≡ is_target_in b
     targets_same = fun_ext (λ n.
-        sym (targets_named function (name_target ps) (filter (λ (p : Placed). is_executable p.form) ps) b n is_block
+        sym (targets_named function (name_target ps) (filter (λ (p : Placed). is_executable90 p.form) ps) b n is_block
         ∙ executables_name ps n))
 
     are_body : AreBody ps b
     are_body =
-        let es = filter (λ (p : Placed). is_executable p.form) ps in
-        subst (λ g. AreBlock g (is_target_in b) es b) (fun_ext same)
-        (subst (λ g. AreBlock function g es b) targets_same is_block)
+        let es = filter (λ (p : Placed). is_executable90 p.form) ps in
+        subst (λ g. AreBlock90 g (is_target_in b) es b) (fun_ext same)
+        (subst (λ g. AreBlock90 function g es b) targets_same is_block)
 
-    pub is_program : (name : Option (List ℕ)) → name ≡ title_of ps
+    pub is_program : (name : Option (List ℕ)) → name ≡ title_in_text ps
         → IsProgramOf ps (record { name = name; declarations = ds; body = b })
     is_program name e = record {
       in_order = order;

@@ -17,19 +17,19 @@ use Rattle.meaning.specs.SymbolicNames.{IsLongName}
 use Rattle.meaning.specs.Typed.{declared, rank_of_extent}
 use Rattle.f90_grammar.specs.Blocks.{Placed}
 use Rattle.f90_grammar.specs.Contents.{SuitsCallsIn, has_wide_literal_in}
-use Rattle.f90_grammar.specs.Declared.{declarations_of, declarations_in, functions_in, Use, IsKnown, HasKnownNames}
-use Rattle.f90_grammar.specs.Declared.{uses_of}
+use Rattle.f90_grammar.specs.Declared.{declarations_of, declarations_in, functions_in, Use90, IsKnown, HasKnownNames}
+use Rattle.f90_grammar.specs.Declared.{uses90_of}
 use Rattle.f90_grammar.specs.Forms as forms
-use Rattle.f90_grammar.specs.Forms.{Form, Entity}
-use Rattle.f90_grammar.specs.FreeForm.{FreeStatement, Piece, IsPiece, written_piece}
-use Rattle.f90_grammar.specs.LineCauses.{Standing, LeadTo, is_bad_byte, is_in_constant}
+use Rattle.f90_grammar.specs.Forms.{Form90, EntityForm90}
+use Rattle.f90_grammar.specs.FreeForm.{FreeStatement, LinePiece, IsPiece, written_piece}
+use Rattle.f90_grammar.specs.LineCauses.{LineState, LeadTo, is_bad_byte90, is_in_constant}
 use Rattle.f90_grammar.specs.LineCauses.LeadTo.{nothing}
 use Rattle.f90_grammar.specs.LineCauses.HasLineCause.{HoldsBadByte}
-use Rattle.f90_grammar.specs.Order.{Place, IsPlaceIn, IsInOrder, is_nothing, is_disordered}
-use Rattle.f90_grammar.specs.Reading.{AreStatementsOf, HaveForms, takes_mark, last_of, if_taken, left_over}
+use Rattle.f90_grammar.specs.Order.{Place90, IsPlaceIn, IsInOrder, is_nothing90, is_disordered}
+use Rattle.f90_grammar.specs.Reading.{AreStatementsOf, HaveForms, takes_mark, last_mark, if_taken, mark_left_over}
 use Rattle.f90_grammar.specs.Reading.{entity_declaration, function_by, declares}
 use Rattle.f90_grammar.specs.Refusals.HoldsIn.{HasNoStatement}
-use Rattle.f90_grammar.specs.Refusals.HasCause.{InLines, InStatements}
+use Rattle.f90_grammar.specs.Refusals.HasCause90.{InLines, InStatements}
 use Rattle.f90_grammar.specs.Refusals.IsRefusable.{For}
 use Rattle.f90_grammar.specs.Suited.{Suits}
 use Rattle.f90_laws.proofs.readings.Decisions.{affirmed}
@@ -57,8 +57,8 @@ are_marked pending [] [] h = tt
 are_marked pending [] (p ∷ ps) h = absurd h
 are_marked pending (s ∷ ss) [] h = absurd h
 are_marked pending (s ∷ ss) (p ∷ ps) h = (
-  λ t. h.1 ∙ ap (λ b. if_taken b (last_of pending s.ahead)) t,
-  are_marked (last_of (left_over (takes_mark p.form) (last_of pending s.ahead)) s.within) ss ps h.3,
+  λ t. h.1 ∙ ap (λ b. if_taken b (last_mark pending s.ahead)) t,
+  are_marked (last_mark (mark_left_over (takes_mark p.form) (last_mark pending s.ahead)) s.within) ss ps h.3,
 )
 
 are_written : (pending : Option Mark) (ss : List FreeStatement) (ps : List Placed) → HaveForms pending ss ps
@@ -68,7 +68,7 @@ are_written pending [] (p ∷ ps) h = absurd h
 are_written pending (s ∷ ss) [] h = absurd h
 are_written pending (s ∷ ss) (p ∷ ps) h = (
   (h.2.0, h.2.2),
-  are_written (last_of (left_over (takes_mark p.form) (last_of pending s.ahead)) s.within) ss ps h.3,
+  are_written (last_mark (mark_left_over (takes_mark p.form) (last_mark pending s.ahead)) s.within) ss ps h.3,
 )
 
 -- ---- names
@@ -85,12 +85,12 @@ nameless : (ds : List Declaration) → AllByRecursion (λ (d : Declaration). IsL
 nameless [] h = refl
 nameless (d ∷ ds) h = nameless_step d ds (not_empty d.name h.0) ∙ nameless ds h.1
 
-entities_named : (k : Kind) (a : Bool) (es : List Entity) → AllByRecursion (λ (e : Entity). IsLongName e.name) es
+entities_named : (k : Kind) (a : Bool) (es : List EntityForm90) → AllByRecursion (λ (e : EntityForm90). IsLongName e.name) es
     → AllByRecursion (λ (d : Declaration). IsLongName d.name) (map (entity_declaration k a) es)
 entities_named k a [] h = tt
 entities_named k a (e ∷ es) h = (h.0, entities_named k a es h.1)
 
-form_named : (f : Form) → IsWell f → AllByRecursion (λ (d : Declaration). IsLongName d.name) (declarations_in f)
+form_named : (f : Form90) → IsWell f → AllByRecursion (λ (d : Declaration). IsLongName d.name) (declarations_in f)
 form_named (forms.Declare k a es) h = entities_named k a es h
 form_named f h = tt
 
@@ -128,13 +128,13 @@ pub not_true : (b : Bool) → (IsTrue b → ⊥) → b ≡ false
 not_true true h = absurd (h refl)
 not_true false h = refl
 
-pub some_statement : (ps : List Placed) → (ps ≡ [] → ⊥) → is_nothing ps ≡ false
+pub some_statement : (ps : List Placed) → (ps ≡ [] → ⊥) → is_nothing90 ps ≡ false
 some_statement [] h = absurd (h refl)
 some_statement (p ∷ ps) h = refl
 
 -- ---- places
 
-pub at_place : (P : Placed → Type 0) (ps : List Placed) (p : Place) → AllByRecursion P ps → IsPlaceIn ps p → P p.here
+pub at_place : (P : Placed → Type 0) (ps : List Placed) (p : Place90) → AllByRecursion P ps → IsPlaceIn ps p → P p.here
 at_place P ps p h i = (all_right P p.before (p.here ∷ p.after) (subst (AllByRecursion P) i h)).0
 
 -- ---- statements of a text
@@ -150,9 +150,9 @@ module _ (text : List ℕ) (ps : List Placed) (t : AreStatementsOf text ps) wher
   written_out = are_written None t.statements ps t.have_forms
 
   module _ (clear : IsClearBelow text 35) where
-    no_bad : (front back : List (List ℕ)) (p : Piece) (s : Standing) → lines text ≡ front ++ written_piece p ∷ back
+    no_bad : (front back : List (List ℕ)) (p : LinePiece) (s : LineState) → lines text ≡ front ++ written_piece p ∷ back
         → LeadTo front s
-        → IsPiece (is_in_constant s) p → IsTrue (list_any is_bad_byte p.chars) → ⊥
+        → IsPiece (is_in_constant s) p → IsTrue (list_any is_bad_byte90 p.chars) → ⊥
     no_bad front back p s e l i b =
         let r = refusal_at BadByte90 (length front + 1) in
         let k : 35 ≤ 31 = clear r (For r (InLines r (HoldsBadByte front back p s e l i b))) in

@@ -23,10 +23,10 @@ use Rattle.f90_grammar.specs.FreeForm.{FreeStatement, AreStatements}
 use Rattle.f90_grammar.specs.LineCauses.{HasLineCause}
 use Rattle.f90_grammar.specs.LineCauses.HasLineCause.{HoldsBadByte, IsLong, EndsWithin}
 use Rattle.f90_grammar.specs.Programs.{IsProgramOf}
-use Rattle.f90_grammar.specs.Refusals.{HasNoForm, HoldsIn, HasCause, IsRefusable}
+use Rattle.f90_grammar.specs.Refusals.{HasNoForm90, HoldsIn, HasCause90, IsRefusable}
 use Rattle.f90_grammar.specs.Refusals.{Reads90, Refused90}
 use Rattle.f90_grammar.specs.Refusals.HoldsIn.{AtPlace, HasNoStatement, IsWrongInBlocks}
-use Rattle.f90_grammar.specs.Refusals.HasCause.{InLines, InWords, InStatements}
+use Rattle.f90_grammar.specs.Refusals.HasCause90.{InLines, InWords, InStatements}
 use Rattle.f90_grammar.specs.Refusals.IsRefusable.{For, ForNames}
 use Rattle.f90_names.specs.kinds.declarations.Names.{AreNamesOf}
 use Rattle.f90_names.specs.declared.kinds.declarations.names.Names.{Names}
@@ -98,7 +98,7 @@ line_cause_number text r (HoldsBadByte front back p s e a i b) = let k : 31 < 34
 line_cause_number text r (IsLong front back line e l) = let k : 32 < 34 = omega arith in k
 line_cause_number text r (EndsWithin initial o a) = let k : 33 < 34 = omega arith in k
 
-cause_number : (text : List ℕ) (r : Refusal) → HasCause text r → r.number < 41
+cause_number : (text : List ℕ) (r : Refusal) → HasCause90 text r → r.number < 41
 cause_number text r (InLines q h) = let k = line_cause_number text r h in omega (arith, k)
 cause_number text r (InWords ss s a c n) = let k : 34 < 41 = omega arith in k
 cause_number text r (InStatements ps c line u h) = (in_statements_number ps c line h).high
@@ -165,7 +165,7 @@ words_first text ss r a none h = record {
 
 pub clear_of_words : (text : List ℕ) (ss : List FreeStatement) → AreStatements 1 (lines text) ss
     → ((r : Refusal) → HasLineCause text r → ⊥)
-    → ((s : FreeStatement) → Contains ss s → HasNoForm ss s → ⊥) → IsClearBelow text 35
+    → ((s : FreeStatement) → Contains ss s → HasNoForm90 ss s → ⊥) → IsClearBelow text 35
 clear_of_words text ss a none formed r h = by (sorted text r h)
   where
     by : IsSorted text r → 35 ≤ r.number
@@ -215,7 +215,7 @@ is_text text ss ks ls a h e = record {
 }
 
 abbrev pub NoneFormless : List FreeStatement → Type 0
-NoneFormless ss = (s : FreeStatement) → Contains ss s → HasNoForm ss s → ⊥
+NoneFormless ss = (s : FreeStatement) → Contains ss s → HasNoForm90 ss s → ⊥
 
 pub with_names : (text : List ℕ) (ps : List Placed) (ks : List Held) (functions : Functions) (names : Names)
     → IsTextOf text ps ks → AreFunctionsOf ps functions

@@ -11,7 +11,7 @@ use Rattle.tree.specs.declared.refusals.Refused.TheVariants as refused
 use Rattle.f90_grammar.specs.Blocks as grammar
 use Rattle.f90_grammar.specs.Contents.{SuitsCallsIn}
 use Rattle.f90_grammar.specs.Declared.{declarations_of, functions_in}
-use Rattle.f90_grammar.specs.Order.{Place, IsPlaceIn}
+use Rattle.f90_grammar.specs.Order.{Place90, IsPlaceIn}
 use Rattle.f90_grammar.specs.Reading.{AreStatementsOf}
 use Rattle.f90_grammar.specs.Refusals.{IsRefusable, Reads90, Refused90}
 use Rattle.f90_statement.specs.Views.{AreOf}
@@ -59,9 +59,9 @@ Clears text n (Err e) = IfRefusal e (Refused90 text)
 abbrev pub RefusesAt : {A : Type 0} → List grammar.Placed → Cause → Option ℕ → Result A Refused → Type 0
 RefusesAt ps c None (Ok x) = Unit {0}
 RefusesAt ps c None (Err e) = ⊥
-RefusesAt ps c (Some n) (Ok x) = (p : Place) → IsPlaceIn ps p → length p.before ≡ n → ⊥
+RefusesAt ps c (Some n) (Ok x) = (p : Place90) → IsPlaceIn ps p → length p.before ≡ n → ⊥
 RefusesAt ps c (Some n) (Err e) =
-    (p : Place) → IsPlaceIn ps p → length p.before ≡ n → e ≡ refused.Refusal (refusal_at c p.here.line)
+    (p : Place90) → IsPlaceIn ps p → length p.before ≡ n → e ≡ refused.Refusal (refusal_at c p.here.line)
 
 -- ---- answers
 

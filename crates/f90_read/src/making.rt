@@ -3,8 +3,8 @@ ghost use Rattle.std.specs.Prelude.{◌≡◌, Some, ℕ, List, IfOk, OnOk};
 ghost use Rattle.tree.specs.View.{program_of_90};
 ghost use Rattle.f90_blocks.specs.statement_trees.Results.{AreOfSome};
 ghost use Rattle.f90_grammar.specs.Blocks as grammar;
-ghost use Rattle.f90_grammar.specs.Forms.{Form};
-ghost use Rattle.f90_grammar.specs.Order.{name_in, title_of};
+ghost use Rattle.f90_grammar.specs.Forms.{Form90};
+ghost use Rattle.f90_grammar.specs.Order.{name_in, title_in_text};
 ghost use Rattle.f90_grammar.specs.Programs.{IsProgramOf};
 ghost use Rattle.f90_blocks.specs.places.forms.Places.{IsPlacedOf};
 ghost use Rattle.f90_statement.specs.Views.{AreOf, IsStatementOf};
@@ -50,7 +50,7 @@ pub(crate) fn functions_of(alloc: Global, text: &[Placed]) -> Result<Functions, 
 }
 
 fn name_in(statement: &Statement) -> Option<Name>
-    ensures { (f : Form) → IsStatementOf statement.now f → result ≡ name_in f }
+    ensures { (f : Form90) → IsStatementOf statement.now f → result ≡ name_in f }
 {
     match statement {
         Statement::Program(name) => Some(*name),
@@ -59,7 +59,7 @@ fn name_in(statement: &Statement) -> Option<Name>
 }
 
 fn title(text: &[Placed]) -> Option<Name>
-    ensures { (ps : List grammar.Placed) → AreOf IsPlacedOf text.now ps → result ≡ title_of ps }
+    ensures { (ps : List grammar.Placed) → AreOf IsPlacedOf text.now ps → result ≡ title_in_text ps }
 {
     match text.first() {
         Some(placed) => name_in(&placed.statement),

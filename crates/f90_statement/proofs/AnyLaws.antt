@@ -5,8 +5,8 @@ use Rattle.std.specs.List.{list_any}
 use Rattle.std.proofs.lemmas.List.{drop_more, drop_all}
 use Rattle.f90_grammar.specs.Contents.{step_expressions, items_expressions, items_variables, item_expressions, item_variables}
 use Rattle.f90_grammar.specs.Items as items
-use Rattle.f90_grammar.specs.Items.{ItemPhrase, ItemPhrases, Input, Output}
-use Rattle.f90_grammar.specs.Phrases.{Phrase}
+use Rattle.f90_grammar.specs.Items.{ItemPhrase90, ItemPhrases90, Input, Output}
+use Rattle.f90_grammar.specs.Phrases.{Phrase90}
 use Rattle.f90_statement.specs.items.Flat as flats
 use Rattle.f90_statement.specs.items.Flat.{flat_item, flat_items}
 use Rattle.f90_statement.specs.items.Views.{IsNodeOf, AreNodesOf}
@@ -101,11 +101,11 @@ turned false true false = refl
 turned false false true = refl
 turned false false false = refl
 
-module _ (test : Phrase → Bool) where
-  abbrev bounds_of : Phrase → Phrase → Option Phrase → List Phrase
+module _ (test : Phrase90 → Bool) where
+  abbrev bounds_of : Phrase90 → Phrase90 → Option Phrase90 → List Phrase90
   bounds_of a b c = a ∷ (b ∷ step_expressions c)
 
-  loop_is : (ns : List flats.Node) (x : List ℕ) (a b : Phrase) (c : Option Phrase)
+  loop_is : (ns : List flats.Node) (x : List ℕ) (a b : Phrase90) (c : Option Phrase90)
       → list_any (node_holds test) (flats.Begin ∷ (ns ++ flats.Turns x a b c ∷ [])) ≡ (list_any (node_holds test) ns || list_any test (bounds_of a b c))
   loop_is ns x a b c =
       any_both (node_holds test) ns (flats.Turns x a b c ∷ [])
@@ -113,25 +113,25 @@ module _ (test : Phrase → Bool) where
 
   -- of PRINT
   mutual
-    output : (i : ItemPhrase) → list_any (node_holds test) (flat_item i) ≡ list_any test (item_expressions Output i)
+    output : (i : ItemPhrase90) → list_any (node_holds test) (flat_item i) ≡ list_any test (item_expressions Output i)
     output (items.Of p) = refl
     output (items.Text t) = refl
     output (items.Loop is x a b c) =
         loop_is (flat_items is) x a b c
         ∙ (ap (λ (q : Bool). q || list_any test (bounds_of a b c)) (outputs is) ∙ sym (any_both test (items_expressions Output is) (bounds_of a b c)))
 
-    outputs : (is : ItemPhrases) → list_any (node_holds test) (flat_items is) ≡ list_any test (items_expressions Output is)
+    outputs : (is : ItemPhrases90) → list_any (node_holds test) (flat_items is) ≡ list_any test (items_expressions Output is)
     outputs (items.Sole i) = output i
     outputs (items.More is i) =
         any_both (node_holds test) (flat_items is) (flat_item i)
         ∙ (ap₂ (λ (x y : Bool). x || y) (outputs is) (output i) ∙ sym (any_both test (items_expressions Output is) (item_expressions Output i)))
 
   -- of READ
-  abbrev both : List Phrase → List Phrase → Bool
+  abbrev both : List Phrase90 → List Phrase90 → Bool
   both xs ys = list_any test xs || list_any test ys
 
   mutual
-    input : (i : ItemPhrase) → list_any (node_holds test) (flat_item i) ≡ both (item_expressions Input i) (item_variables i)
+    input : (i : ItemPhrase90) → list_any (node_holds test) (flat_item i) ≡ both (item_expressions Input i) (item_variables i)
     input (items.Of p) = refl
     input (items.Text t) = refl
     input (items.Loop is x a b c) =
@@ -140,7 +140,7 @@ module _ (test : Phrase → Bool) where
         ∙ (turned (list_any test (items_expressions Input is)) (list_any test (items_variables is)) (list_any test (bounds_of a b c))
         ∙ ap (λ (q : Bool). q || list_any test (items_variables is)) (sym (any_both test (items_expressions Input is) (bounds_of a b c)))))
 
-    inputs : (is : ItemPhrases) → list_any (node_holds test) (flat_items is) ≡ both (items_expressions Input is) (items_variables is)
+    inputs : (is : ItemPhrases90) → list_any (node_holds test) (flat_items is) ≡ both (items_expressions Input is) (items_variables is)
     inputs (items.Sole i) = input i
     inputs (items.More is i) =
         any_both (node_holds test) (flat_items is) (flat_item i)
@@ -149,8 +149,8 @@ module _ (test : Phrase → Bool) where
         ∙ ap₂ (λ (x y : Bool). x || y) (sym (any_both test (items_expressions Input is) (item_expressions Input i)))
         (sym (any_both test (items_variables is) (item_variables i)))))
 
-  pub output_holds : (is : ItemPhrases) → list_any (node_holds test) (flat_items is) ≡ list_any test (items_expressions Output is ++ [])
+  pub output_holds : (is : ItemPhrases90) → list_any (node_holds test) (flat_items is) ≡ list_any test (items_expressions Output is ++ [])
   output_holds is = outputs is ∙ ap (list_any test) (sym (append-nil (items_expressions Output is)))
 
-  pub input_holds : (is : ItemPhrases) → list_any (node_holds test) (flat_items is) ≡ list_any test (items_expressions Input is ++ items_variables is)
+  pub input_holds : (is : ItemPhrases90) → list_any (node_holds test) (flat_items is) ≡ list_any test (items_expressions Input is ++ items_variables is)
   input_holds is = inputs is ∙ sym (any_both test (items_expressions Input is) (items_variables is))

@@ -2,8 +2,8 @@
 use Rattle.std.proofs.Common.{◌≡◌, Bool, true, false, ◌||◌, List, [], ◌∷◌, refl, subst, Result, Ok, Err}
 use Rattle.std.specs.Prelude.{IsTrue}
 use Rattle.f90_grammar.specs.Forms as forms
-use Rattle.f90_grammar.specs.Forms.{Form, IsWritten}
-use Rattle.f90_grammar.specs.Words.{Word}
+use Rattle.f90_grammar.specs.Forms.{Form90, IsWritten90}
+use Rattle.f90_grammar.specs.Words.{Word90}
 use Rattle.f90_laws.proofs.unique.Forms.{one_form}
 use Rattle.reading.specs.declared.stops.Stop.{Stop}
 use Rattle.reading.specs.declared.stops.Stop.TheVariants.{Syntax, Memory}
@@ -24,21 +24,21 @@ neither : (a b : Bool) → (a ≡ true → ⊥) → (b ≡ true → ⊥) → (a 
 neither true b h k t = h refl
 neither false b h k t = k t
 
-module _ {S : Type 0} (is : S → Form → Type 0) (k g : Form → Bool) where
-  pub of_first : (ws : List Word) (made : S) → IsForm is k ws made → IsForm is (either k g) ws made
+module _ {S : Type 0} (is : S → Form90 → Type 0) (k g : Form90 → Bool) where
+  pub of_first : (ws : List Word90) (made : S) → IsForm is k ws made → IsForm is (either k g) ws made
   of_first ws made h = record { form = h.form; is_of = h.is_of; written = h.written; among = left (k h.form) (g h.form) h.among }
 
-  pub of_second : (ws : List Word) (made : S) → IsForm is g ws made → IsForm is (either k g) ws made
+  pub of_second : (ws : List Word90) (made : S) → IsForm is g ws made → IsForm is (either k g) ws made
   of_second ws made h = record { form = h.form; is_of = h.is_of; written = h.written; among = right (k h.form) (g h.form) h.among }
 
-  pub later : (ws : List Word) (r : Result S Stop) → Reads is k ws (Err Syntax) → Reads is g ws r → Reads is (either k g) ws r
+  pub later : (ws : List Word90) (r : Result S Stop) → Reads is k ws (Err Syntax) → Reads is g ws r → Reads is (either k g) ws r
   later ws (Ok made) h m = of_second ws made m
   later ws (Err Syntax) h m = λ f w t. neither (k f) (g f) (h f w) (m f w) t
   later ws (Err Memory) h m = tt
 
 -- ---- all
 
-any_is : (f : Form) → IsTrue (is_any f)
+any_is : (f : Form90) → IsTrue (is_any f)
 any_is (forms.Program x) = refl
 any_is forms.ImplicitNone = refl
 any_is (forms.Declare k a es) = refl
@@ -64,11 +64,11 @@ any_is (forms.Deallocate x) = refl
 any_is forms.End = refl
 any_is (forms.EndProgram x) = refl
 
-pub whole_found : (ws : List Word) (s : Statement) → IsForm IsStatementOf is_any ws s → IsStatement ws s
+pub whole_found : (ws : List Word90) (s : Statement) → IsForm IsStatementOf is_any ws s → IsStatement ws s
 whole_found ws s h = record { form = h.form; is_of = h.is_of; written = h.written }
 
-pub whole_only : (ws : List Word) (r : Result Statement Stop) → ReadsStatement is_any ws r → (f : Form) → IsWritten f ws → Given r (λ s. IsStatementOf s f)
-whole_only ws (Ok s) h f w = subst (λ (g : Form). IsStatementOf s g) (one_form h.form f ws h.written w) h.is_of
+pub whole_only : (ws : List Word90) (r : Result Statement Stop) → ReadsStatement is_any ws r → (f : Form90) → IsWritten90 f ws → Given r (λ s. IsStatementOf s f)
+whole_only ws (Ok s) h f w = subst (λ (g : Form90). IsStatementOf s g) (one_form h.form f ws h.written w) h.is_of
 whole_only ws (Err Syntax) h f w = h f w (any_is f)
 whole_only ws (Err Memory) h f w = tt
 

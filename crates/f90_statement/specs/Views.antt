@@ -2,7 +2,7 @@
 use Rattle.std.specs.Prelude.{◌≡◌, Bool, true, false, Option, Some, None, List, [], ◌∷◌}
 use Rattle.tree.specs.OperatorTable.{Sign, Minus}
 use Rattle.f90_grammar.specs.Forms as forms
-use Rattle.f90_grammar.specs.Forms.{Form}
+use Rattle.f90_grammar.specs.Forms.{Form90}
 use Rattle.f90_grammar.specs.Phrases.{value_of_digits}
 use Rattle.f90_expressions.specs.Literals.{value_in}
 use Rattle.f90_expressions.specs.Reading.{IsMadeOf}
@@ -29,7 +29,7 @@ abbrev pub is_minus : Option Sign → Bool
 is_minus (Some Minus) = true
 is_minus s = false
 
-pub record IsBoundOf (k : Bound) (b : forms.Bound) : Type 0 where
+pub record IsBoundOf (k : Bound) (b : forms.Bound90) : Type 0 where
   pub is_negative : k.is_negative ≡ is_minus b.sign
   pub magnitude : k.magnitude ≡ value_in b.digits
 
@@ -39,11 +39,11 @@ IsDimensionOf (Both k l) (forms.Both a b) = IsBoundOf k a × IsBoundOf l b
 IsDimensionOf Deferred forms.Deferred = Unit {0}
 IsDimensionOf _ _ = ⊥
 
-pub record IsEntityOf (k : Entity) (e : forms.Entity) : Type 0 where
+pub record IsEntityOf (k : Entity) (e : forms.EntityForm90) : Type 0 where
   pub name : k.name ≡ e.name
   pub dimensions : AreOf IsDimensionOf k.dimensions e.dimensions
 
-abbrev pub IsActionOf : Action → Form → Type 0
+abbrev pub IsActionOf : Action → Form90 → Type 0
 IsActionOf (Assign k m) (forms.Assign l r) = IsMadeOf k l × IsMadeOf m r
 IsActionOf (Go n) (forms.Go label) = n ≡ value_of_digits label
 IsActionOf Continue (forms.Continue []) = Unit {0}
@@ -54,7 +54,7 @@ IsActionOf (Print (Some list)) (forms.Print is) = IsListOf list is
 IsActionOf (Print None) forms.PrintNothing = Unit {0}
 IsActionOf _ _ = ⊥
 
-abbrev pub IsStatementOf : Statement → Form → Type 0
+abbrev pub IsStatementOf : Statement → Form90 → Type 0
 IsStatementOf (Program x) (forms.Program y) = x ≡ y
 IsStatementOf ImplicitNone forms.ImplicitNone = Unit {0}
 IsStatementOf (Declare k a es) (forms.Declare l b ds) = (k ≡ l) × (a ≡ b) × AreOf IsEntityOf es ds

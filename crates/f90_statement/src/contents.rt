@@ -2,13 +2,13 @@
 ghost use Rattle.std.specs.Prelude.{◌≡◌, [], ◌∷◌, ◌++◌, List, Option, nat_lt};
 ghost use Rattle.std.specs.List.{list_any};
 ghost use Rattle.tree.specs.Limits.{expression_depth90};
-ghost use Rattle.f90_grammar.specs.Contents.{is_wide, is_wide_dimension, is_declared_wide, has_wide_literal_in};
+ghost use Rattle.f90_grammar.specs.Contents.{is_wide_literal, is_wide_dimension, is_declared_wide, has_wide_literal_in};
 ghost use Rattle.f90_grammar.specs.Contents.{has_deep_list};
 ghost use Rattle.f90_grammar.specs.Contents.{has_deep_expression, step_expressions, items_expressions, items_variables};
 ghost use Rattle.f90_grammar.specs.Forms as forms;
-ghost use Rattle.f90_grammar.specs.Forms.{Form};
-ghost use Rattle.f90_grammar.specs.Items.{ItemPhrases, Input, Output, items_depth};
-ghost use Rattle.f90_grammar.specs.Phrases.{Phrase};
+ghost use Rattle.f90_grammar.specs.Forms.{Form90};
+ghost use Rattle.f90_grammar.specs.Items.{ItemPhrases90, Input, Output, items_depth90};
+ghost use Rattle.f90_grammar.specs.Phrases.{Phrase90};
 ghost use Rattle.f90_grammar.specs.Reading.{takes_mark};
 ghost use Rattle.f90_expressions.specs.Reading.{IsMadeOf};
 ghost use Rattle.f90_statement.specs.items.Flat as flats;
@@ -33,7 +33,7 @@ pub(crate) enum Test {
 
 impl Bound {
     fn is_wide(&self) -> bool
-        ensures { (b : forms.Bound) → IsBoundOf self.now b → result ≡ is_wide b.digits }
+        ensures { (b : forms.Bound90) → IsBoundOf self.now b → result ≡ is_wide_literal b.digits }
     {
         self.magnitude.is_none()
     }
@@ -41,7 +41,7 @@ impl Bound {
 
 impl Test {
     fn holds(self, expression: &Expression) -> bool
-        ensures { (p : Phrase) → IsMadeOf expression.now p → result ≡ test_of self p }
+        ensures { (p : Phrase90) → IsMadeOf expression.now p → result ≡ test_of self p }
     {
         match self {
             Test::Wide => expression.has_wide_literal(),
@@ -51,7 +51,7 @@ impl Test {
 
     // Of one of the expressions.
     fn holds_of_any(self, expressions: &[Expression]) -> bool
-        ensures { (ps : List Phrase) → AreOf IsMadeOf expressions.now ps → result ≡ list_any (test_of self) ps }
+        ensures { (ps : List Phrase90) → AreOf IsMadeOf expressions.now ps → result ≡ list_any (test_of self) ps }
     {
         for expression in expressions {
             if self.holds(expression) {
@@ -63,7 +63,7 @@ impl Test {
 
     // Of one of the parameters of a loop.
     fn holds_of_bounds(self, bounds: &Bounds) -> bool
-        ensures { (a b : Phrase) (c : Option Phrase) → AreBoundsOf bounds.now a b c
+        ensures { (a b : Phrase90) (c : Option Phrase90) → AreBoundsOf bounds.now a b c
             → result ≡ list_any (test_of self) (a ∷ (b ∷ step_expressions c)) }
     {
         if self.holds(&bounds.first) || self.holds(&bounds.last) {
@@ -102,7 +102,7 @@ impl Test {
 
     // Of an expression in a list of PRINT.
     fn holds_of_output(self, list: &ItemList) -> bool
-        ensures { (is : ItemPhrases) → IsListOf list.now is
+        ensures { (is : ItemPhrases90) → IsListOf list.now is
             → result ≡ list_any (test_of self) (items_expressions Output is ++ []) }
     {
         self.holds_of_nodes(list.nodes.as_slice())
@@ -110,7 +110,7 @@ impl Test {
 
     // Of an expression in a list of READ, or of a variable.
     fn holds_of_input(self, list: &ItemList) -> bool
-        ensures { (is : ItemPhrases) → IsListOf list.now is
+        ensures { (is : ItemPhrases90) → IsListOf list.now is
             → result ≡ list_any (test_of self) (items_expressions Input is ++ items_variables is) }
     {
         self.holds_of_nodes(list.nodes.as_slice())
@@ -118,7 +118,7 @@ impl Test {
 
     // Of an expression or a variable of the statement.
     fn holds_in_action(self, action: &Action) -> bool
-        ensures { (f : Form) → IsActionOf action.now f → result ≡ any_in (test_of self) f }
+        ensures { (f : Form90) → IsActionOf action.now f → result ≡ any_in (test_of self) f }
     {
         match action {
             Action::Assign(left, right) => self.holds(right) || self.holds(left),
@@ -134,7 +134,7 @@ impl Test {
 
     // Of an expression or a variable of the statement.
     fn holds_in(self, statement: &Statement) -> bool
-        ensures { (f : Form) → IsStatementOf statement.now f → result ≡ any_in (test_of self) f }
+        ensures { (f : Form90) → IsStatementOf statement.now f → result ≡ any_in (test_of self) f }
     {
         match statement {
             Statement::Act(action) => self.holds_in_action(action),
@@ -187,13 +187,13 @@ fn has_wide_dimension(dimensions: &[Dimension]) -> bool
 }
 
 fn is_wide(entity: &Entity) -> bool
-    ensures { (e : forms.Entity) → IsEntityOf entity.now e → result ≡ are_wide e }
+    ensures { (e : forms.EntityForm90) → IsEntityOf entity.now e → result ≡ are_wide e }
 {
     has_wide_dimension(entity.dimensions.as_slice())
 }
 
 fn has_wide_entity(entities: &[Entity]) -> bool
-    ensures { (es : List forms.Entity) → AreOf IsEntityOf entities.now es → result ≡ list_any are_wide es }
+    ensures { (es : List forms.EntityForm90) → AreOf IsEntityOf entities.now es → result ≡ list_any are_wide es }
 {
     for entity in entities {
         if is_wide(entity) {
@@ -207,13 +207,13 @@ fn has_wide_entity(entities: &[Entity]) -> bool
 
 // Whether the parentheses of its implied DO lists make it too deep.
 fn is_deep_list(list: &ItemList) -> bool
-    ensures { (is : ItemPhrases) → IsListOf list.now is → result ≡ nat_lt expression_depth90 (items_depth is) }
+    ensures { (is : ItemPhrases90) → IsListOf list.now is → result ≡ nat_lt expression_depth90 (items_depth90 is) }
 {
     list.depth > EXPRESSION_DEPTH_90
 }
 
 fn has_deep_list_in(action: &Action) -> bool
-    ensures { (f : Form) → IsActionOf action.now f → result ≡ has_deep_list f }
+    ensures { (f : Form90) → IsActionOf action.now f → result ≡ has_deep_list f }
 {
     match action {
         Action::Read(Some(list)) => is_deep_list(list),
@@ -229,7 +229,7 @@ fn has_deep_list_in(action: &Action) -> bool
 
 impl Statement {
     fn is_declared_wide(&self) -> bool
-        ensures { (f : Form) → IsStatementOf self.now f → result ≡ is_declared_wide f }
+        ensures { (f : Form90) → IsStatementOf self.now f → result ≡ is_declared_wide f }
     {
         match self {
             Statement::Declare(_, _, entities) => has_wide_entity(entities.as_slice()),
@@ -238,7 +238,7 @@ impl Statement {
     }
 
     fn has_deep_list(&self) -> bool
-        ensures { (f : Form) → IsStatementOf self.now f → result ≡ has_deep_list f }
+        ensures { (f : Form90) → IsStatementOf self.now f → result ≡ has_deep_list f }
     {
         match self {
             Statement::Act(action) => has_deep_list_in(action),
@@ -249,21 +249,21 @@ impl Statement {
 
     /// Whether a literal of it is above 2^127-1.
     pub fn has_wide_literal(&self) -> bool
-        ensures { (f : Form) → IsStatementOf self.now f → result ≡ has_wide_literal_in f }
+        ensures { (f : Form90) → IsStatementOf self.now f → result ≡ has_wide_literal_in f }
     {
         self.is_declared_wide() || Test::Wide.holds_in(self)
     }
 
     /// Whether an expression of it is more than 1,000 deep.
     pub fn has_deep_expression(&self) -> bool
-        ensures { (f : Form) → IsStatementOf self.now f → result ≡ has_deep_expression f }
+        ensures { (f : Form90) → IsStatementOf self.now f → result ≡ has_deep_expression f }
     {
         self.has_deep_list() || Test::Deep.holds_in(self)
     }
 
     /// Whether a mark that stands before it is its own.
     pub fn takes_mark(&self) -> bool
-        ensures { (f : Form) → IsStatementOf self.now f → result ≡ takes_mark f }
+        ensures { (f : Form90) → IsStatementOf self.now f → result ≡ takes_mark f }
     {
         match self {
             Statement::Where(_, _, _) => true,

@@ -9,7 +9,7 @@ ghost use Rattle.f90_statement.specs.Fronts.{IsLabelValue, IsLoneLabel, IsLabell
 ghost use Rattle.f90_statement.specs.Fronts.{IsLoopFront, IsAllocateFront, IsDigitsFront};
 ghost use Rattle.tree.specs.declared.ops.Op.TheVariants.{Add, Sub, Mul};
 
-use crate::items::parts::{Mark, after, after_head, after_name};
+use crate::items::parts::{Separator, after, after_head, after_name};
 use f90_expressions::literal;
 use f90_expressions::words::Token;
 use tree::{Name, Op, Seq};
@@ -155,9 +155,9 @@ fn after_unit<'a>(keyword: &[u8], tokens: &'a [Token]) -> Option<&'a [Token]>
 {
     let rest = after_head_keyword(keyword, tokens)?;
     let rest = after_asterisk(rest)?;
-    let rest = after(Mark::Comma, rest)?;
+    let rest = after(Separator::Comma, rest)?;
     let rest = after_asterisk(rest)?;
-    after(Mark::Close, rest)
+    after(Separator::Close, rest)
 }
 
 /// The list of READ or PRINT.
@@ -172,7 +172,7 @@ pub(crate) fn after_transfer<'a>(
         return Some(rest);
     }
     let rest = after_format(short, tokens)?;
-    after(Mark::Comma, rest)
+    after(Separator::Comma, rest)
 }
 
 /// Whether the words are READ or PRINT without a list.
@@ -273,7 +273,7 @@ pub(crate) fn loop_front(tokens: &[Token]) -> Option<(Name, &[Token])>
     let Some((name, rest)) = after_name(rest) else {
         return None;
     };
-    let rest = after(Mark::Equals, rest)?;
+    let rest = after(Separator::Equals, rest)?;
     Some((name, rest))
 }
 

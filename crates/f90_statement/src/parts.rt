@@ -1,7 +1,8 @@
 //! The parts of statements that are expressions: conditions, the sides of an assignment, extents.
 ghost use Rattle.std.specs.Prelude.{◌≡◌, ◌++◌, ◌↔◌, IsTrue, List, IfOk, codes};
-ghost use Rattle.f90_grammar.specs.Forms.{IsList, separated, written_extent};
-ghost use Rattle.f90_grammar.specs.Phrases.{Phrase, IsExpression};
+ghost use Rattle.f90_grammar.specs.Forms.{separated90, written_extent};
+ghost use Rattle.reading.specs.Characters.{IsList};
+ghost use Rattle.f90_grammar.specs.Phrases.{Phrase90, IsExpression90};
 ghost use Rattle.f90_grammar.specs.Words as words;
 ghost use Rattle.f90_expressions.specs.words.Tokens.{words_of};
 ghost use Rattle.f90_expressions.specs.Reading.{IsMadeOf};
@@ -10,7 +11,7 @@ ghost use Rattle.f90_statement.specs.Reading.{Given, ReadsRight, ReadsSides, clo
 ghost use Rattle.f90_statement.specs.Fronts.{AfterExtent};
 ghost use Rattle.f90_statement.specs.Views.{AreOf};
 
-use crate::items::parts::{Mark, after, is_reference};
+use crate::items::parts::{Separator, after, is_reference};
 use f90_expressions::words::Token;
 use f90_expressions::{Expression, read};
 use reading::Stop;
@@ -21,11 +22,11 @@ use tree::Seq;
 #[tactic(auto, using(crate::proofs::PartLaws::conditions))]
 pub(crate) fn condition(alloc: Global, tokens: &[Token]) -> Result<(Expression, &[Token]), Stop>
     ensures found { IfOk result (λ r. BeginsWithCondition (words_of tokens.now) r.0 (words_of r.1.now)) }
-    ensures only { (p : Phrase) (last : List words.Word) → IsExpression p → words_of tokens.now ≡ closed p last
+    ensures only { (p : Phrase90) (last : List words.Word90) → IsExpression90 p → words_of tokens.now ≡ closed p last
         → Given result (λ r. IsMadeOf r.0 p × (words_of r.1.now ≡ last)) }
 {
     match read(alloc, tokens) {
-        Ok((condition, rest)) => match after(Mark::Close, rest) {
+        Ok((condition, rest)) => match after(Separator::Close, rest) {
             Some(rest) => Ok((condition, rest)),
             None => Err(Stop::Syntax),
         },
@@ -38,7 +39,7 @@ pub(crate) fn condition(alloc: Global, tokens: &[Token]) -> Result<(Expression, 
 fn right_side(alloc: Global, tokens: &[Token]) -> Result<Expression, Stop>
     ensures { ReadsRight (words_of tokens.now) result }
 {
-    let Some(rest) = after(Mark::Equals, tokens) else {
+    let Some(rest) = after(Separator::Equals, tokens) else {
         return Err(Stop::Syntax);
     };
     match read(alloc, rest) {
@@ -90,11 +91,11 @@ fn after_one(tokens: &[Token]) -> Option<&[Token]>
 // The extent at the front of the words, and what follows it.
 #[tactic(auto, using(crate::proofs::PartLaws::extents))]
 fn extent(alloc: Global, tokens: &[Token]) -> Result<(Expression, &[Token]), Stop>
-    ensures found { IfOk result (λ r. Begins IsMadeOf IsExpression written_extent (words_of tokens.now) r.0
+    ensures found { IfOk result (λ r. Begins IsMadeOf IsExpression90 written_extent (words_of tokens.now) r.0
         (words_of r.1.now)) }
-    ensures only { (p : Phrase) (last : List words.Word) → IsExpression p → EndsItem last
+    ensures only { (p : Phrase90) (last : List words.Word90) → IsExpression90 p → EndsItem last
         → words_of tokens.now ≡ written_extent p ++ last
-        → Given result (λ r. IsThe IsMadeOf IsExpression written_extent p last r.0 (words_of r.1.now)) }
+        → Given result (λ r. IsThe IsMadeOf IsExpression90 written_extent p last r.0 (words_of r.1.now)) }
 {
     let Some(rest) = after_one(tokens) else {
         return Err(Stop::Syntax);
@@ -107,17 +108,17 @@ fn extent(alloc: Global, tokens: &[Token]) -> Result<(Expression, &[Token]), Sto
 
 /// The extents at the front of the words, and what follows them.
 pub(crate) fn extents(alloc: Global, tokens: &[Token]) -> Result<(Seq<Expression>, &[Token]), Stop>
-    ensures found { IfOk result (λ r. BeginsWithList IsMadeOf IsExpression written_extent (words_of tokens.now) r.0
+    ensures found { IfOk result (λ r. BeginsWithList IsMadeOf IsExpression90 written_extent (words_of tokens.now) r.0
         (words_of r.1.now)) }
-    ensures only { (ps : List Phrase) (last : List words.Word) → IsList IsExpression ps → EndsList last
-        → words_of tokens.now ≡ separated written_extent ps ++ last
+    ensures only { (ps : List Phrase90) (last : List words.Word90) → IsList IsExpression90 ps → EndsList last
+        → words_of tokens.now ≡ separated90 written_extent ps ++ last
         → Given result (λ r. AreOf IsMadeOf r.0 ps × (words_of r.1.now ≡ last)) }
 {
     let (first, tail) = extent(alloc, tokens)?;
     let mut extents = Seq::new(alloc);
     extents.push(first)?;
     let mut rest = tail;
-    'extents: while let Some(more) = after(Mark::Comma, rest) {
+    'extents: while let Some(more) = after(Separator::Comma, rest) {
         let (next, tail) = extent(alloc, more)?;
         extents.push(next)?;
         rest = tail;

@@ -1,7 +1,7 @@
 //! Statements.
 ghost use Rattle.std.specs.Prelude.{◌∷◌, IfOk, codes};
-ghost use Rattle.f90_grammar.specs.Forms.{Form, IsWritten};
-ghost use Rattle.f90_grammar.specs.Phrases.{Phrase, IsExpression};
+ghost use Rattle.f90_grammar.specs.Forms.{Form90, IsWritten90};
+ghost use Rattle.f90_grammar.specs.Phrases.{Phrase90, IsExpression90};
 ghost use Rattle.f90_grammar.specs.Words as words;
 ghost use Rattle.f90_expressions.specs.words.Tokens.{words_of};
 ghost use Rattle.f90_expressions.specs.Reading.{IsMadeOf};
@@ -19,7 +19,7 @@ use crate::fronts::{
     are_keywords, are_two_keywords, closed_name, continue_label, ends_allocate, is_keyword,
     is_nothing, lone_name, loop_front,
 };
-use crate::items::parts::{Bounds, Mark, after};
+use crate::items::parts::{Bounds, Separator, after};
 use crate::nodes::Statement;
 use crate::parts::{condition, extents, sides};
 use f90_expressions::Expression;
@@ -98,14 +98,14 @@ fn after_type(tokens: &[Token]) -> Option<(Kind, &[Token])>
 fn after_attribute(tokens: &[Token]) -> Option<(bool, &[Token])>
     ensures { AfterAttribute result (words_of tokens.now) }
 {
-    let Some(rest) = after(Mark::Comma, tokens) else {
-        let rest = after(Mark::Colons, tokens)?;
+    let Some(rest) = after(Separator::Comma, tokens) else {
+        let rest = after(Separator::Colons, tokens)?;
         return Some((false, rest));
     };
     let Some(rest) = after_keyword(b"ALLOCATABLE", rest) else {
         return None;
     };
-    let rest = after(Mark::Colons, rest)?;
+    let rest = after(Separator::Colons, rest)?;
     Some((true, rest))
 }
 
@@ -150,7 +150,7 @@ fn behind_condition(
     condition: Expression,
     tokens: &[Token],
 ) -> Result<Statement, Stop>
-    ensures { (p : Phrase) → IsMadeOf condition p → IsExpression p
+    ensures { (p : Phrase90) → IsMadeOf condition p → IsExpression90 p
         → ReadsStatement is_if (words.Head (codes "IF") ∷ closed p (words_of tokens.now)) result }
 {
     if is_keyword(b"THEN", tokens) {
@@ -327,7 +327,7 @@ impl Statement {
         // What is read is a statement.
         ensures found { IfOk result (λ statement. IsStatement (words_of tokens.now) statement) }
         // A statement is read, in one way alone.
-        ensures only { (f : Form) → IsWritten f (words_of tokens.now)
+        ensures only { (f : Form90) → IsWritten90 f (words_of tokens.now)
             → Given result (λ statement. IsStatementOf statement f) }
     {
         statement(alloc, tokens)

@@ -15,9 +15,10 @@ use Rattle.tree.specs.declared.exprs.Turn.{Turn, roll-Turn}
 use Rattle.tree.specs.declared.exprs.Ref.{roll-Ref}
 use Rattle.tree.specs.Plain as tree
 use Rattle.tree.specs.Plain.{Expression, Subscript}
-use Rattle.tree.specs.View.{ConstructorLoop, expression_of, subscript_of, loop_of, loops}
+use Rattle.tree.specs.View.{ConstructorLoop, expression_of, subscript_of, loop_of, constructor_loops}
 use Rattle.tree.proofs.Equations.{expression_of-truth, expression_of-bin, expression_of-list, expression_of-int, subscript_of-one, subscript_of-part, loop_of-made, expression_of-item, reference_of-made}
-use Rattle.f90_grammar.specs.Phrases.{signed, argument_of, arguments_of}
+use Rattle.f90_grammar.specs.Phrases.{arguments90_of}
+use Rattle.reading.specs.Signs.{signed, argument_of}
 use Rattle.f90_expressions.specs.declared.nodes.Node as code
 use Rattle.f90_expressions.specs.Views.{node_seen}
 use Rattle.f90_trees.specs.Building as building
@@ -113,37 +114,37 @@ pub looped_is : (e : Expr) (ls : Seq Turn) (es : Seq Expr) (old mid under new : 
 looped_is e ls es old mid under new h k l n =
     ap looped (h ∙ ap (λ (q : List Entry). building.Turn (expression_of e) (map loop_of ls) ∷ q) k)
     ∙ ap (λ (q : List Entry). Some q)
-    (ap (λ (q : List Expr). Value (tree.Constructor (tree.expressions (map expression_of q)) (loops (map loop_of ls))) ∷ under) (sym l)
+    (ap (λ (q : List Expr). Value (tree.Constructor (tree.expressions (map expression_of q)) (constructor_loops (map loop_of ls))) ∷ under) (sym l)
     ∙ (ap (λ (x : Expression). Value x ∷ under) (sym (expression_of-list es ls)) ∙ sym n))
 
 pub looped_none : (e : Expr) (ls : List Turn) (old mid : List Entry) → old ≡ building.Turn (expression_of e) (map loop_of ls) ∷ mid
     → ((on : List Entry → Option (List Entry)) → with_mark mid on ≡ None) → looped old ≡ None
 looped_none e ls old mid h n =
-    ap looped h ∙ n (λ under. Some (Value (tree.Constructor (tree.expression (expression_of e) tree.no_expressions) (loops (map loop_of ls))) ∷ under))
+    ap looped h ∙ n (λ under. Some (Value (tree.Constructor (tree.expression (expression_of e) tree.no_expressions) (constructor_loops (map loop_of ls))) ∷ under))
 
 pub constructed_is : (es : Seq Expr) (ls : Seq Turn) (o : Option building.Values) (under new : List Entry) → o ≡ Some (record { values = map expression_of es; under = under })
     → ls ≡ [] → new ≡ value (exprs.List es ls) ∷ under → building.constructed o ≡ Some new
 constructed_is es ls o under new h l n =
     ap building.constructed h
     ∙ ap (λ (q : List Entry). Some q)
-    (ap (λ (q : List Turn). Value (tree.Constructor (tree.expressions (map expression_of es)) (loops (map loop_of q))) ∷ under) (sym l)
+    (ap (λ (q : List Turn). Value (tree.Constructor (tree.expressions (map expression_of es)) (constructor_loops (map loop_of q))) ∷ under) (sym l)
     ∙ (ap (λ (x : Expression). Value x ∷ under) (sym (expression_of-list es ls)) ∙ sym n))
 
 -- ---- arguments
 
-arguments_last : (ss : List Subscript) (s : Subscript) → arguments_of (ss ++ s ∷ []) ≡ arguments_of ss ++ argument_of s ∷ []
+arguments_last : (ss : List Subscript) (s : Subscript) → arguments90_of (ss ++ s ∷ []) ≡ arguments90_of ss ++ argument_of s ∷ []
 arguments_last [] s = refl
 arguments_last (t ∷ ss) s = ap (λ (q : List Expression). argument_of t ∷ q) (arguments_last ss s)
 
-pub arguments_push : (xs : List Sub) (x : Sub) → arguments_of (map subscript_of (xs ++ x ∷ [])) ≡ arguments_of (map subscript_of xs) ++ argument_of (subscript_of x) ∷ []
-arguments_push xs x = ap arguments_of (map_push subscript_of xs x) ∙ arguments_last (map subscript_of xs) (subscript_of x)
+pub arguments_push : (xs : List Sub) (x : Sub) → arguments90_of (map subscript_of (xs ++ x ∷ [])) ≡ arguments90_of (map subscript_of xs) ++ argument_of (subscript_of x) ∷ []
+arguments_push xs x = ap arguments90_of (map_push subscript_of xs x) ∙ arguments_last (map subscript_of xs) (subscript_of x)
 
-pub argument_more : (done : List Expr) (e : Expr) (xs : List Sub) (x : Sub) → map expression_of done ≡ arguments_of (map subscript_of xs)
-    → expression_of e ≡ argument_of (subscript_of x) → map expression_of (done ++ e ∷ []) ≡ arguments_of (map subscript_of (xs ++ x ∷ []))
+pub argument_more : (done : List Expr) (e : Expr) (xs : List Sub) (x : Sub) → map expression_of done ≡ arguments90_of (map subscript_of xs)
+    → expression_of e ≡ argument_of (subscript_of x) → map expression_of (done ++ e ∷ []) ≡ arguments90_of (map subscript_of (xs ++ x ∷ []))
 argument_more done e xs x h k =
     map_push expression_of done e
     ∙ (ap (λ (q : List Expression). q ++ expression_of e ∷ []) h
-    ∙ (ap (λ (q : Expression). arguments_of (map subscript_of xs) ++ q ∷ []) k ∙ sym (arguments_push xs x)))
+    ∙ (ap (λ (q : Expression). arguments90_of (map subscript_of xs) ++ q ∷ []) k ∙ sym (arguments_push xs x)))
 
 pub ruleset arguments = (argument_more)
 

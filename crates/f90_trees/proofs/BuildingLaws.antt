@@ -7,9 +7,10 @@ use Rattle.tree.specs.declared.functions.Intrinsic.{Intrinsic}
 use Rattle.tree.specs.declared.functions.Intrinsic.TheVariants as intrinsics
 use Rattle.tree.specs.Plain as tree
 use Rattle.tree.specs.Plain.{Expression, Subscript, Loops}
-use Rattle.tree.specs.View.{ConstructorLoop, loops}
+use Rattle.tree.specs.View.{ConstructorLoop, constructor_loops}
 use Rattle.f90_grammar.specs.Phrases as phrases
-use Rattle.f90_grammar.specs.Phrases.{Phrase, tree_of, tree_of_part, trees_of_parts, trees_of_values, looped, called, signed, argument_of, arguments_of, natural_in, list_in}
+use Rattle.f90_grammar.specs.Phrases.{Phrase90, tree_of, tree_of_part, trees_of_parts, trees_of_values, looped, called, arguments90_of, natural_in, list_in}
+use Rattle.reading.specs.Signs.{signed, argument_of}
 use Rattle.f90_expressions.specs.Flat as flats
 use Rattle.f90_expressions.specs.Flat.{Node, flat, flat_part, flat_parts, flat_values, flat_turn}
 use Rattle.f90_trees.specs.Building.{MakesTree, Entry, Value, Part, Mark, Turn, loop_of, Parts, parts_above, Values, values_above, constructed, listed, built_on, build_all, held, held_all, held_subscript, held_subscripts, held_loops, held_dimension, called_held}
@@ -74,10 +75,10 @@ parts_held : (ss : List Subscript) → tree.subscripts (held_parts ss) ≡ held_
 parts_held [] = refl
 parts_held (s ∷ ss) = ap (tree.subscript (held_subscript s)) (parts_held ss)
 
-arguments_held : (ss : List Subscript) → tree.expressions (arguments_of (held_parts ss)) ≡ held_all (tree.expressions (arguments_of ss))
+arguments_held : (ss : List Subscript) → tree.expressions (arguments90_of (held_parts ss)) ≡ held_all (tree.expressions (arguments90_of ss))
 arguments_held [] = refl
 arguments_held (s ∷ ss) =
-    ap (λ (e : Expression). tree.expression e (tree.expressions (arguments_of (held_parts ss)))) (held_argument s)
+    ap (λ (e : Expression). tree.expression e (tree.expressions (arguments90_of (held_parts ss)))) (held_argument s)
     ∙ ap (tree.expression (held (argument_of s))) (arguments_held ss)
 
 spread_held : (s d n : Subscript)
@@ -157,21 +158,21 @@ before-last : (more : List ConstructorLoop) (l : ConstructorLoop) (ls : Loops) �
 before-last [] l ls = refl
 before-last (k ∷ more) l ls = ap (tree.loop k.variable k.first k.last) (before-last more l ls)
 
-loops_before : (ls : List ConstructorLoop) → before ls tree.no_loops ≡ loops ls
+loops_before : (ls : List ConstructorLoop) → before ls tree.no_loops ≡ constructor_loops ls
 loops_before [] = refl
 loops_before (l ∷ ls) = ap (tree.loop l.variable l.first l.last) (loops_before ls)
 
 module _ (f : List ℕ → Option Intrinsic) where
-  abbrev made : Phrase → Expression
+  abbrev made : Phrase90 → Expression
   made p = held (tree_of f p)
 
-  abbrev made_part : phrases.Part → Subscript
+  abbrev made_part : phrases.ListPart → Subscript
   made_part p = held_subscript (tree_of_part f p)
 
-  abbrev made_parts : phrases.Parts → List Subscript
+  abbrev made_parts : phrases.ListParts → List Subscript
   made_parts ps = held_parts (trees_of_parts f ps)
 
-  abbrev made_values : phrases.Phrases → List Expression
+  abbrev made_values : phrases.Phrases90 → List Expression
   made_values ps = held_values (trees_of_values f ps)
 
   abbrev under_turn : phrases.Turn → Expression
@@ -207,7 +208,7 @@ module _ (f : List ℕ → Option Intrinsic) where
       ∙ ap (λ (q : tree.Expressions). build_all f r (Value (tree.Constructor q tree.no_loops) ∷ st)) (values_held es))
 
   mutual
-    makes : (p : Phrase) (r : List Node) (st : List Entry) → build_all f (flat p ++ r) st ≡ build_all f r (Value (made p) ∷ st)
+    makes : (p : Phrase90) (r : List Node) (st : List Entry) → build_all f (flat p ++ r) st ≡ build_all f r (Value (made p) ∷ st)
     makes (phrases.Literal t) r st = refl
     makes (phrases.Truth b) r st = refl
     makes (phrases.Name x) r st = refl
@@ -231,7 +232,7 @@ module _ (f : List ℕ → Option Intrinsic) where
         ∙ ap (λ (e : Expression). build_all f r (Value e ∷ st))
         (ap (tree.Constructor (tree.expression (under_turn t) tree.no_expressions)) (sym (loops_before (loops_in t))) ∙ sym (looped_is t tree.no_loops)))
 
-    makes_part : (p : phrases.Part) (r : List Node) (st : List Entry) → build_all f (flat_part p ++ r) st ≡ build_all f r (Part (made_part p) ∷ st)
+    makes_part : (p : phrases.ListPart) (r : List Node) (st : List Entry) → build_all f (flat_part p ++ r) st ≡ build_all f r (Part (made_part p) ∷ st)
     makes_part (phrases.Value p) r st = grouped (flat p) (flats.One ∷ []) r st ∙ makes p (flats.One ∷ r) st
     makes_part (phrases.Range a b) r st =
         grouped (flat a) (flat b ++ flats.Bounds ∷ []) r st
@@ -245,7 +246,7 @@ module _ (f : List ℕ → Option Intrinsic) where
         ∙ (grouped (flat c) (flats.Stride ∷ []) r (Value (made b) ∷ (Value (made a) ∷ st))
         ∙ makes c (flats.Stride ∷ r) (Value (made b) ∷ (Value (made a) ∷ st))))))
 
-    makes_parts : (ps : phrases.Parts) (r : List Node) (st : List Entry) → build_all f (flat_parts ps ++ r) st ≡ build_all f r (parts_on (made_parts ps) st)
+    makes_parts : (ps : phrases.ListParts) (r : List Node) (st : List Entry) → build_all f (flat_parts ps ++ r) st ≡ build_all f r (parts_on (made_parts ps) st)
     makes_parts (phrases.One p) r st = makes_part p r st
     makes_parts (phrases.Then ps p) r st =
         grouped (flat_parts ps) (flat_part p) r st
@@ -254,7 +255,7 @@ module _ (f : List ℕ → Option Intrinsic) where
         ∙ ap (build_all f r)
         (sym (ap (λ (q : List Subscript). parts_on q st) (held_parts-last (trees_of_parts f ps) (tree_of_part f p)) ∙ parts_on-last (made_parts ps) (made_part p) st))))
 
-    makes_values : (ps : phrases.Phrases) (r : List Node) (st : List Entry) → build_all f (flat_values ps ++ r) st ≡ build_all f r (values_on (made_values ps) st)
+    makes_values : (ps : phrases.Phrases90) (r : List Node) (st : List Entry) → build_all f (flat_values ps ++ r) st ≡ build_all f r (values_on (made_values ps) st)
     makes_values (phrases.Sole p) r st = makes p r st
     makes_values (phrases.More ps p) r st =
         grouped (flat_values ps) (flat p) r st

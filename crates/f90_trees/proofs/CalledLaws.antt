@@ -15,7 +15,8 @@ use Rattle.tree.specs.Plain as tree
 use Rattle.tree.specs.Plain.{Expression, Subscript, Expressions}
 use Rattle.tree.specs.View.{expression_of, subscript_of}
 use Rattle.tree.proofs.Equations.{expression_of-call, expression_of-reduce, expression_of-transpose, expression_of-reshape, expression_of-spread}
-use Rattle.f90_grammar.specs.Phrases.{argument_of, arguments_of, natural_in, list_in}
+use Rattle.f90_grammar.specs.Phrases.{arguments90_of, natural_in, list_in}
+use Rattle.reading.specs.Signs.{argument_of}
 use Rattle.f90_trees.specs.Building.{called_held, held_dimension}
 
 abbrev written : List ℕ → List Sub → Expression
@@ -101,6 +102,6 @@ spread_is x l s t u e f g a b d h i v j w k y =
     made : (p q : Expression) (m n : ℕ) (r z : Expression) → p ≡ q → m ≡ n → r ≡ z → tree.Spread p m r ≡ tree.Spread q n z
     made p q m n r z a b c = cc
 
-pub elemental_is : (f : Fun) (x : List ℕ) (l : List Sub) (es : Seq Expr) → map expression_of es ≡ arguments_of (map subscript_of l)
+pub elemental_is : (f : Fun) (x : List ℕ) (l : List Sub) (es : Seq Expr) → map expression_of es ≡ arguments90_of (map subscript_of l)
     → expression_of (exprs.Call f es) ≡ called_held (Some (intrinsics.Elemental f)) x (map subscript_of l)
 elemental_is f x l es h = expression_of-call f es ∙ ap (λ (q : List Expression). tree.Apply f (tree.expressions q)) h

@@ -7,7 +7,7 @@ use Rattle.tree.specs.declared.lists.Memory.{Memory}
 use Rattle.tree.specs.Plain as tree
 use Rattle.tree.specs.View.{expression_of}
 use Rattle.f90_grammar.specs.Phrases as phrases
-use Rattle.f90_grammar.specs.Phrases.{Phrase, SuitsCalls, PartsSuitCalls, tree_of}
+use Rattle.f90_grammar.specs.Phrases.{Phrase90, SuitsCalls, PartsSuitCalls, tree_of}
 use Rattle.f90_expressions.specs.Flat as flats
 use Rattle.f90_expressions.specs.Flat.{Node, flat, flat_parts, flat_values, flat_turn}
 use Rattle.f90_expressions.specs.Views.{node_seen, nodes_seen}
@@ -30,7 +30,7 @@ some_cond : {A : Type 0} (b : Bool) (x : A) → is_some (cond b (Some x) None) �
 some_cond true x = refl
 some_cond false x = refl
 
-pub calls_told : (r : Result Bool Memory) (e : Expression) (fs : Functions) (p : Phrase) → Tells r (check_all (function_in fs) (nodes_seen e.nodes) []) → IsMadeOf e p
+pub calls_told : (r : Result Bool Memory) (e : Expression) (fs : Functions) (p : Phrase90) → Tells r (check_all (function_in fs) (nodes_seen e.nodes) []) → IsMadeOf e p
     → TellsCallsOf r fs p
 calls_told (Ok b) e fs p h m =
     let f = function_in fs in
@@ -40,7 +40,7 @@ calls_told (Err x) e fs p h m = tt
 
 -- ---- the last part of a list
 
-abbrev last_of : Phrase → Node
+abbrev last_of : Phrase90 → Node
 last_of (phrases.Literal t) = flats.Digits t
 last_of (phrases.Truth b) = flats.Truth b
 last_of (phrases.Name x) = flats.Name x
@@ -51,7 +51,7 @@ last_of (phrases.Joined o a b) = flats.Infix o
 last_of (phrases.Values ps) = flats.Values
 last_of (phrases.Looped t) = flats.Looped
 
-abbrev front_of : Phrase → List Node
+abbrev front_of : Phrase90 → List Node
 front_of (phrases.Literal t) = []
 front_of (phrases.Truth b) = []
 front_of (phrases.Name x) = []
@@ -62,7 +62,7 @@ front_of (phrases.Joined o a b) = flat a ++ flat b
 front_of (phrases.Values ps) = flats.Begin ∷ flat_values ps
 front_of (phrases.Looped t) = flats.Begin ∷ flat_turn t
 
-cut : (p : Phrase) → flat p ≡ front_of p ++ last_of p ∷ []
+cut : (p : Phrase90) → flat p ≡ front_of p ++ last_of p ∷ []
 cut (phrases.Literal t) = refl
 cut (phrases.Truth b) = refl
 cut (phrases.Name x) = refl
@@ -87,7 +87,7 @@ last_once (z ∷ xs) (w ∷ ys) x y e =
     let k = last_once xs ys x y h.1 in
     (ap (λ (q : List Node). z ∷ q) k.0 ∙ ap (λ (q : Node). q ∷ ys) h.0, k.1)
 
-parts_of : (e : Expression) (p : Phrase) (parts : List code.Node) (last : code.Node) → e.nodes ≡ parts ++ last ∷ [] → IsMadeOf e p
+parts_of : (e : Expression) (p : Phrase90) (parts : List code.Node) (last : code.Node) → e.nodes ≡ parts ++ last ∷ [] → IsMadeOf e p
     → (nodes_seen parts ≡ front_of p) × (node_seen last ≡ last_of p)
 parts_of e p parts last h m =
     last_once (nodes_seen parts) (front_of p) (node_seen last) (last_of p)
@@ -98,7 +98,7 @@ clash b h k = absurd (cc)
 
 -- ---- what is stored into
 
-told_parts : (r : Result Bool Memory) (fs : Functions) (x : List ℕ) (ps : phrases.Parts) (ns : List Node) → Tells r (check_all (function_in fs) ns []) → ns ≡ flats.Begin ∷ flat_parts ps
+told_parts : (r : Result Bool Memory) (fs : Functions) (x : List ℕ) (ps : phrases.ListParts) (ns : List Node) → Tells r (check_all (function_in fs) ns []) → ns ≡ flats.Begin ∷ flat_parts ps
     → TellsCallsIn r fs (phrases.Listed x ps)
 told_parts (Ok b) fs x ps ns h e =
     let f = function_in fs in
@@ -106,21 +106,21 @@ told_parts (Ok b) fs x ps ns h e =
     (λ t. suit_parts f ps (sym k ∙ t), λ s. k ∙ are_good f ps s)
 told_parts (Err y) fs x ps ns h e = tt
 
-by_phrase : (r : Result Bool Memory) (fs : Functions) (p : Phrase) (ns : List Node) → is_list (last_of p) ≡ true → Tells r (check_all (function_in fs) ns []) → ns ≡ front_of p
+by_phrase : (r : Result Bool Memory) (fs : Functions) (p : Phrase90) (ns : List Node) → is_list (last_of p) ≡ true → Tells r (check_all (function_in fs) ns []) → ns ≡ front_of p
     → TellsCallsIn r fs p
 by_phrase r fs (phrases.Listed x ps) ns l h e = told_parts r fs x ps ns h e
 by_phrase r fs p ns l h e = absurd (cc)
 
-pub variable_listed : (r : Result Bool Memory) (e : Expression) (fs : Functions) (p : Phrase) (parts : List code.Node) (last : code.Node) → e.nodes ≡ parts ++ last ∷ []
+pub variable_listed : (r : Result Bool Memory) (e : Expression) (fs : Functions) (p : Phrase90) (parts : List code.Node) (last : code.Node) → e.nodes ≡ parts ++ last ∷ []
     → is_list (node_seen last) ≡ true → Tells r (check_all (function_in fs) (nodes_seen parts) []) → IsMadeOf e p → TellsCallsIn r fs p
 variable_listed r e fs p parts last h l t m =
     let k = parts_of e p parts last h m in by_phrase r fs p (nodes_seen parts) (ap is_list (sym k.1) ∙ l) t k.0
 
-no_list : (fs : Functions) (p : Phrase) → is_list (last_of p) ≡ false → TellsCallsIn (Ok true) fs p
+no_list : (fs : Functions) (p : Phrase90) → is_list (last_of p) ≡ false → TellsCallsIn (Ok true) fs p
 no_list fs (phrases.Listed x ps) l = absurd (cc)
 no_list fs p l = (λ h. tt, λ h. refl)
 
-pub variable_other : (e : Expression) (fs : Functions) (p : Phrase) (parts : List code.Node) (last : code.Node) → e.nodes ≡ parts ++ last ∷ []
+pub variable_other : (e : Expression) (fs : Functions) (p : Phrase90) (parts : List code.Node) (last : code.Node) → e.nodes ≡ parts ++ last ∷ []
     → is_list (node_seen last) ≡ false → IsMadeOf e p → TellsCallsIn (Ok true) fs p
 variable_other e fs p parts last h l m = let k = parts_of e p parts last h m in no_list fs p (ap is_list (sym k.1) ∙ l)
 
@@ -128,12 +128,12 @@ not_empty : (ns : List Node) (n : Node) → [] ≡ ns ++ n ∷ [] → ⊥
 not_empty [] n e = cc
 not_empty (m ∷ ns) n e = cc
 
-pub variable_empty : (e : Expression) (fs : Functions) (p : Phrase) → e.nodes ≡ [] → IsMadeOf e p → TellsCallsIn (Ok true) fs p
+pub variable_empty : (e : Expression) (fs : Functions) (p : Phrase90) → e.nodes ≡ [] → IsMadeOf e p → TellsCallsIn (Ok true) fs p
 variable_empty e fs p h m = absurd (not_empty (front_of p) (last_of p) (sym (ap nodes_seen h) ∙ (m.nodes ∙ cut p)))
 
 -- ---- trees
 
-made_is : (e : Expression) (fs : Functions) (p : Phrase) → IsMadeOf e p → build_all (function_in fs) (nodes_seen e.nodes) [] ≡ Some (building.Value (held (tree_of (function_in fs) p)) ∷ [])
+made_is : (e : Expression) (fs : Functions) (p : Phrase90) → IsMadeOf e p → build_all (function_in fs) (nodes_seen e.nodes) [] ≡ Some (building.Value (held (tree_of (function_in fs) p)) ∷ [])
 made_is e fs p m = ap (λ (q : List Node). build_all (function_in fs) q []) m.nodes ∙ makes_tree (function_in fs) p
 
 pub not_unmade : (e : Expression) (fs : Functions) → IsOfPhrase e → ((x : tree.Expression) → build_all (function_in fs) (nodes_seen e.nodes) [] ≡ Some (building.Value x ∷ []) → ⊥) → ⊥
@@ -142,33 +142,33 @@ not_unmade e fs k n = n (held (tree_of (function_in fs) k.phrase)) (made_is e fs
 same_value : (x y : tree.Expression) → Some (building.Value x ∷ []) ≡ Some (building.Value y ∷ []) → x ≡ y
 same_value x y e = cc
 
-pub tree_made : (e : Expression) (fs : Functions) (x : Expr) (p : Phrase) → build_all (function_in fs) (nodes_seen e.nodes) [] ≡ Some (building.Value (expression_of x) ∷ [])
+pub tree_made : (e : Expression) (fs : Functions) (x : Expr) (p : Phrase90) → build_all (function_in fs) (nodes_seen e.nodes) [] ≡ Some (building.Value (expression_of x) ∷ [])
     → IsMadeOf e p → expression_of x ≡ held (tree_of (function_in fs) p)
 tree_made e fs x p h m = same_value (expression_of x) (held (tree_of (function_in fs) p)) (sym h ∙ made_is e fs p m)
 
 -- ---- the same of slices
 
-pub calls_told_at : (ns : List code.Node) (r : Result Bool Memory) (e : Expression) (fs : Functions) (p : Phrase) → ns ≡ e.nodes
+pub calls_told_at : (ns : List code.Node) (r : Result Bool Memory) (e : Expression) (fs : Functions) (p : Phrase90) → ns ≡ e.nodes
     → Tells r (check_all (function_in fs) (nodes_seen ns) []) → IsMadeOf e p → TellsCallsOf r fs p
 calls_told_at ns r e fs p h t m =
     calls_told r e fs p (subst (λ (q : List code.Node). Tells r (check_all (function_in fs) (nodes_seen q) [])) h t) m
 
-pub listed_at : (ns : List code.Node) (r : Result Bool Memory) (e : Expression) (fs : Functions) (p : Phrase) (parts : List code.Node) (last : code.Node) → ns ≡ e.nodes
+pub listed_at : (ns : List code.Node) (r : Result Bool Memory) (e : Expression) (fs : Functions) (p : Phrase90) (parts : List code.Node) (last : code.Node) → ns ≡ e.nodes
     → ns ≡ parts ++ last ∷ [] → is_list (node_seen last) ≡ true → Tells r (check_all (function_in fs) (nodes_seen parts) []) → IsMadeOf e p → TellsCallsIn r fs p
 listed_at ns r e fs p parts last h k l t m = variable_listed r e fs p parts last (sym h ∙ k) l t m
 
-pub other_at : (ns : List code.Node) (e : Expression) (fs : Functions) (p : Phrase) (parts : List code.Node) (last : code.Node) → ns ≡ e.nodes
+pub other_at : (ns : List code.Node) (e : Expression) (fs : Functions) (p : Phrase90) (parts : List code.Node) (last : code.Node) → ns ≡ e.nodes
     → ns ≡ parts ++ last ∷ [] → is_list (node_seen last) ≡ false → IsMadeOf e p → TellsCallsIn (Ok true) fs p
 other_at ns e fs p parts last h k l m = variable_other e fs p parts last (sym h ∙ k) l m
 
-pub empty_at : (ns : List code.Node) (e : Expression) (fs : Functions) (p : Phrase) → ns ≡ e.nodes → ns ≡ [] → IsMadeOf e p → TellsCallsIn (Ok true) fs p
+pub empty_at : (ns : List code.Node) (e : Expression) (fs : Functions) (p : Phrase90) → ns ≡ e.nodes → ns ≡ [] → IsMadeOf e p → TellsCallsIn (Ok true) fs p
 empty_at ns e fs p h k m = variable_empty e fs p (sym h ∙ k) m
 
 pub unmade_at : (ns : List code.Node) (e : Expression) (fs : Functions) → ns ≡ e.nodes → IsOfPhrase e
     → ((x : tree.Expression) → build_all (function_in fs) (nodes_seen ns) [] ≡ Some (building.Value x ∷ []) → ⊥) → ⊥
 unmade_at ns e fs h k n = not_unmade e fs k (λ x q. n x (ap (λ (z : List code.Node). build_all (function_in fs) (nodes_seen z) []) h ∙ q))
 
-pub made_at : (ns : List code.Node) (e : Expression) (fs : Functions) (x : Expr) (p : Phrase) → ns ≡ e.nodes
+pub made_at : (ns : List code.Node) (e : Expression) (fs : Functions) (x : Expr) (p : Phrase90) → ns ≡ e.nodes
     → build_all (function_in fs) (nodes_seen ns) [] ≡ Some (building.Value (expression_of x) ∷ []) → IsMadeOf e p → expression_of x ≡ held (tree_of (function_in fs) p)
 made_at ns e fs x p h k m = tree_made e fs x p (ap (λ (z : List code.Node). build_all (function_in fs) (nodes_seen z) []) (sym h) ∙ k) m
 

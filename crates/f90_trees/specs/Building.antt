@@ -7,8 +7,9 @@ use Rattle.tree.specs.declared.functions.Intrinsic.TheVariants as intrinsics
 use Rattle.tree.specs.declared.ops.Op.{Op}
 use Rattle.tree.specs.Plain as tree
 use Rattle.tree.specs.Plain.{Expression, Expressions, Subscript, Subscripts, Loops}
-use Rattle.tree.specs.View.{ConstructorLoop, loops}
-use Rattle.f90_grammar.specs.Phrases.{Phrase, tree_of, called, signed, value_of_digits, argument_of, natural_in}
+use Rattle.tree.specs.View.{ConstructorLoop, constructor_loops}
+use Rattle.f90_grammar.specs.Phrases.{Phrase90, tree_of, called, value_of_digits, natural_in}
+use Rattle.reading.specs.Signs.{signed, argument_of}
 use Rattle.f90_expressions.specs.Flat as flats
 use Rattle.f90_expressions.specs.Flat.{Node, flat}
 
@@ -132,7 +133,7 @@ turned_round x st =
 
 abbrev pub looped : List Entry → Option (List Entry)
 looped st = with_turn st (λ e ls more. with_mark more (λ under.
-    valued (tree.Constructor (tree.expression e tree.no_expressions) (loops ls)) under))
+    valued (tree.Constructor (tree.expression e tree.no_expressions) (constructor_loops ls)) under))
 
 abbrev pub constructed : Option Values → Option (List Entry)
 constructed (Some v) = valued (tree.Constructor (tree.expressions v.values) tree.no_loops) v.under
@@ -175,5 +176,5 @@ module _ (function : List ℕ → Option Intrinsic) where
 
 -- the list of an expression makes its tree
 abbrev pub MakesTree : Type 0
-MakesTree = (function : List ℕ → Option Intrinsic) (p : Phrase)
+MakesTree = (function : List ℕ → Option Intrinsic) (p : Phrase90)
     → build_all function (flat p) [] ≡ Some (Value (held (tree_of function p)) ∷ [])

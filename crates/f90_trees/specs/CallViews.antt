@@ -1,7 +1,6 @@
 -- What the code holds while it looks at calls, as what lies on the stack.
 use Rattle.std.specs.Prelude.{◌≡◌, ℕ, Bool, true, false, List, [], ◌∷◌, map, reverse}
-use Rattle.std.specs.Prelude.{Option, Some, None, Result, Ok, Err}
-use Rattle.std.specs.Prelude.{is_some}
+use Rattle.std.specs.Prelude.{Option, Some, None, Result, Ok, Err, is_some}
 use Rattle.tree.specs.declared.lists.Memory.{Memory}
 use Rattle.f90_trees.specs.declared.calls.Shape.{Shape}
 use Rattle.f90_trees.specs.declared.calls.Shape.TheVariants as shapes

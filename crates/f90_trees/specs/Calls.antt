@@ -4,7 +4,7 @@ use Rattle.std.specs.Prelude.{◌∷◌}
 use Rattle.tree.specs.declared.functions.Intrinsic.{Intrinsic}
 use Rattle.tree.specs.declared.functions.Intrinsic.TheVariants.{Spread, Reshape}
 use Rattle.f90_grammar.specs.Phrases as phrases
-use Rattle.f90_grammar.specs.Phrases.{Phrase, SuitsCalls, length_of_values}
+use Rattle.f90_grammar.specs.Phrases.{Phrase90, SuitsCalls, length_of_values}
 use Rattle.f90_expressions.specs.Flat as flats
 use Rattle.f90_expressions.specs.Flat.{Node, flat}
 
@@ -14,7 +14,7 @@ pub data Shape : Type 0 where
   Listing : ℕ → Shape
   Other : Shape
 
-abbrev pub shape_of : Phrase → Shape
+abbrev pub shape_of : Phrase90 → Shape
 shape_of (phrases.Literal t) = Literal
 shape_of (phrases.Values ps) = Listing (length_of_values ps)
 shape_of p = Other
@@ -161,9 +161,9 @@ module _ (function : List ℕ → Option Intrinsic) where
   check_all (n ∷ ns) st = checked_on (check n st) (check_all ns)
 
 -- the list tells whether the calls of an expression have arguments that may stand there
-pub record TellsCalls (function : List ℕ → Option Intrinsic) (p : Phrase) : Type 0 where
+pub record TellsCalls (function : List ℕ → Option Intrinsic) (p : Phrase90) : Type 0 where
   pub suit : SuitsCalls function p → check_all function (flat p) [] ≡ Some (Value (shape_of p) ∷ [])
   pub others : (SuitsCalls function p → ⊥) → check_all function (flat p) [] ≡ None
 
 abbrev pub ListTellsCalls : Type 0
-ListTellsCalls = (function : List ℕ → Option Intrinsic) (p : Phrase) → TellsCalls function p
+ListTellsCalls = (function : List ℕ → Option Intrinsic) (p : Phrase90) → TellsCalls function p

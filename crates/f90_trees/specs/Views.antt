@@ -1,6 +1,5 @@
 -- What the code holds while it makes a tree, as what lies on the stack.
-use Rattle.std.specs.Prelude.{◌≡◌, Bool, true, false, List, [], ◌∷◌, map, reverse}
-use Rattle.std.specs.Prelude.{Option, Some, None, Result, Ok, Err}
+use Rattle.std.specs.Prelude.{◌≡◌, Bool, true, false, List, [], ◌∷◌, map, reverse, Option, Some, None, Result, Ok, Err}
 use Rattle.tree.specs.declared.exprs.Expr.{Expr}
 use Rattle.tree.specs.declared.exprs.Sub.{Sub}
 use Rattle.tree.specs.declared.exprs.Turn as exprs

@@ -4,9 +4,9 @@ ghost use Rattle.tree.specs.Limits.{greatest_literal};
 ghost use Rattle.tree.specs.declared.functions.Intrinsic.TheVariants as functions;
 ghost use Rattle.tree.specs.Plain.{Number, Named, expressions, subscripts};
 ghost use Rattle.tree.specs.View.{expression_of, subscript_of};
-ghost use Rattle.f90_grammar.specs.Phrases.{value_of_digits, argument_of, arguments_of, natural_in, list_in, signed};
+ghost use Rattle.f90_grammar.specs.Phrases.{value_of_digits, arguments90_of, natural_in, list_in};
 ghost use Rattle.f90_expressions.specs.Views.{node_seen, nodes_seen};
-ghost use Rattle.reading.specs.Signs.{sign_view};
+ghost use Rattle.reading.specs.Signs.{sign_view, argument_of, signed};
 ghost use Rattle.f90_trees.specs.Building as building;
 ghost use Rattle.f90_trees.specs.Building.{held_dimension, called_held};
 ghost use Rattle.f90_trees.specs.Hiding.{function_in};
@@ -303,7 +303,7 @@ fn argument(part: Sub) -> Expr
 
 #[tactic(auto, using(crate::proofs::BuildLaws::arguments))]
 fn arguments(alloc: Global, parts: Seq<Sub>) -> Result<Seq<Expr>, Memory>
-    ensures { IfOk result (λ exprs. map expression_of exprs ≡ arguments_of (map subscript_of parts)) }
+    ensures { IfOk result (λ exprs. map expression_of exprs ≡ arguments90_of (map subscript_of parts)) }
 {
     let mut exprs = Seq::new(alloc);
     for part in parts.into_vec() {

@@ -1,6 +1,6 @@
 //! The trees of expressions, and whether their calls have arguments that may stand there.
 ghost use Rattle.std.specs.Prelude.{◌≡◌};
-ghost use Rattle.f90_grammar.specs.Phrases.{Phrase};
+ghost use Rattle.f90_grammar.specs.Phrases.{Phrase90};
 ghost use Rattle.f90_expressions.specs.Reading.{IsMadeOf};
 ghost use Rattle.f90_expressions.specs.Views.{node_seen};
 ghost use Rattle.f90_trees.specs.Trees.{IsOfPhrase, TellsCallsOf, TellsCallsIn, IsTreeOf, is_list};
@@ -41,7 +41,7 @@ pub fn suits_calls(
     expression: &Expression,
     functions: &Functions,
 ) -> Result<bool, Memory>
-    ensures { (p : Phrase) → IsMadeOf expression.now p → TellsCallsOf result functions.now p }
+    ensures { (p : Phrase90) → IsMadeOf expression.now p → TellsCallsOf result functions.now p }
 {
     suit(alloc, expression.nodes.as_slice(), functions)
 }
@@ -53,7 +53,7 @@ pub fn variable_suits_calls(
     variable: &Expression,
     functions: &Functions,
 ) -> Result<bool, Memory>
-    ensures { (p : Phrase) → IsMadeOf variable.now p → TellsCallsIn result functions.now p }
+    ensures { (p : Phrase90) → IsMadeOf variable.now p → TellsCallsIn result functions.now p }
 {
     let Some((last, parts)) = variable.nodes.as_slice().split_last() else {
         return Ok(true);
@@ -71,7 +71,7 @@ pub fn variable_suits_calls(
 #[tactic(auto, using(crate::proofs::TreeLaws::slices))]
 pub fn tree(alloc: Global, expression: &Expression, functions: &Functions) -> Result<Expr, Memory>
     requires { IsOfPhrase expression.now }
-    ensures { (p : Phrase) → IsMadeOf expression.now p → IsTreeOf result functions.now p }
+    ensures { (p : Phrase90) → IsMadeOf expression.now p → IsTreeOf result functions.now p }
 {
     let Some(expr) = made(alloc, expression.nodes.as_slice(), functions)? else {
         unreachable!();

@@ -2,11 +2,11 @@
 use Rattle.std.proofs.Common.{◌≡◌, ℕ, zero, suc, ◌<◌, Bool, true, false, cond, Option, Some, None, List, [], ◌∷◌, map, filter, length, get_or, Contains, refl, sym, ap, ◌∙◌, arith}
 use Rattle.tree.specs.Plain.{Program, Statement, Declaration}
 use Rattle.nest.specs.Plain.{Nest}
-use Rattle.find_nests.specs.nest_parts.Numbers.{next}
+use Rattle.find_nests.specs.nest_parts.Numbers.{next_loop_number}
 use Rattle.find_nests.specs.declared.reasons.Reason.{Reason}
 use Rattle.find_nests.specs.declared.reasons.Reason.TheVariants.{Exit, InnerIf, Bound, Step, Deep, Large}
 use Rattle.find_nests.specs.Reasons.{has_reason, first_that_holds, reasons}
-use Rattle.find_nests.specs.Loops.{Numbered, Placed, loops_in_block}
+use Rattle.find_nests.specs.Loops.{Numbered, SurroundedLoop, loops_in_block}
 use Rattle.find_nests.specs.LookedAt.{is_in_no_nest, reason_of, looked_at}
 use Rattle.find_nests.specs.Found.{InNest, Kept, found_as, nests_with, found_among, nest_of_loop}
 use Rattle.find_nests.specs.Laws.{FoundNestIsLoop, KeptIsLoop, NoReasonHolds, ReasonHolds}
@@ -33,7 +33,7 @@ module _ (p : Program) where
   NestOf m l = (reason_of ds l.loop ≡ None) × (m ≡ nest_of_loop p m.number l)
 
   nest_here : (n : ℕ) (l : Numbered) (m : Nest) (o : Option Reason) → reason_of ds l.loop ≡ o → found_as p n l o ≡ InNest m → NestOf m l
-  nest_here n l m None q e = let same : nest_of_loop p (next n) l ≡ m = cc in (q, sym same ∙ ap (λ k. nest_of_loop p k l) (ap (λ (x : Nest). x.number) same))
+  nest_here n l m None q e = let same : nest_of_loop p (next_loop_number n) l ≡ m = cc in (q, sym same ∙ ap (λ k. nest_of_loop p k l) (ap (λ (x : Nest). x.number) same))
   nest_here n l m (Some r) q e = let no : ⊥ = cc in absurd no
 
   nest_among : (n : ℕ) (ls : List Numbered) (m : Nest) (k : ℕ) → k < length (found_among p n ls) → get_or (found_among p n ls) k (InNest m) ≡ InNest m → LookedFor ls (NestOf m)
@@ -56,19 +56,19 @@ module _ (p : Program) where
 
 -- ---- among all loops
 
-abbrev loop_of : Placed → Numbered
+abbrev loop_of : SurroundedLoop → Numbered
 loop_of q = q.loop
 
-pub record PlacedFor (f : Placed → Bool) (ps : List Placed) (l : Numbered) : Type 0 where
-  pub place : Placed
+pub record PlacedFor (f : SurroundedLoop → Bool) (ps : List SurroundedLoop) (l : Numbered) : Type 0 where
+  pub place : SurroundedLoop
   pub stands : Contains ps place
   pub passes : f place ≡ true
   pub is : place.loop ≡ l
 
-placed_later : (f : Placed → Bool) (p : Placed) (ps : List Placed) (l : Numbered) → PlacedFor f ps l → PlacedFor f (p ∷ ps) l
+placed_later : (f : SurroundedLoop → Bool) (p : SurroundedLoop) (ps : List SurroundedLoop) (l : Numbered) → PlacedFor f ps l → PlacedFor f (p ∷ ps) l
 placed_later f p ps l h = record { place = h.place; stands = later p h.place ps h.stands; passes = h.passes; is = h.is }
 
-placed : (f : Placed → Bool) (ps : List Placed) (l : Numbered) → Contains (map loop_of (filter f ps)) l → PlacedFor f ps l
+placed : (f : SurroundedLoop → Bool) (ps : List SurroundedLoop) (l : Numbered) → Contains (map loop_of (filter f ps)) l → PlacedFor f ps l
 placed f [] l h = absurd (omega (arith, h.1))
 placed f (p ∷ ps) l h = by (f p) refl h (λ i. placed f ps l i)
   where

@@ -6,19 +6,19 @@ use Rattle.std.proofs.lemmas.List.Elements.{filter-append}
 use mathlib.Core.Path.{ap₂}
 use Rattle.tree.specs.Plain.{Statement, Assignment, Where, If, Do, Label, GoTo, Stop, Read, Print}
 use Rattle.tree.specs.Plain.{Allocate, Deallocate, Arms, no_arms, arm, Block, no_statements, statement, Declaration}
-use Rattle.find_nests.specs.nest_parts.Numbers.{next, after, after_arms, after_block}
-use Rattle.find_nests.specs.Loops.{SourceLoop, Numbered, Placed, loops_in, loops_in_arms, loops_in_block}
+use Rattle.find_nests.specs.nest_parts.Numbers.{next_loop_number, number_after, after_arms, after_block}
+use Rattle.find_nests.specs.Loops.{SourceLoop, Numbered, SurroundedLoop, loops_in, loops_in_arms, loops_in_block}
 use Rattle.find_nests.specs.LookedAt.{is_kept, is_in_no_nest, looked_at}
 use Rattle.find_nests.specs.Walk.{outermost_in, outermost_in_arms, outermost_in_block}
 
-abbrev pub loop_of : Placed → Numbered
+abbrev pub loop_of : SurroundedLoop → Numbered
 loop_of p = p.loop
 
 module _ (ds : List Declaration) where
-  abbrev in_none : List Placed → List Numbered
+  abbrev in_none : List SurroundedLoop → List Numbered
   in_none ps = map loop_of (filter (is_in_no_nest ds) ps)
 
-  in_none-append : (ps qs : List Placed) → in_none (ps ++ qs) ≡ in_none ps ++ in_none qs
+  in_none-append : (ps qs : List SurroundedLoop) → in_none (ps ++ qs) ≡ in_none ps ++ in_none qs
   in_none-append ps qs = ap (map loop_of) (filter-append (is_in_no_nest ds) ps qs) ∙ map-append loop_of (filter (is_in_no_nest ds) ps) (filter (is_in_no_nest ds) qs)
 
   abbrev all_kept : List SourceLoop → Bool
@@ -36,7 +36,7 @@ module _ (ds : List Declaration) where
       assoc true b c = refl
       assoc false b c = refl
 
-  in_none-first : (p : Placed) (ps : List Placed) → in_none (p ∷ ps) ≡ cond (is_in_no_nest ds p) (p.loop ∷ in_none ps) (in_none ps)
+  in_none-first : (p : SurroundedLoop) (ps : List SurroundedLoop) → in_none (p ∷ ps) ≡ cond (is_in_no_nest ds p) (p.loop ∷ in_none ps) (in_none ps)
   in_none-first p ps = by (is_in_no_nest ds p)
     where
       by : (b : Bool) → map loop_of (cond b (p ∷ filter (is_in_no_nest ds) ps) (filter (is_in_no_nest ds) ps)) ≡ cond b (p.loop ∷ in_none ps) (in_none ps)
@@ -66,11 +66,11 @@ module _ (ds : List Declaration) where
     within k around (Do line x a b c body) =
         let l : SourceLoop = record { line = line; variable = x; first = a; last = b; step = c; body = body } in
         let n : Numbered = record { before = k; loop = l } in
-        let inside : in_none (loops_in_block (next k) (around ++ l ∷ []) body) ≡ cond (all_kept around && is_kept ds l) (outermost_in_block ds (next k) body) [] =
-        within_block (next k) (around ++ l ∷ []) body ∙ ap (λ b. cond b (outermost_in_block ds (next k) body) []) (all-snoc around l) in
-        in_none-first (record { around = around; loop = n }) (loops_in_block (next k) (around ++ l ∷ []) body)
+        let inside : in_none (loops_in_block (next_loop_number k) (around ++ l ∷ []) body) ≡ cond (all_kept around && is_kept ds l) (outermost_in_block ds (next_loop_number k) body) [] =
+        within_block (next_loop_number k) (around ++ l ∷ []) body ∙ ap (λ b. cond b (outermost_in_block ds (next_loop_number k) body) []) (all-snoc around l) in
+        in_none-first (record { around = around; loop = n }) (loops_in_block (next_loop_number k) (around ++ l ∷ []) body)
         ∙ ap (λ ns. cond (all_kept around) (n ∷ ns) ns) inside
-        ∙ either (all_kept around) (is_kept ds l) n (outermost_in_block ds (next k) body)
+        ∙ either (all_kept around) (is_kept ds l) n (outermost_in_block ds (next_loop_number k) body)
     within k around (Label n) = none (all_kept around)
     within k around (GoTo line n) = none (all_kept around)
     within k around (Stop line) = none (all_kept around)
@@ -89,9 +89,9 @@ module _ (ds : List Declaration) where
     within_block : (k : ℕ) (around : List SourceLoop) (b : Block) → in_none (loops_in_block k around b) ≡ cond (all_kept around) (outermost_in_block ds k b) []
     within_block k around no_statements = none (all_kept around)
     within_block k around (statement c cs) =
-        in_none-append (loops_in k around c) (loops_in_block (after k c) around cs)
-        ∙ ap₂ (λ xs ys. xs ++ ys) (within k around c) (within_block (after k c) around cs)
-        ∙ two (all_kept around) (outermost_in ds k c) (outermost_in_block ds (after k c) cs)
+        in_none-append (loops_in k around c) (loops_in_block (number_after k c) around cs)
+        ∙ ap₂ (λ xs ys. xs ++ ys) (within k around c) (within_block (number_after k c) around cs)
+        ∙ two (all_kept around) (outermost_in ds k c) (outermost_in_block ds (number_after k c) cs)
 
   -- the loops that stand in no nest are found part by part
   pub looked_at-is : (b : Block) → looked_at ds b ≡ outermost_in_block ds 0 b

@@ -15,9 +15,9 @@ use Rattle.tree.specs.declared.stmts.Stmt.TheVariants as stmts
 use Rattle.tree.specs.declared.stmts.Arm.{Arm}
 use Rattle.tree.specs.declared.stmts.Block.{Block, out-Block}
 use Rattle.tree.proofs.Equations.{statement_equations, statement_of-if, statement_of-do, block_of-is}
-use Rattle.find_nests.specs.nest_parts.Numbers.{next, after, after_arms, after_block}
+use Rattle.find_nests.specs.nest_parts.Numbers.{next_loop_number, number_after, after_arms, after_block}
 use Rattle.find_nests.specs.nest_parts.Lists.{after_each, after_list}
-use Rattle.find_nests.proofs.NestParts.PartLaws.{part_laws, after_each_is, after-block}
+use Rattle.find_nests.proofs.NestParts.PartLaws.{part_laws, after_each_is, number_after-block}
 use Rattle.find_nests.specs.declared.reasons.Reason.{Reason}
 use Rattle.find_nests.specs.Reasons.{reason_over}
 use Rattle.find_nests.specs.Loops.{SourceLoop, Numbered}
@@ -53,7 +53,7 @@ module _ (ds : List Declaration) where
 
   pub each_statement : (k : ℕ) (cs : List Statement) → outermost_in_block ds k (block cs) ≡ outermost_list ds k cs
   each_statement k [] = refl
-  each_statement k (c ∷ cs) = ap (λ ls. outermost_in ds k c ++ ls) (each_statement (after k c) cs)
+  each_statement k (c ∷ cs) = ap (λ ls. outermost_in ds k c ++ ls) (each_statement (number_after k c) cs)
 
   pub loops-block : (k : ℕ) (b : Block) → outermost_in_block ds k (block_of b) ≡ outermost_list ds k (map statement_of (out-Block b).stmts)
   loops-block k b = ap (outermost_in_block ds k) (block_of-is b) ∙ each_statement k (map statement_of (out-Block b).stmts)
@@ -92,7 +92,7 @@ module _ (p : Program) (k m line : ℕ) (x : Name) (a b c : Expr) (body : Block)
   turns = statement_of (stmts.Do line x a b c body)
 
   abbrev inside : List Numbered
-  inside = outermost_in_block p.declarations (next k) (block_of body)
+  inside = outermost_in_block p.declarations (next_loop_number k) (block_of body)
 
   abbrev reason : Option Reason
   reason = reason_over (symbols_of p.declarations x (block_of body)) turns
@@ -115,11 +115,11 @@ module _ (p : Program) (k m line : ℕ) (x : Name) (a b c : Expr) (body : Block)
   nests-do : (o : Option Reason) → o ≡ reason → nests_among p.declarations m (outermost_in p.declarations k turns) ≡ nests_then o
   nests-do o e = ap (nests_among p.declarations m) loops-do ∙ ap nests_then (sym (e ∙ reason-is))
 
-  pub nest-found : (old new : List Found) → None ≡ reason → new ≡ old ++ InNest (nest_of_loop p (next m) numbered) ∷ []
+  pub nest-found : (old new : List Found) → None ≡ reason → new ≡ old ++ InNest (nest_of_loop p (next_loop_number m) numbered) ∷ []
       → new ≡ old ++ found_among p m (outermost_in p.declarations k turns)
   nest-found old new e h = h ∙ ap (λ fs. old ++ fs) (sym (found-do None e))
 
-  pub nest-nests : None ≡ reason → next m ≡ nests_among p.declarations m (outermost_in p.declarations k turns)
+  pub nest-nests : None ≡ reason → next_loop_number m ≡ nests_among p.declarations m (outermost_in p.declarations k turns)
   nest-nests e = sym (nests-do None e)
 
   pub kept-found : (r : Reason) (old more new : List Found) → Some r ≡ reason → more ≡ old ++ Kept line r ∷ []
@@ -195,7 +195,7 @@ module _ (p : Program) (ss : List Stmt) (k n : ℕ) (first fs gs : List Found) (
   rest = map statement_of (drop (i + 1) ss)
 
   pub next_statement : i < length ss → s ≡ get_or ss i s → Between p ss k n first i l m fs → gs ≡ fs ++ found_among p m here → m' ≡ nests_among ds m here
-      → l' ≡ after l (statement_of s) → Between p ss k n first (i + 1) l' m' gs
+      → l' ≡ number_after l (statement_of s) → Between p ss k n first (i + 1) l' m' gs
   next_statement h e b g f a =
       let left : map statement_of (drop i ss) ≡ statement_of s ∷ rest =
       ap (map statement_of) (drop-cons ss i s h ∙ ap (λ x. x ∷ drop (suc i) ss) (sym e) ∙ ap (λ j. s ∷ drop j ss) (sym (add-one i))) in
@@ -204,14 +204,14 @@ module _ (p : Program) (ss : List Stmt) (k n : ℕ) (first fs gs : List Found) (
             ap (λ x. x ++ found_among p m' (outermost_list ds l' rest)) g
             ∙ ap (λ x. (fs ++ found_among p m here) ++ found_among p x (outermost_list ds l' rest)) f
             ∙ ap (λ x. (fs ++ found_among p m here) ++ found_among p (nests_among ds m here) (outermost_list ds x rest)) a
-            ∙ append_assoc fs (found_among p m here) (found_among p (nests_among ds m here) (outermost_list ds (after l (statement_of s)) rest))
-            ∙ ap (λ x. fs ++ x) (sym (found-append p m here (outermost_list ds (after l (statement_of s)) rest)))
+            ∙ append_assoc fs (found_among p m here) (found_among p (nests_among ds m here) (outermost_list ds (number_after l (statement_of s)) rest))
+            ∙ ap (λ x. fs ++ x) (sym (found-append p m here (outermost_list ds (number_after l (statement_of s)) rest)))
             ∙ ap (λ x. fs ++ found_among p m (outermost_list ds l x)) (sym left)
             ∙ b.found;
         nests =
             ap (λ x. nests_among ds x (outermost_list ds l' rest)) f
             ∙ ap (λ x. nests_among ds (nests_among ds m here) (outermost_list ds x rest)) a
-            ∙ sym (nests-append ds m here (outermost_list ds (after l (statement_of s)) rest))
+            ∙ sym (nests-append ds m here (outermost_list ds (number_after l (statement_of s)) rest))
             ∙ ap (λ x. nests_among ds m (outermost_list ds l x)) (sym left)
             ∙ b.nests;
         loops = ap (λ x. after_list x rest) a ∙ ap (after_list l) (sym left) ∙ b.loops;
@@ -256,4 +256,4 @@ module _ (p : Program) (ss : List Arm) (k n : ℕ) (first fs gs : List Found) (i
 
 pub ruleset search_laws = (statement_equations, part_laws, loops-if, found-append, nests-append, append_assoc, append-nil)
 
-pub ruleset block_laws = (loops-block, after-block)
+pub ruleset block_laws = (loops-block, number_after-block)

@@ -3,7 +3,7 @@ use Rattle.std.specs.Prelude.{ℕ, Option, Some, None, List, [], ◌∷◌}
 use Rattle.tree.specs.Plain.{Program, no_statements}
 use Rattle.nest_reasons.specs.Symbols.{symbols_of}
 use Rattle.nest.specs.Plain.{Nest, Part, Turns, parts}
-use Rattle.find_nests.specs.nest_parts.Numbers.{next}
+use Rattle.find_nests.specs.nest_parts.Numbers.{next_loop_number}
 use Rattle.find_nests.specs.nest_parts.Statements.{source_loop, parts_of_block}
 use Rattle.find_nests.specs.declared.reasons.Reason.{Reason}
 use Rattle.find_nests.specs.Loops.{Numbered}
@@ -17,8 +17,8 @@ pub data Found : Type 0 where
 -- the loop with what stands in it; loops are numbered through the program
 abbrev pub body_of : Numbered → Part
 body_of l =
-    Turns (source_loop (next l.before) l.loop.variable l.loop.first l.loop.last l.loop.step)
-    (parts (parts_of_block (next l.before) l.loop.body))
+    Turns (source_loop (next_loop_number l.before) l.loop.variable l.loop.first l.loop.last l.loop.step)
+    (parts (parts_of_block (next_loop_number l.before) l.loop.body))
 
 -- with this number, and nothing made yet
 abbrev pub nest_of_loop : Program → ℕ → Numbered → Nest
@@ -37,11 +37,11 @@ nest_of_loop p n l = record {
 
 -- by its reason, where n nests stand before it
 abbrev pub found_as : Program → ℕ → Numbered → Option Reason → Found
-found_as p n l None = InNest (nest_of_loop p (next n) l)
+found_as p n l None = InNest (nest_of_loop p (next_loop_number n) l)
 found_as p n l (Some r) = Kept l.loop.line r
 
 abbrev pub nests_with : ℕ → Option Reason → ℕ
-nests_with n None = next n
+nests_with n None = next_loop_number n
 nests_with n (Some r) = n
 
 -- nests are numbered in the order of the loops, behind n nests

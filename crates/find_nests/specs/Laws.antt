@@ -7,13 +7,13 @@ use Rattle.nest_reasons.specs.declared.flaws.Flaw.TheVariants as flaws
 use Rattle.find_nests.specs.declared.reasons.Reason.TheVariants.{Bound}
 use Rattle.find_nests.specs.bound_limits.Numbers.{KeepsLimits}
 use Rattle.find_nests.specs.Reasons.{has_flawed, has_reason, reason_over}
-use Rattle.find_nests.specs.Loops.{Placed, loops_in, loops_in_block}
+use Rattle.find_nests.specs.Loops.{SurroundedLoop, loops_in, loops_in_block}
 use Rattle.find_nests.specs.LookedAt.{is_in_no_nest, reason_of}
 use Rattle.find_nests.specs.Found.{InNest, Kept, found_in, nest_of_loop}
 
 -- a loop of the program without a reason, each loop round it being kept
 pub record IsFoundNest (p : Program) (n : Nest) : Type 0 where
-  pub loop : Placed
+  pub loop : SurroundedLoop
   pub stands : Contains (loops_in_block 0 [] p.body) loop
   pub outermost : is_in_no_nest p.declarations loop ≡ true
   pub no_reason : reason_of p.declarations loop.loop.loop ≡ None
@@ -21,7 +21,7 @@ pub record IsFoundNest (p : Program) (n : Nest) : Type 0 where
 
 -- the same of a kept loop, by its line and its reason
 pub record IsFoundKept (p : Program) (line : ℕ) (r : Reason) : Type 0 where
-  pub loop : Placed
+  pub loop : SurroundedLoop
   pub stands : Contains (loops_in_block 0 [] p.body) loop
   pub outermost : is_in_no_nest p.declarations loop ≡ true
   pub reason : reason_of p.declarations loop.loop.loop ≡ Some r
@@ -50,4 +50,5 @@ ReasonHolds = (symbols : List (List ℕ)) (c : Statement) (r : Reason) → reaso
 abbrev pub BoundIsByNumbers : Type 0
 BoundIsByNumbers = (symbols : List (List ℕ)) (c : Statement) → has_flawed flaws.Bound symbols c ≡ false
     → has_flawed flaws.Step symbols c ≡ false
-    → ((has_reason Bound symbols c ≡ false) ↔ ((p : Placed) → Contains (loops_in 0 [] c) p → KeepsLimits symbols p))
+    → ((has_reason Bound symbols c ≡ false)
+    ↔ ((p : SurroundedLoop) → Contains (loops_in 0 [] c) p → KeepsLimits symbols p))

@@ -5,7 +5,7 @@ use Rattle.tree.specs.Plain.{Block, Declaration}
 use Rattle.nest_reasons.specs.Symbols.{symbols_of}
 use Rattle.find_nests.specs.declared.reasons.Reason.{Reason}
 use Rattle.find_nests.specs.Reasons.{reason_over}
-use Rattle.find_nests.specs.Loops.{Numbered, Placed, SourceLoop, as_statement, loops_in_block}
+use Rattle.find_nests.specs.Loops.{Numbered, SurroundedLoop, SourceLoop, as_statement, loops_in_block}
 
 module _ (ds : List Declaration) where
   -- the first reason that holds of a loop, if one does
@@ -16,9 +16,9 @@ module _ (ds : List Declaration) where
   is_kept l = is_some (reason_of l)
 
   -- A loop stands in no nest where each loop round it has a reason
-  abbrev pub is_in_no_nest : Placed → Bool
+  abbrev pub is_in_no_nest : SurroundedLoop → Bool
   is_in_no_nest p = list_all is_kept p.around
 
   -- the loops that stand in no nest
   abbrev pub looked_at : Block → List Numbered
-  looked_at body = map (λ (p : Placed). p.loop) (filter is_in_no_nest (loops_in_block 0 [] body))
+  looked_at body = map (λ (p : SurroundedLoop). p.loop) (filter is_in_no_nest (loops_in_block 0 [] body))

@@ -1,10 +1,9 @@
 -- The loops that stand in no nest, part by part.
 use Rattle.std.specs.Prelude.{ℕ, if◌then◌else◌, List, [], ◌∷◌, ◌++◌}
 use Rattle.tree.specs.Plain.{Statement, Assignment, Where, If, Do, Label, GoTo, Stop, Read, Print}
-use Rattle.tree.specs.Plain.{Allocate, Deallocate, Arms, no_arms, arm, Block, no_statements, statement}
-use Rattle.tree.specs.Plain.{Declaration}
+use Rattle.tree.specs.Plain.{Allocate, Deallocate, Arms, no_arms, arm, Block, no_statements, statement, Declaration}
 use Rattle.tree.specs.View.{Tested}
-use Rattle.find_nests.specs.nest_parts.Numbers.{next, after, after_arms, after_block}
+use Rattle.find_nests.specs.nest_parts.Numbers.{next_loop_number, number_after, after_arms, after_block}
 use Rattle.find_nests.specs.Loops.{SourceLoop, Numbered}
 use Rattle.find_nests.specs.LookedAt.{reason_of, is_kept}
 use Rattle.find_nests.specs.Found.{nests_with}
@@ -17,7 +16,7 @@ module _ (ds : List Declaration) where
     outermost_in k (If line arms other) = outermost_in_arms k arms ++ outermost_in_block (after_arms k arms) other
     outermost_in k (Do line x a b c body) =
         let l : SourceLoop = record { line = line; variable = x; first = a; last = b; step = c; body = body } in
-        record { before = k; loop = l } ∷ (if is_kept ds l then outermost_in_block (next k) body else [])
+        record { before = k; loop = l } ∷ (if is_kept ds l then outermost_in_block (next_loop_number k) body else [])
     outermost_in k (Label n) = []
     outermost_in k (GoTo line n) = []
     outermost_in k (Stop line) = []
@@ -33,12 +32,12 @@ module _ (ds : List Declaration) where
 
     pub outermost_in_block : ℕ → Block → List Numbered
     outermost_in_block k no_statements = []
-    outermost_in_block k (statement c cs) = outermost_in k c ++ outermost_in_block (after k c) cs
+    outermost_in_block k (statement c cs) = outermost_in k c ++ outermost_in_block (number_after k c) cs
 
   -- lists of statements, and of arms
   abbrev pub outermost_list : ℕ → List Statement → List Numbered
   outermost_list k [] = []
-  outermost_list k (c ∷ cs) = outermost_in k c ++ outermost_list (after k c) cs
+  outermost_list k (c ∷ cs) = outermost_in k c ++ outermost_list (number_after k c) cs
 
   abbrev pub outermost_each : ℕ → List Tested → List Numbered
   outermost_each k [] = []

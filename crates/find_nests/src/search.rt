@@ -3,7 +3,7 @@ ghost use Rattle.std.specs.Prelude.{◌≡◌, ◌≤◌, ◌^◌, ◌++◌, len
 ghost use Rattle.tree.specs.View.{expression_of, statement_of, tested_of, block_of, program_of};
 ghost use Rattle.tree.specs.Plain.{no_statements};
 ghost use Rattle.nest.specs.View.{nest_of};
-ghost use Rattle.find_nests.specs.nest_parts.Numbers.{next, after, after_block};
+ghost use Rattle.find_nests.specs.nest_parts.Numbers.{next_loop_number, number_after, after_block};
 ghost use Rattle.find_nests.specs.nest_parts.Lists.{after_each, after_list};
 ghost use Rattle.find_nests.specs.Found.{found_among, found_in, nest_of_loop};
 ghost use Rattle.find_nests.specs.View.{found_of};
@@ -32,7 +32,7 @@ struct Search {
 }
 
 fn next(number: u32) -> u32
-    ensures { result ≡ next number }
+    ensures { result ≡ next_loop_number number }
 {
     if number < u32::MAX {
         number + 1
@@ -52,7 +52,7 @@ impl Search {
             (outermost_in (program_of program.now).declarations self.old.loops.loops (statement_of stmt.now))) }
         ensures nests { OnOk result (self.new.nests ≡ nests_among (program_of program.now).declarations self.old.nests
             (outermost_in (program_of program.now).declarations self.old.loops.loops (statement_of stmt.now))) }
-        ensures loops { OnOk result (self.new.loops.loops ≡ after self.old.loops.loops (statement_of stmt.now)) }
+        ensures loops { OnOk result (self.new.loops.loops ≡ number_after self.old.loops.loops (statement_of stmt.now)) }
     {
         match stmt {
             Stmt::Assign { .. } => Ok(()),
@@ -166,7 +166,7 @@ impl Search {
         body: &Block,
     ) -> Result<Nest, Memory>
         ensures nest { IfOk result (λ nest. nest_of nest
-            ≡ nest_of_loop (program_of program.now) (next self.old.nests)
+            ≡ nest_of_loop (program_of program.now) (next_loop_number self.old.nests)
             (record {
               before = self.old.loops.loops;
               loop = record {
@@ -179,9 +179,9 @@ impl Search {
               };
             })) }
         ensures found { OnOk result (self.new.found ≡ self.old.found) }
-        ensures nests { OnOk result (self.new.nests ≡ next self.old.nests) }
+        ensures nests { OnOk result (self.new.nests ≡ next_loop_number self.old.nests) }
         ensures loops { OnOk result (self.new.loops.loops
-            ≡ after_block (next self.old.loops.loops) (block_of body.now)) }
+            ≡ after_block (next_loop_number self.old.loops.loops) (block_of body.now)) }
     {
         self.nests = next(self.nests);
         let decls = copy_decls(&program.decls, alloc)?;

@@ -14,6 +14,7 @@ use Rattle.tree.specs.declared.ops.Fault.{Fault}
 use Rattle.tree.specs.declared.ops.Value.{Value}
 use Rattle.tree.proofs.Calls.{finished_is}
 use Rattle.meaning.specs.Dialect.{fortran77}
+use Rattle.tree.specs.declared.width.Width.TheVariants.{Plain}
 use Rattle.meaning.specs.Value.{value_of, values_of}
 use Rattle.rewrite.specs.declared.uses.Use.{Use}
 use Rattle.rewrite.proofs.UseLaws.{one_more, more}
@@ -50,7 +51,7 @@ taken_on f given x (Err e) = refl
 -- the value of a call, where some arguments were taken and these are left
 pub left_to_call : Fun → Option Arguments → List Expression → Option Value
 left_to_call f None es = None
-left_to_call f (Some given) es = known (do xs ← values_of fortran77 (expressions es) no_store; finished f (fold (added f) given xs))
+left_to_call f (Some given) es = known (do xs ← values_of (fortran77 Plain) (expressions es) no_store; finished f (fold (added f) given xs))
 
 called : (f : Fun) (q : Result (List Value) Fault) → ◌≡◌ {A = Result Value Fault} (do xs ← q; call f xs) (do xs ← q; finished f (fold (added f) Empty xs))
 called f (Ok xs) = sym (finished_is f xs)
@@ -58,7 +59,7 @@ called f (Err e) = refl
 
 pub call_begun : (f : Fun) (es : List Expression) → left_to_call f (Some Empty) es ≡ constant_value (Apply f (expressions es))
 unfolding left_to_call
-call_begun f es = ap known (sym (called f (values_of fortran77 (expressions es) no_store)))
+call_begun f es = ap known (sym (called f (values_of (fortran77 Plain) (expressions es) no_store)))
 
 pub call_ended : (f : Fun) (o : Option Arguments) → left_to_call f o [] ≡ call_of f o
 unfolding left_to_call
@@ -68,11 +69,11 @@ call_ended f (Some given) = refl
 pub call_more : (f : Fun) (o : Option Arguments) (e : Expression) (es : List Expression) → left_to_call f o (e ∷ es) ≡ left_to_call f (with_constant f o (constant_value e)) es
 unfolding left_to_call
 call_more f None e es = refl
-call_more f (Some given) e es = by (value_of fortran77 e no_store)
+call_more f (Some given) e es = by (value_of (fortran77 Plain) e no_store)
   where
     by : (r : Result Value Fault)
-        → known (do xs ← (do x ← r; xs ← values_of fortran77 (expressions es) no_store; Ok (x ∷ xs)); finished f (fold (added f) given xs)) ≡ left_to_call f (with_constant f (Some given) (known r)) es
-    by (Ok x) = ap known (taken_on f given x (values_of fortran77 (expressions es) no_store))
+        → known (do xs ← (do x ← r; xs ← values_of (fortran77 Plain) (expressions es) no_store; Ok (x ∷ xs)); finished f (fold (added f) given xs)) ≡ left_to_call f (with_constant f (Some given) (known r)) es
+    by (Ok x) = ap known (taken_on f given x (values_of (fortran77 Plain) (expressions es) no_store))
     by (Err e) = refl
 
 -- what the function was given, by these arguments

@@ -7,7 +7,7 @@ use Rattle.std.proofs.lemmas.Bool.{leb-true, le-leb}
 use Rattle.std.proofs.lemmas.List.Folds.{list_any-append}
 use mathlib.Core.Path.{ap₂}
 use Rattle.tree.specs.Plain.{Expression, Number, Logic, Named, Unary, Binary, Apply, Constructor, Spread, Transpose, Reshape, Reduce, expressions, Only, Reference, Section, Subscripts, subscripts}
-use Rattle.tree.specs.View.{ConstructorLoop, expression_of, loop_of, loops as plain_loops, reference_of, subscript_of}
+use Rattle.tree.specs.View.{ConstructorLoop, expression_of, loop_of, constructor_loops as plain_loops, reference_of, subscript_of}
 use Rattle.tree.specs.declared.exprs.Expr.{Expr}
 use Rattle.tree.specs.declared.exprs.Expr.TheVariants as exprs
 use Rattle.tree.specs.declared.exprs.Ref.{Ref, out-Ref, roll-Ref}

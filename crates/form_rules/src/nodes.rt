@@ -5,7 +5,7 @@ ghost use Rattle.rewrite.specs.Making.{made_parts};
 ghost use Rattle.rewrite.specs.Names.{uses_in_subscripts};
 ghost use Rattle.tree.specs.Plain.{Apply, Binary, Constructor, Expression, Logic, Named, Number, Reduce, Reference};
 ghost use Rattle.tree.specs.Plain.{Reshape, Spread, Transpose, Unary, expressions};
-ghost use Rattle.tree.specs.View.{ConstructorLoop, loops as plain_loops, reference_of};
+ghost use Rattle.tree.specs.View.{ConstructorLoop, constructor_loops as plain_loops, reference_of};
 ghost use Rattle.linear_forms.specs.Canonical.{canonising};
 ghost use Rattle.form_rules.specs.Written.{AreArguments, AreWritten, IsReady, IsWritten, SameLoops, call_of};
 ghost use Rattle.form_rules.specs.Written.{form_to_write, stands_in, with_constant};

@@ -5,7 +5,7 @@ ghost use Rattle.rewrite.specs.Names.{uses_in_subscript, uses_in_subscripts};
 ghost use Rattle.rewrite.specs.NamesAlong.{uses_in_loop};
 ghost use Rattle.tree.specs.Plain.{Apply, Binary, Constructor, Expression, Named, Reduce, Reshape, Spread};
 ghost use Rattle.tree.specs.Plain.{Transpose, Unary, expressions};
-ghost use Rattle.tree.specs.View.{expression_of, loop_of, loops as plain_loops, reference_of, subscript_of};
+ghost use Rattle.tree.specs.View.{expression_of, loop_of, constructor_loops as plain_loops, reference_of, subscript_of};
 ghost use Rattle.linear_forms.specs.Canonical.{canonising};
 ghost use Rattle.form_rules.specs.Written.{IsWritten, AreWritten, AreArguments, SameLoop, SameLoops, SameParts};
 ghost use Rattle.form_rules.specs.Written.{SameSubscript, SameSubscripts};

@@ -2,12 +2,12 @@
 use Rattle.std.proofs.Common.{◌≡◌, ◌<◌, ◌≤◌, ℕ, zero, suc, ◌+◌, ◌*◌, ◌^◌, Bool, true, false, cond, List, [], ◌∷◌, ◌++◌, length, codes, refl, ap, ◌∙◌, arith, add-one, length-append}
 use Rattle.std.specs.Prelude.{decimal, nat_lt, ◌==◌}
 use Rattle.std.proofs.lemmas.Fmt.{length-decimal-le, decimal_digit, decimal_step}
-use Rattle.generator.specs.declared.draws.Statement.{Statement}
-use Rattle.generator.specs.Draws.{after, drawn}
-use Rattle.generator.specs.Statements.{array_name, reference_text, statement_text, statement_at}
+use Rattle.generator.specs.declared.draws.DrawnStatement.{DrawnStatement}
+use Rattle.generator.specs.Draws.{state_after, drawn}
+use Rattle.generator.specs.Statements.{drawn_array_name, reference_text, statement_text, drawn_statement}
 use Rattle.generator.specs.Decks.{blanks_before, nest_text, nest_at, nests_of, deck_of}
 
-pub more_nests : (n q : ℕ) → nests_of n (q + 1) ≡ nests_of n q ++ nest_at (11 + q) (after (10 * q) n)
+pub more_nests : (n q : ℕ) → nests_of n (q + 1) ≡ nests_of n q ++ nest_at (11 + q) (state_after (10 * q) n)
 unfolding nests_of
 more_nests n q = ap (nests_of n) (add-one q)
 
@@ -68,7 +68,7 @@ seven a b c d e f g = simp length-append
 short_number : (n : ℕ) → n < 2 ^ 64 → length (decimal n) ≤ 20
 short_number n h = length-decimal-le 20 n (omega arith) (omega (arith, h)) h
 
-one_letter : (n : ℕ) → length (array_name n) ≡ 1
+one_letter : (n : ℕ) → length (drawn_array_name n) ≡ 1
 one_letter n = by (n == 0) (n == 1)
   where
     by : (a b : Bool) → length (cond a (codes "A") (cond b (codes "B") (codes "C"))) ≡ 1
@@ -79,9 +79,9 @@ one_letter n = by (n == 0) (n == 1)
 short_reference : (array shift : ℕ) → shift < 2 ^ 64 → length (reference_text array shift) ≤ 25
 unfolding reference_text
 short_reference array shift h =
-    omega (arith, four (array_name array) (codes "(I+") (decimal shift) (codes ")"), one_letter array, short_number shift h)
+    omega (arith, four (drawn_array_name array) (codes "(I+") (decimal shift) (codes ")"), one_letter array, short_number shift h)
 
-short_statement : (s : Statement) → s.to_shift < 2 ^ 64 → s.from_shift < 2 ^ 64 → s.added < 2 ^ 64 → length (statement_text s) ≤ 90
+short_statement : (s : DrawnStatement) → s.to_shift < 2 ^ 64 → s.from_shift < 2 ^ 64 → s.added < 2 ^ 64 → length (statement_text s) ≤ 90
 unfolding statement_text
 short_statement s h i j =
     omega (
@@ -95,8 +95,8 @@ short_statement s h i j =
 few : (x m : ℕ) → 0 < m → m ≤ 10 → drawn x m < 2 ^ 64
 few x m h i = omega arith
 
-short_statement_at : (x : ℕ) → length (statement_text (statement_at x)) ≤ 90
-short_statement_at x = short_statement (statement_at x) (few (after 2 x) 5 (omega arith) (omega arith)) (few (after 4 x) 5 (omega arith) (omega arith)) (few (after 5 x) 10 (omega arith) (omega arith))
+short_statement_at : (x : ℕ) → length (statement_text (drawn_statement x)) ≤ 90
+short_statement_at x = short_statement (drawn_statement x) (few (state_after 2 x) 5 (omega arith) (omega arith)) (few (state_after 4 x) 5 (omega arith) (omega arith)) (few (state_after 5 x) 10 (omega arith) (omega arith))
 
 short_blanks : (label : ℕ) → length (blanks_before label) ≤ 3
 short_blanks label = by (nat_lt label 100)
@@ -110,10 +110,10 @@ unfolding nest_text nest_at
 short_nest label x h =
     omega (
       arith,
-      eight (codes "      DO ") (decimal label) (codes " I = 1, 100\n") (statement_text (statement_at x)) (statement_text (statement_at (after 5 x))) (blanks_before label) (decimal label) (codes " CONTINUE\n"),
+      eight (codes "      DO ") (decimal label) (codes " I = 1, 100\n") (statement_text (drawn_statement x)) (statement_text (drawn_statement (state_after 5 x))) (blanks_before label) (decimal label) (codes " CONTINUE\n"),
       short_number label h,
       short_statement_at x,
-      short_statement_at (after 5 x),
+      short_statement_at (state_after 5 x),
       short_blanks label,
     )
 
@@ -121,7 +121,7 @@ short_nests : (n q : ℕ) → q ≤ 500 → length (nests_of n q) ≤ 300 * q
 unfolding nests_of
 short_nests n zero h = omega arith
 short_nests n (suc q) h =
-    omega (arith, length-append (nests_of n q) (nest_at (11 + q) (after (10 * q) n)), short_nests n q (omega arith), short_nest (11 + q) (after (10 * q) n) (omega arith))
+    omega (arith, length-append (nests_of n q) (nest_at (11 + q) (state_after (10 * q) n)), short_nests n q (omega arith), short_nest (11 + q) (state_after (10 * q) n) (omega arith))
 
 pub short_deck : (n : ℕ) → n ≤ 500 → length (deck_of n) < 2 ^ 24
 unfolding deck_of

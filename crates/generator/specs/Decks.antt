@@ -1,8 +1,8 @@
 -- The deck of so many nests.
 use Rattle.std.specs.Prelude.{ℕ, zero, suc, ◌+◌, ◌*◌, List, [], ◌++◌, codes, decimal, nat_lt, if◌then◌else◌}
-use Rattle.generator.specs.declared.draws.Statement.{Statement}
-use Rattle.generator.specs.Draws.{after}
-use Rattle.generator.specs.Statements.{statement_at, statement_text}
+use Rattle.generator.specs.declared.draws.DrawnStatement.{DrawnStatement}
+use Rattle.generator.specs.Draws.{state_after}
+use Rattle.generator.specs.Statements.{drawn_statement, statement_text}
 
 -- how many nests a deck may have
 abbrev pub most_nests : ℕ
@@ -15,14 +15,14 @@ abbrev pub blanks_before : ℕ → List ℕ
 blanks_before label = if nat_lt label 100 then codes "   " else codes "  "
 
 -- `DO l I = 1, 100`, two statements and `l CONTINUE`
-unfoldable pub nest_text : ℕ → Statement → Statement → List ℕ
+unfoldable pub nest_text : ℕ → DrawnStatement → DrawnStatement → List ℕ
 nest_text label first second =
     codes "      DO " ++ decimal label ++ codes " I = 1, 100\n" ++ statement_text first ++ statement_text second
     ++ blanks_before label ++ decimal label ++ codes " CONTINUE\n"
 
 -- with what is drawn behind the state x
 unfoldable pub nest_at : ℕ → ℕ → List ℕ
-nest_at label x = nest_text label (statement_at x) (statement_at (after 5 x))
+nest_at label x = nest_text label (drawn_statement x) (drawn_statement (state_after 5 x))
 
 -- ---- the deck
 
@@ -30,7 +30,7 @@ nest_at label x = nest_text label (statement_at x) (statement_at (after 5 x))
 -- first label is 11
 unfoldable pub nests_of : ℕ → ℕ → List ℕ
 nests_of n zero = []
-nests_of n (suc q) = nests_of n q ++ nest_at (11 + q) (after (10 * q) n)
+nests_of n (suc q) = nests_of n q ++ nest_at (11 + q) (state_after (10 * q) n)
 
 unfoldable pub deck_of : ℕ → List ℕ
 deck_of n =

@@ -1,10 +1,10 @@
 //! The text of a deck.
 ghost use Rattle.std.specs.Prelude.{◌≡◌, ◌<◌, ◌≤◌, ◌++◌, ◌^◌, length, decimal, IfOk, OnOk};
-ghost use Rattle.generator.specs.Draws.{after};
-ghost use Rattle.generator.specs.Statements.{array_name, reference_text, statement_text, statement_at};
+ghost use Rattle.generator.specs.Draws.{state_after};
+ghost use Rattle.generator.specs.Statements.{drawn_array_name, reference_text, statement_text, drawn_statement};
 ghost use Rattle.generator.specs.Decks.{blanks_before, nest_text, nest_at, deck_of, most_nests};
 
-use crate::draws::{Draws, Statement};
+use crate::draws::{DrawnStatement, Draws};
 use itoa::Buffer;
 use std::alloc::{AllocError, Global};
 
@@ -24,7 +24,7 @@ fn push_number(text: &mut Vec<u8>, number: u32) -> Result<(), AllocError>
 }
 
 fn array_name(number: u32) -> &'static str
-    ensures { result.now ≡ array_name number }
+    ensures { result.now ≡ drawn_array_name number }
 {
     match number {
         0 => "A",
@@ -44,7 +44,7 @@ fn push_reference(text: &mut Vec<u8>, array: u32, shift: u32) -> Result<(), Allo
 }
 
 #[tactic(auto, unfolding(crate::specs::Statements::statement_text))]
-fn push_statement(text: &mut Vec<u8>, statement: Statement) -> Result<(), AllocError>
+fn push_statement(text: &mut Vec<u8>, statement: DrawnStatement) -> Result<(), AllocError>
     ensures { OnOk result (text.new.items ≡ text.old.items ++ statement_text statement) }
 {
     push(text, b"      ")?;
@@ -67,8 +67,8 @@ fn blanks_before(label: u32) -> &'static str
 fn push_nest(
     text: &mut Vec<u8>,
     label: u32,
-    first: Statement,
-    second: Statement,
+    first: DrawnStatement,
+    second: DrawnStatement,
 ) -> Result<(), AllocError>
     ensures { OnOk result (text.new.items ≡ text.old.items ++ nest_text label first second) }
 {
@@ -86,7 +86,7 @@ fn push_nest(
 #[tactic(auto, using(crate::proofs::DrawLaws::five_more), unfolding(crate::specs::Decks::nest_at))]
 fn draw_nest(text: &mut Vec<u8>, label: u32, draws: &mut Draws) -> Result<(), AllocError>
     ensures text { OnOk result (text.new.items ≡ text.old.items ++ nest_at label draws.old.state) }
-    ensures draws { draws.new.state ≡ after 10 draws.old.state }
+    ensures draws { draws.new.state ≡ state_after 10 draws.old.state }
 {
     let first = draws.statement();
     let second = draws.statement();

@@ -1,7 +1,7 @@
 //! Pseudo random numbers.
 ghost use Rattle.std.specs.Prelude.{◌≡◌, ◌<◌};
-ghost use Rattle.generator.specs.Draws.{next, after, drawn};
-ghost use Rattle.generator.specs.Statements.{statement_at};
+ghost use Rattle.generator.specs.Draws.{next_state, state_after, drawn};
+ghost use Rattle.generator.specs.Statements.{drawn_statement};
 
 // How many states there are.
 const STATES: u64 = 1 << 31;
@@ -14,7 +14,7 @@ pub(crate) struct Draws {
 
 /// What is drawn for a statement.
 #[derive(Clone, Copy)]
-pub(crate) struct Statement {
+pub(crate) struct DrawnStatement {
     pub(crate) to: u32,
     pub(crate) to_shift: u32,
     pub(crate) from: u32,
@@ -30,10 +30,10 @@ impl Draws {
     }
 
     // A number below so much.
-    #[tactic(auto, unfolding(crate::specs::Draws::next))]
+    #[tactic(auto, unfolding(crate::specs::Draws::next_state))]
     fn draw(&mut self, below: u32) -> u32
         requires { 0 < below }
-        ensures state { self.new.state ≡ next self.old.state }
+        ensures state { self.new.state ≡ next_state self.old.state }
         ensures number { result ≡ drawn self.new.state below }
     {
         let state = (u64::from(self.state) * 1_103_515_245 + 12_345) % STATES;
@@ -42,17 +42,17 @@ impl Draws {
     }
 
     // The draws of a statement stand in this order.
-    #[tactic(auto, unfolding(crate::specs::Draws::after))]
-    pub(crate) fn statement(&mut self) -> Statement
-        ensures state { self.new.state ≡ after 5 self.old.state }
-        ensures statement { result ≡ statement_at self.old.state }
+    #[tactic(auto, unfolding(crate::specs::Draws::state_after))]
+    pub(crate) fn statement(&mut self) -> DrawnStatement
+        ensures state { self.new.state ≡ state_after 5 self.old.state }
+        ensures statement { result ≡ drawn_statement self.old.state }
     {
         let to = self.draw(3);
         let to_shift = self.draw(5);
         let from = self.draw(3);
         let from_shift = self.draw(5);
         let added = self.draw(10);
-        Statement {
+        DrawnStatement {
             to,
             to_shift,
             from,

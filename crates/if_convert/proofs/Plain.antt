@@ -7,10 +7,10 @@ use Rattle.nest_order.specs.shapes.Shapes.{IsNormal, IsPlain, ArePlain}
 use Rattle.if_convert.specs.Converted.{converted, converted_parts, converted_branches, converted_loop, converted_nest, choice_at, around_loop, has_parts, has_rest, rest_if, rest_under}
 use Rattle.if_convert.specs.Laws.{ConvertedIsPlain}
 use Rattle.if_convert.specs.Jumps.{jumps_in_branches, jumps_in_parts}
-use Rattle.if_convert.specs.Masks.{Masking, Kept, Asks, Clears, Leaves, Turned, all_parts_of, parts_of}
-use Rattle.if_convert.specs.Points.{Converted, unless_skipped, entered, numbered, cleared, cleared_for, jump_made, resumed, rejoined, is_left}
+use Rattle.if_convert.specs.Masks.{Masking, Kept, Asks, Clears, Leaves, Turned, all_parts_of, masked_parts_of}
+use Rattle.if_convert.specs.Points.{Converted, unless_skipped, entered, numbered_jumps, cleared, cleared_for, jump_made, resumed, rejoined, is_left}
 use Rattle.if_convert.specs.declared.points.Jumped.{Jumped}
-use Rattle.if_convert.specs.declared.points.Point.{Point}
+use Rattle.if_convert.specs.declared.points.MaskPoint.{MaskPoint}
 use Rattle.std.specs.Prelude.{◌+◌}
 
 front : {X : Type 0} (P : X → Type 0) (xs ys : List X) → All P (xs ++ ys) → All P xs
@@ -42,7 +42,7 @@ plain-append [] qs h k = k
 plain-append (p ∷ ps) qs h k = (h.0, plain-append ps qs h.1 k)
 
 module _ (line : ℕ) where
-  one-plain : (m : Masking) → One m → ArePlain (parts (parts_of line m))
+  one-plain : (m : Masking) → One m → ArePlain (parts (masked_parts_of line m))
   one-plain (Kept g c) h = (tt, tt)
   one-plain (Asks None i q) h = (tt, tt)
   one-plain (Asks (Some k) i q) h = (tt, (tt, tt))
@@ -52,9 +52,9 @@ module _ (line : ℕ) where
 
   each-plain : (ms : List Masking) → Each ms → ArePlain (parts (all_parts_of line ms))
   each-plain [] h = tt
-  each-plain (m ∷ ms) h = plain-append (parts_of line m) (all_parts_of line ms) (one-plain m h.0) (each-plain ms h.1)
+  each-plain (m ∷ ms) h = plain-append (masked_parts_of line m) (all_parts_of line ms) (one-plain m h.0) (each-plain ms h.1)
 
-  skipped : (b : Bool) (p : Point) (c : Converted) → Each c.made → Each (unless_skipped b p c).made
+  skipped : (b : Bool) (p : MaskPoint) (c : Converted) → Each c.made → Each (unless_skipped b p c).made
   skipped true p c h = tt
   skipped false p c h = h
 
@@ -70,16 +70,16 @@ module _ (line : ℕ) where
   of-resumed own [] j m = tt
   of-resumed own (l ∷ ls) j m = (tt, tt)
 
-  of-rejoined : (own : Option ℕ) (p : Point) (ls : List Jumped) (j m : ℕ) → Each (rejoined own p ls j m).made
+  of-rejoined : (own : Option ℕ) (p : MaskPoint) (ls : List Jumped) (j m : ℕ) → Each (rejoined own p ls j m).made
   of-rejoined own p [] j m = tt
   of-rejoined own p (l ∷ ls) j m = of-resumed own (p.pending ++ (l ∷ ls)) j m
 
-  of-jump : (deep : Bool) (k : ℕ) (p : Point) → Each (jump_made deep k p).made
+  of-jump : (deep : Bool) (k : ℕ) (p : MaskPoint) → Each (jump_made deep k p).made
   of-jump deep k p = both (cleared_for deep p.jump 1) (Leaves p.guard p.jump ∷ []) (of-cleared_for deep p.jump 1) (tt, tt)
 
-  of-choice : (deep : Bool) (own : Option ℕ) (n : ℕ) (p : Point) (arms : Option ℕ → ℕ → ℕ → Converted) → ((g : Option ℕ) (j m : ℕ) → Each (arms g j m).made) → Each (choice_at deep own n p arms).made
+  of-choice : (deep : Bool) (own : Option ℕ) (n : ℕ) (p : MaskPoint) (arms : Option ℕ → ℕ → ℕ → Converted) → ((g : Option ℕ) (j m : ℕ) → Each (arms g j m).made) → Each (choice_at deep own n p arms).made
   of-choice deep own n p arms h =
-      let q = numbered deep n p in
+      let q = numbered_jumps deep n p in
       let c = arms q.guard q.jump q.mask in
       both (cleared_for deep q.jump n ++ c.made) (rejoined own q c.point.pending c.point.jump c.point.mask).made (both (cleared_for deep q.jump n) c.made (of-cleared_for deep q.jump n) (h q.guard q.jump q.mask))
       (of-rejoined own q c.point.pending c.point.jump c.point.mask)
@@ -89,7 +89,7 @@ module _ (line : ℕ) where
   of-rest true j m c h = h
 
   mutual
-    of-part : (deep : Bool) (own : Option ℕ) (q : Part) (p : Point) → All IsNormal (loops_of q) → Each (converted line deep own q p).made
+    of-part : (deep : Bool) (own : Option ℕ) (q : Part) (p : MaskPoint) → All IsNormal (loops_of q) → Each (converted line deep own q p).made
     of-part deep own (Run g) p h = skipped p.skips p (record { made = Kept p.guard g ∷ []; point = p }) (tt, tt)
     of-part deep own (Turns l ps) p h =
         let c = converted_parts line false None ps (entered None p.mask p.mask) in
@@ -103,9 +103,9 @@ module _ (line : ℕ) where
         (of-branches bs (has_parts other) (λ g j m. converted_parts line true g other (entered g j m)) (λ g j m. of-parts true g other (entered g j m) (rest IsNormal (loops_in_branches bs) (loops_in_parts other) h))
         (front IsNormal (loops_in_branches bs) (loops_in_parts other) h)))
     of-part deep own (Label k) p h = of-resumed own (filter (is_left k) p.pending) p.jump p.mask
-    of-part deep own (Jump k) p h = skipped p.skips p (jump_made deep k (numbered deep 1 p)) (of-jump deep k (numbered deep 1 p))
+    of-part deep own (Jump k) p h = skipped p.skips p (jump_made deep k (numbered_jumps deep 1 p)) (of-jump deep k (numbered_jumps deep 1 p))
 
-    of-parts : (deep : Bool) (own : Option ℕ) (ps : Parts) (p : Point) → All IsNormal (loops_in_parts ps) → Each (converted_parts line deep own ps p).made
+    of-parts : (deep : Bool) (own : Option ℕ) (ps : Parts) (p : MaskPoint) → All IsNormal (loops_in_parts ps) → Each (converted_parts line deep own ps p).made
     of-parts deep own no_parts p h = tt
     of-parts deep own (part q ps) p h =
         both (converted line deep own q p).made (converted_parts line deep own ps (converted line deep own q p).point).made (of-part deep own q p (front IsNormal (loops_of q) (loops_in_parts ps) h))

@@ -6,7 +6,7 @@ use Rattle.if_convert.specs.Converted.{converted_parts, converted_branches, has_
 use Rattle.if_convert.specs.Jumps.{jumps_in_parts, jumps_in_branches}
 use Rattle.if_convert.specs.Masks.{Asks, Other, Test, all_parts_of}
 use Rattle.if_convert.specs.Points.{Converted, entered, unchanged}
-use Rattle.if_convert.specs.declared.points.Point.{Point}
+use Rattle.if_convert.specs.declared.points.MaskPoint.{MaskPoint}
 
 abbrev pub jumps_in_list : Bool → List Part → ℕ
 jumps_in_list skips ps = jumps_in_parts skips (parts ps)
@@ -18,7 +18,7 @@ abbrev pub jumps_in_arms : List Branch → ℕ
 jumps_in_arms bs = jumps_in_branches (branches bs)
 
 -- the point behind a block of an IF that ends so, where p was the one before it
-abbrev pub followed : Point → Point → Point
+abbrev pub followed : MaskPoint → MaskPoint → MaskPoint
 followed p end = record {
   guard = p.guard;
   pending = p.pending ++ end.pending;
@@ -28,7 +28,7 @@ followed p end = record {
 }
 
 -- the first mask of the rest, where an arm with the mask x stands before it
-abbrev pub rest_begun : Option ℕ → Point → Converted
+abbrev pub rest_begun : Option ℕ → MaskPoint → Converted
 rest_begun None p = unchanged p
 rest_begun (Some x) p = record {
   made = Asks p.guard p.mask (Other x) ∷ [];
@@ -42,7 +42,7 @@ rest_begun (Some x) p = record {
 }
 
 module _ (line : ℕ) where
-  abbrev pub converted_list : Bool → Option ℕ → List Part → Point → Converted
+  abbrev pub converted_list : Bool → Option ℕ → List Part → MaskPoint → Converted
   converted_list deep own ps p = converted_parts line deep own (parts ps) p
 
   -- arms, and what stands behind them as the ELSE part
@@ -59,14 +59,14 @@ module _ (line : ℕ) where
       (rest_under g m x (converted_arms bs other (Some m) j (suc m)))
 
   -- a block of an IF under a mask, and the point behind it, where p is the one before it
-  abbrev pub block_added : Option ℕ → List Part → Point → Converted
+  abbrev pub block_added : Option ℕ → List Part → MaskPoint → Converted
   block_added g ps p = record {
     made = (converted_list true g ps (entered g p.jump p.mask)).made;
     point = followed p (converted_list true g ps (entered g p.jump p.mask)).point;
   }
 
   -- so of an arm, whose mask is asked for its condition
-  abbrev pub arm_added : Branch → Point → Converted
+  abbrev pub arm_added : Branch → MaskPoint → Converted
   arm_added b p = record {
     made = Asks p.guard p.mask (Test b.test)
         ∷ (converted_parts line true (Some p.mask) b.body (entered (Some p.mask) p.jump (suc p.mask))).made;
@@ -76,19 +76,19 @@ module _ (line : ℕ) where
 
   -- ---- what was made has been added to the parts `old`
 
-  pub record IsAdded (c : Converted) (new_point : Point) (old new : List Part) : Type 0 where
+  pub record IsAdded (c : Converted) (new_point : MaskPoint) (old new : List Part) : Type 0 where
     pub point : new_point ≡ c.point
     pub made : new ≡ old ++ all_parts_of line c.made
 
   -- of arms, where the mask behind them isn't asked for
-  pub record AreAdded (c : Converted) (end : Point) (old new : List Part) : Type 0 where
+  pub record AreAdded (c : Converted) (end : MaskPoint) (old new : List Part) : Type 0 where
     pub pending : end.pending ≡ c.point.pending
     pub jump : end.jump ≡ c.point.jump
     pub mask : end.mask ≡ c.point.mask
     pub made : new ≡ old ++ all_parts_of line c.made
 
   -- what stands for the arms from one on, at the point p behind the others, leads from the parts so far to all
-  pub record ArmsLeft (last : Option ℕ) (bs : List Branch) (other : List Part) (p : Point) (now : List Part)
+  pub record ArmsLeft (last : Option ℕ) (bs : List Branch) (other : List Part) (p : MaskPoint) (now : List Part)
       (all : Converted) (old : List Part) : Type 0 where
     pub pending : p.pending ++ (arms_from last bs other p.guard p.jump p.mask).point.pending ≡ all.point.pending
     pub jump : (arms_from last bs other p.guard p.jump p.mask).point.jump ≡ all.point.jump

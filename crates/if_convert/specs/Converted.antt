@@ -5,9 +5,9 @@ use Rattle.nest.specs.Plain.{Loop, Part, Run, Turns, Choice, Label, Jump, Parts,
 use Rattle.nest.specs.Plain.{no_branches, branch, Nest}
 use Rattle.if_convert.specs.Jumps.{jumps_in_parts, jumps_in_branches}
 use Rattle.if_convert.specs.Masks.{Question, Test, Other, Asks, Turned, all_parts_of, masks_from}
-use Rattle.if_convert.specs.Points.{Converted, unchanged, after, unless_skipped, entered, numbered, cleared_for}
-use Rattle.if_convert.specs.Points.{kept, jump_at, behind_label, rejoined}
-use Rattle.if_convert.specs.declared.points.Point.{Point}
+use Rattle.if_convert.specs.Points.{Converted, unchanged, converted_after, unless_skipped, entered, numbered_jumps}
+use Rattle.if_convert.specs.Points.{cleared_for, source_statement, jump_at, behind_label, rejoined}
+use Rattle.if_convert.specs.declared.points.MaskPoint.{MaskPoint}
 
 -- ---- arms
 
@@ -26,7 +26,7 @@ first_arm g m q arm more = record {
 
 -- the other arms and the ELSE part stand under a mask r of their own, which is true where m isn't
 abbrev pub rest_under : Option ℕ → ℕ → ℕ → Converted → Converted
-rest_under g r m c = after (Asks g r (Other m) ∷ []) c
+rest_under g r m c = converted_after (Asks g r (Other m) ∷ []) c
 
 abbrev pub has_parts : Parts → Bool
 has_parts no_parts = false
@@ -48,22 +48,22 @@ with_rest g m test rest arm more =
     (rest_under g arm.point.mask m (more (Some arm.point.mask) arm.point.jump (suc arm.point.mask))))
 
 -- an IF from the point p on, with n jumps in it, of which all have their numbers
-abbrev pub around_choice : Bool → Option ℕ → ℕ → Point → Converted → Converted
+abbrev pub around_choice : Bool → Option ℕ → ℕ → MaskPoint → Converted → Converted
 around_choice deep own n p c =
-    after (cleared_for deep p.jump n ++ c.made) (rejoined own p c.point.pending c.point.jump c.point.mask)
+    converted_after (cleared_for deep p.jump n ++ c.made) (rejoined own p c.point.pending c.point.jump c.point.mask)
 
 -- an IF with n jumps in it and these arms
-abbrev pub choice_at : Bool → Option ℕ → ℕ → Point → (Option ℕ → ℕ → ℕ → Converted) → Converted
+abbrev pub choice_at : Bool → Option ℕ → ℕ → MaskPoint → (Option ℕ → ℕ → ℕ → Converted) → Converted
 choice_at deep own n p arms =
-    around_choice deep own n (numbered deep n p)
-    (arms (numbered deep n p).guard (numbered deep n p).jump (numbered deep n p).mask)
+    around_choice deep own n (numbered_jumps deep n p)
+    (arms (numbered_jumps deep n p).guard (numbered_jumps deep n p).jump (numbered_jumps deep n p).mask)
 
 -- ---- parts
 
 -- by the nest's line
 module _ (line : ℕ) where
   -- a loop's body stands under no mask
-  abbrev pub around_loop : Loop → Point → Converted → Converted
+  abbrev pub around_loop : Loop → MaskPoint → Converted → Converted
   around_loop l p c = record {
     made = Turned l (parts (all_parts_of line c.made)) ∷ [];
     point = record {
@@ -77,8 +77,8 @@ module _ (line : ℕ) where
 
   -- deep: whether the block stands in an IF; own: the block's mask
   abbrev mutual
-    pub converted : Bool → Option ℕ → Part → Point → Converted
-    converted deep own (Run g) p = kept g p
+    pub converted : Bool → Option ℕ → Part → MaskPoint → Converted
+    converted deep own (Run g) p = source_statement g p
     converted deep own (Turns l ps) p =
         unless_skipped p.skips p (around_loop l p (converted_parts false None ps (entered None p.mask p.mask)))
     converted deep own (Choice bs other) p =
@@ -87,10 +87,10 @@ module _ (line : ℕ) where
     converted deep own (Label k) p = behind_label own k p
     converted deep own (Jump k) p = jump_at deep k p
 
-    pub converted_parts : Bool → Option ℕ → Parts → Point → Converted
+    pub converted_parts : Bool → Option ℕ → Parts → MaskPoint → Converted
     converted_parts deep own no_parts p = unchanged p
     converted_parts deep own (part q ps) p =
-        after (converted deep own q p).made (converted_parts deep own ps (converted deep own q p).point)
+        converted_after (converted deep own q p).made (converted_parts deep own ps (converted deep own q p).point)
 
     -- the arms of an IF, and its ELSE part, if there is one, under the mask g, with the numbers of the next masks
     pub converted_branches : Branches → Bool → (Option ℕ → ℕ → ℕ → Converted) → Option ℕ → ℕ → ℕ → Converted
@@ -101,8 +101,8 @@ module _ (line : ℕ) where
 
 -- ---- nests
 
-abbrev pub with_body : Nest → Loop → ℕ → Converted → Nest
-with_body n l masks c = record n {
+abbrev pub with_converted_body : Nest → Loop → ℕ → Converted → Nest
+with_converted_body n l masks c = record n {
   body = Turns l (parts (all_parts_of n.line c.made));
   made = n.made ++ masks_from masks (c.point.mask - masks);
   masks = c.point.mask;
@@ -111,7 +111,7 @@ with_body n l masks c = record n {
 -- the loop l with the parts ps, in a program in which so many masks were made before
 abbrev pub converted_loop : Nest → ℕ → Loop → Parts → Nest
 converted_loop n masks l ps =
-    with_body n l masks (converted_parts n.line false None ps (entered None masks masks))
+    with_converted_body n l masks (converted_parts n.line false None ps (entered None masks masks))
 
 -- The nest with masks in place of its IFs, labels and jumps; what is no loop is no nest. Its number of masks is that
 -- of all masks of the program so far

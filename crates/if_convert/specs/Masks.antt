@@ -56,37 +56,37 @@ pub data Masking : Type 0 where
 
 -- ---- as parts of a nest, whose made statements have its line
 
-abbrev pub under : Option ℕ → Guarded → Guarded
-under None g = g
-under (Some i) g = record g { guard = Some (mask i) }
+abbrev pub under_mask : Option ℕ → Guarded → Guarded
+under_mask None g = g
+under_mask (Some i) g = record g { guard = Some (mask i) }
 
 abbrev pub asked : Question → Expression
 asked (Test e) = e
 asked (Other i) = Unary Not (mask i)
 asked (Unleft ls) = none_left ls
 
-abbrev pub scalar : List ℕ → Reference
-scalar x = record { name = x; subscripts = no_subscripts }
+abbrev pub mask_scalar : List ℕ → Reference
+mask_scalar x = record { name = x; subscripts = no_subscripts }
 
 abbrev pub sets : ℕ → Option ℕ → ℕ → Expression → Part
 sets line g i e =
-    Run (record { line = line; guard = option_map mask g; left = scalar (mask_name i); right = e })
+    Run (record { line = line; guard = option_map mask g; left = mask_scalar (mask_name i); right = e })
 
 -- where it stands under a mask it is false first
 abbrev pub asks : ℕ → Option ℕ → ℕ → Expression → List Part
 asks line None i e = sets line None i e ∷ []
 asks line (Some k) i e = sets line None i (Logic false) ∷ sets line (Some k) i e ∷ []
 
-abbrev pub parts_of : ℕ → Masking → List Part
-parts_of line (Kept g c) = Run (under g c) ∷ []
-parts_of line (Asks g i q) = asks line g i (asked q)
-parts_of line (Clears j) = sets line None j (Logic false) ∷ []
-parts_of line (Leaves g j) = sets line g j (Logic true) ∷ []
-parts_of line (Turned l ps) = Turns l ps ∷ []
+abbrev pub masked_parts_of : ℕ → Masking → List Part
+masked_parts_of line (Kept g c) = Run (under_mask g c) ∷ []
+masked_parts_of line (Asks g i q) = asks line g i (asked q)
+masked_parts_of line (Clears j) = sets line None j (Logic false) ∷ []
+masked_parts_of line (Leaves g j) = sets line g j (Logic true) ∷ []
+masked_parts_of line (Turned l ps) = Turns l ps ∷ []
 
 abbrev pub all_parts_of : ℕ → List Masking → List Part
 all_parts_of line [] = []
-all_parts_of line (m ∷ ms) = parts_of line m ++ all_parts_of line ms
+all_parts_of line (m ∷ ms) = masked_parts_of line m ++ all_parts_of line ms
 
 -- ---- as names that are made
 

@@ -8,7 +8,7 @@ ghost use Rattle.if_convert.specs.Points.{Converted, entered, unless_skipped};
 
 use crate::jumps::jumps_in_choice;
 use crate::masks::add_asked;
-use crate::points::{Point, sum};
+use crate::points::{MaskPoint, sum};
 use nest::{Loop, NestArm, Part};
 use std::alloc::Global;
 use tree::{Memory, Seq};
@@ -21,7 +21,7 @@ fn add_part(
     deep: bool,
     own: Option<u32>,
     part: &Part,
-    point: &mut Point,
+    point: &mut MaskPoint,
     made: &mut Seq<Part>,
 ) -> Result<(), Memory>
     ensures { OnOk result (IsAdded line (converted line deep own (part_of part.now) point.old)
@@ -37,7 +37,7 @@ fn add_part(
             let jumps = jumps_in_choice(arms, other)?;
             point.number(deep, jumps)?;
             point.clear(alloc, line, deep, jumps, made)?;
-            let mut end = Point::entered(alloc, point.guard, point.jump, point.mask);
+            let mut end = MaskPoint::entered(alloc, point.guard, point.jump, point.mask);
             let last = add_arms(alloc, line, arms, &mut end, made)?;
             add_else(alloc, line, last, other, &mut end, made)?;
             point.rejoin(alloc, line, own, &end, made)
@@ -54,7 +54,7 @@ fn add_loop(
     line: u32,
     turns: &Loop,
     body: &Seq<Part>,
-    point: &mut Point,
+    point: &mut MaskPoint,
     made: &mut Seq<Part>,
 ) -> Result<(), Memory>
     ensures { OnOk result (IsAdded line
@@ -65,7 +65,7 @@ fn add_loop(
     if point.skips {
         return Ok(());
     }
-    let mut inner = Point::entered(alloc, None, point.mask, point.mask);
+    let mut inner = MaskPoint::entered(alloc, None, point.mask, point.mask);
     let mut parts = Seq::new(alloc);
     add_parts(alloc, line, false, None, body, &mut inner, &mut parts)?;
     point.mask = inner.mask;
@@ -80,7 +80,7 @@ pub(crate) fn add_parts(
     deep: bool,
     own: Option<u32>,
     parts: &Seq<Part>,
-    point: &mut Point,
+    point: &mut MaskPoint,
     made: &mut Seq<Part>,
 ) -> Result<(), Memory>
     ensures { OnOk result (IsAdded line (converted_list line deep own (map part_of parts.now) point.old)
@@ -98,7 +98,7 @@ fn add_arms(
     alloc: Global,
     line: u32,
     arms: &Seq<NestArm>,
-    point: &mut Point,
+    point: &mut MaskPoint,
     made: &mut Seq<Part>,
 ) -> Result<Option<u32>, Memory>
     ensures { IfOk result (λ last. (other : List plain.Part) (all : Converted) (old : List plain.Part)
@@ -121,7 +121,7 @@ fn add_else(
     line: u32,
     last: Option<u32>,
     other: &Seq<Part>,
-    point: &mut Point,
+    point: &mut MaskPoint,
     made: &mut Seq<Part>,
 ) -> Result<(), Memory>
     ensures { OnOk result ((all : Converted) (old : List plain.Part)
@@ -141,7 +141,7 @@ fn add_arm(
     alloc: Global,
     line: u32,
     arm: &NestArm,
-    point: &mut Point,
+    point: &mut MaskPoint,
     made: &mut Seq<Part>,
 ) -> Result<(), Memory>
     ensures { OnOk result (IsAdded line (arm_added line (branch_of arm.now) point.old)
@@ -161,13 +161,13 @@ fn add_block(
     line: u32,
     own: Option<u32>,
     parts: &Seq<Part>,
-    point: &mut Point,
+    point: &mut MaskPoint,
     made: &mut Seq<Part>,
 ) -> Result<(), Memory>
     ensures { OnOk result (IsAdded line (block_added line own (map part_of parts.now) point.old)
         point.new (map part_of made.old) (map part_of made.new)) }
 {
-    let mut end = Point::entered(alloc, own, point.jump, point.mask);
+    let mut end = MaskPoint::entered(alloc, own, point.jump, point.mask);
     add_parts(alloc, line, true, own, parts, &mut end, made)?;
     point.follow(&end)
 }

@@ -22,4 +22,4 @@ mod points;
 
 pub use laws::converted_is_plain;
 pub use nests::convert;
-pub use points::{Jumped, Point};
+pub use points::{Jumped, MaskPoint};

@@ -5,7 +5,7 @@ ghost use Rattle.tree.specs.Plain.{Binary, Logic, Unary};
 ghost use Rattle.tree.specs.declared.ops.Op.TheVariants.{And, Not};
 ghost use Rattle.tree.specs.View.{expression_of, reference_of};
 ghost use Rattle.nest.specs.View.{guarded_of, made_of, part_of};
-ghost use Rattle.if_convert.specs.Masks.{mask_name, mask, none_left, under, sets, asks, scalar, masks_from};
+ghost use Rattle.if_convert.specs.Masks.{mask_name, mask, none_left, under_mask, sets, asks, mask_scalar, masks_from};
 ghost use Rattle.if_convert.specs.Masks.{all_parts_of};
 ghost use Rattle.if_convert.specs.Points.{cleared};
 
@@ -30,7 +30,7 @@ fn mask_name(alloc: Global, number: u32) -> Result<Name, Memory>
 
 #[tactic(auto, using(tree::proofs::Equations::expression_equations))]
 fn scalar(alloc: Global, name: Name) -> Ref
-    ensures { reference_of result ≡ scalar name }
+    ensures { reference_of result ≡ mask_scalar name }
 {
     Ref {
         name,
@@ -97,7 +97,7 @@ pub(crate) fn under(
     guard: Option<u32>,
     stmt: &GuardedStmt,
 ) -> Result<GuardedStmt, Memory>
-    ensures { IfOk result (λ new. guarded_of new ≡ under guard (guarded_of stmt.now)) }
+    ensures { IfOk result (λ new. guarded_of new ≡ under_mask guard (guarded_of stmt.now)) }
 {
     let mut new = stmt.copy(alloc)?;
     if let Some(number) = guard {

@@ -9,7 +9,7 @@ ghost use Rattle.if_convert.specs.Converted.{converted_loop, converted_nest};
 
 use crate::bodies::add_parts;
 use crate::masks::add_masks;
-use crate::points::Point;
+use crate::points::MaskPoint;
 use nest::{Loop, Made, Nest, Part};
 use nest_rewrite::with_parts;
 use std::alloc::Global;
@@ -36,7 +36,7 @@ fn convert_loop(
     ensures { IfOk result (λ new. nest_of new
         ≡ converted_loop (nest_of nest.now) masks (loop_of turns.now) (parts (map part_of body.now))) }
 {
-    let mut point = Point::entered(alloc, None, masks, masks);
+    let mut point = MaskPoint::entered(alloc, None, masks, masks);
     let mut parts = Seq::new(alloc);
     add_parts(alloc, nest.line, false, None, body, &mut point, &mut parts)?;
     let mut made = copy_made(alloc, &nest.made)?;

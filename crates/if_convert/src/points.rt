@@ -3,8 +3,8 @@ ghost use Rattle.std.specs.Prelude.{◌≡◌, ◌++◌, ◌+◌, map, filter, I
 ghost use Rattle.nest.specs.View.{guarded_of, part_of};
 ghost use Rattle.if_convert.specs.Arms.{IsAdded, followed, rest_begun};
 ghost use Rattle.if_convert.specs.Masks.{all_parts_of};
-ghost use Rattle.if_convert.specs.Points.{entered, numbered, cleared_for, kept, jump_made, jump_at, is_left, resumed};
-ghost use Rattle.if_convert.specs.Points.{behind_label, rejoined};
+ghost use Rattle.if_convert.specs.Points.{entered, numbered_jumps, cleared_for, source_statement, jump_made, jump_at};
+ghost use Rattle.if_convert.specs.Points.{is_left, resumed, behind_label, rejoined};
 
 use crate::masks::{add_asked, add_cleared, add_set, none_left, not_mask, under};
 use nest::{GuardedStmt, Part};
@@ -21,7 +21,7 @@ pub struct Jumped {
 /// A point of a block: the mask under which statements stand there, the jumps that are under way to labels further on,
 /// whether statements are left out there, behind a jump, and the numbers of the next jump in an IF and the next mask.
 #[derive(Drop)]
-pub struct Point {
+pub struct MaskPoint {
     pub guard: Option<u32>,
     pub pending: Seq<Jumped>,
     pub skips: bool,
@@ -62,12 +62,12 @@ fn left_from(alloc: Global, jumps: &[Jumped], label: u32) -> Result<Seq<Jumped>,
     Ok(left)
 }
 
-impl Point {
+impl MaskPoint {
     /// The first point of a block.
-    pub(crate) fn entered(alloc: Global, guard: Option<u32>, jump: u32, mask: u32) -> Point
+    pub(crate) fn entered(alloc: Global, guard: Option<u32>, jump: u32, mask: u32) -> MaskPoint
         ensures { result ≡ entered guard jump mask }
     {
-        Point {
+        MaskPoint {
             guard,
             pending: Seq::new(alloc),
             skips: false,
@@ -78,7 +78,7 @@ impl Point {
 
     /// Gives so many jumps their numbers where the point isn't in an IF.
     pub(crate) fn number(&mut self, deep: bool, jumps: u32) -> Result<(), Memory>
-        ensures { OnOk result (self.new ≡ numbered deep jumps self.old) }
+        ensures { OnOk result (self.new ≡ numbered_jumps deep jumps self.old) }
     {
         if deep {
             return Ok(());
@@ -203,7 +203,7 @@ impl Point {
         stmt: &GuardedStmt,
         made: &mut Seq<Part>,
     ) -> Result<(), Memory>
-        ensures { OnOk result (IsAdded line (kept (guarded_of stmt.now) self.now)
+        ensures { OnOk result (IsAdded line (source_statement (guarded_of stmt.now) self.now)
             self.now (map part_of made.old) (map part_of made.new)) }
     {
         if self.skips {
@@ -235,7 +235,7 @@ impl Point {
     }
 
     /// Behind a block of an IF, which ends there.
-    pub(crate) fn follow(&mut self, end: &Point) -> Result<(), Memory>
+    pub(crate) fn follow(&mut self, end: &MaskPoint) -> Result<(), Memory>
         ensures { OnOk result (self.new ≡ followed self.old end.now) }
     {
         add_jumps(&mut self.pending, end.pending.as_slice())?;
@@ -250,7 +250,7 @@ impl Point {
         alloc: Global,
         line: u32,
         own: Option<u32>,
-        end: &Point,
+        end: &MaskPoint,
         made: &mut Seq<Part>,
     ) -> Result<(), Memory>
         ensures { OnOk result (IsAdded line (rejoined own self.old end.now.pending end.now.jump end.now.mask)

@@ -2,23 +2,23 @@
 use Rattle.std.proofs.Common.{◌≡◌, ◌⊎◌, inl, inr, refl, sym, ap, subst, ◌∙◌, ℕ, suc, ◌-◌, ◌*◌, ◌/◌, ◌≤◌, ◌<◌, pos, ◌+ℤ◌, List, [], ◌∷◌, ◌++◌, arith}
 use Rattle.std.specs.Prelude.{◌↔◌}
 use Rattle.std.proofs.lemmas.Int.{ints}
-use Rattle.components.specs.Lists.{In}
+use Rattle.components.specs.Lists.{IsMember}
 use Rattle.subscripts.specs.declared.affine.Affine.{Affine}
 use Rattle.index_split.specs.Gathered.{Adds}
 use Rattle.index_split.specs.Points.{GivesPoint, IsCrossingPoint, IsPoint, IsWithin, IsZeroPoint, MeetsAfter, front}
 use Rattle.index_split.specs.declared.points.Sides.{Sides}
 use Rattle.index_split.proofs.Multiples.{same_times}
 
-in_front : (x : ℕ) (xs ys : List ℕ) → In x xs → In x (xs ++ ys)
+in_front : (x : ℕ) (xs ys : List ℕ) → IsMember x xs → IsMember x (xs ++ ys)
 in_front x [] ys h = absurd h
 in_front x (z ∷ xs) ys (inl e) = inl e
 in_front x (z ∷ xs) ys (inr i) = inr (in_front x xs ys i)
 
-in_last : (x : ℕ) (xs : List ℕ) → In x (xs ++ x ∷ [])
+in_last : (x : ℕ) (xs : List ℕ) → IsMember x (xs ++ x ∷ [])
 in_last x [] = inl refl
 in_last x (z ∷ xs) = inr (in_last x xs)
 
-either_push : (x y : ℕ) (xs : List ℕ) → In x (xs ++ y ∷ []) → In x xs ⊎ (x ≡ y)
+either_push : (x y : ℕ) (xs : List ℕ) → IsMember x (xs ++ y ∷ []) → IsMember x xs ⊎ (x ≡ y)
 either_push x y [] (inl e) = inr e
 either_push x y [] (inr i) = absurd i
 either_push x y (z ∷ xs) (inl e) = inl (inl e)
@@ -45,15 +45,15 @@ module _ (old mid new : List ℕ) (P Q R : ℕ → Type 0) where
 
 pub adds_push : (t y : ℕ) (old new : List ℕ) → 1 ≤ y → y < t → new ≡ old ++ y ∷ [] → Adds (IsWithin t (λ x. x ≡ y)) old new
 adds_push t y old new low high e x = (
-  λ i. elim (either_push x y old (subst (λ (ys : List ℕ). In x ys) e i)) [ inl o ↦ inl o | inr q ↦ inr (within q) ],
-  λ h. subst (λ (ys : List ℕ). In x ys) (sym e) (elim h [ inl o ↦ in_front x old (y ∷ []) o | inr w ↦ there w.holds ]),
+  λ i. elim (either_push x y old (subst (λ (ys : List ℕ). IsMember x ys) e i)) [ inl o ↦ inl o | inr q ↦ inr (within q) ],
+  λ h. subst (λ (ys : List ℕ). IsMember x ys) (sym e) (elim h [ inl o ↦ in_front x old (y ∷ []) o | inr w ↦ there w.holds ]),
 )
   where
     within : x ≡ y → IsWithin t (λ x. x ≡ y) x
     within q = record { holds = q; from = omega (arith, q, low); to = omega (arith, q, high) }
 
-    there : x ≡ y → In x (old ++ y ∷ [])
-    there q = subst (λ (z : ℕ). In x (old ++ z ∷ [])) q (in_last x old)
+    there : x ≡ y → IsMember x (old ++ y ∷ [])
+    there q = subst (λ (z : ℕ). IsMember x (old ++ z ∷ [])) q (in_last x old)
 
 -- ---- of one pair
 

@@ -10,6 +10,7 @@ use Rattle.find_nests.specs.Laws.{IsFoundNest}
 use Rattle.find_nests.specs.View.{found_of}
 use Rattle.find_nests.specs.declared.search.Found.{Found as Found'}
 use Rattle.meaning.specs.Dialect.{fortran77}
+use Rattle.tree.specs.declared.width.Width.TheVariants.{Wide}
 use Rattle.meaning.specs.Profile77.{IsProgram77}
 use Rattle.nest.specs.Plain.{Loop, Nest}
 use Rattle.nest_reasons.specs.Symbols.{symbols_of}
@@ -73,20 +74,20 @@ few_of_source n h = within_declarations h.program n (found_nest_is_loop h.progra
 
 pub normal_there : (n : Nest) → IsOfSource (InNest n) → normalised n ≡ None → ⊥
 normal_there n h none =
-    let form = found_nest_has_normal_form fortran77 h.program n h.profile h.among in
+    let form = found_nest_has_normal_form (fortran77 Wide) h.program n h.profile h.among in
     true≢false (ap is_some (sym form.is ∙ none))
 
 pub normal_ready : (n m : Nest) → IsOfSource (InNest n) → normalised n ≡ Some m → IsReady m
-normal_ready n m h e = normal_nest_is_ready fortran77 h.program n m h.profile h.among e
+normal_ready n m h e = normal_nest_is_ready (fortran77 Wide) h.program n m h.profile h.among e
 
-pub few_declarations : (p : Program) (ds : List Decl) → map declaration_of ds ≡ p.declarations → IsProgram77 fortran77 p → length ds ≤ 2 ^ 16
+pub few_declarations : (p : Program) (ds : List Decl) → map declaration_of ds ≡ p.declarations → IsProgram77 (fortran77 Wide) p → length ds ≤ 2 ^ 16
 few_declarations p ds e is =
     let size : length (map declaration_of ds) ≡ length ds = length-map ds declaration_of in
     let same : length (map declaration_of ds) ≡ length p.declarations = ap length e in
     let few : length p.declarations ≤ 1000 = is.declarations.few in
     omega (arith, size, same, few)
 
-pub in_source : (p : Program) (items : List Found') (i : ℕ) (x : Found') → IsProgram77 fortran77 p → map found_of items ≡ found_in p → i < length items → x ≡ get_or items i x
+pub in_source : (p : Program) (items : List Found') (i : ℕ) (x : Found') → IsProgram77 (fortran77 Wide) p → map found_of items ≡ found_in p → i < length items → x ≡ get_or items i x
     → IsOfSource (found_of x)
 in_source p items i x profile is h e =
     let size : length (map found_of items) ≡ length items = length-map items found_of in

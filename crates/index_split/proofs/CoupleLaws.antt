@@ -4,7 +4,7 @@ use Rattle.std.specs.Prelude.{IsTrue}
 use Rattle.std.specs.Ordering.{int_eq}
 use Rattle.std.proofs.lemmas.Bool.Decides.{Decides-int_eq, Decides-eqb}
 use Rattle.std.proofs.lemmas.List.{take_all}
-use Rattle.components.specs.Lists.{In}
+use Rattle.components.specs.Lists.{IsMember}
 use Rattle.dependence_graph.proofs.dep_graph.Joining.{one_more}
 use Rattle.dependence_graph.proofs.dep_graph.SameLoops.{in_front, in_rest, in_either}
 use Rattle.dependence_graph.specs.declared.nest_references.occurrences.Occurrence.{Occurrence}
@@ -49,20 +49,20 @@ pair_apart t s old e = adds_none old old old (GivesPoint t s) (GivesPoint t s) (
 
 -- ---- separable pairs
 
-one_has_loop : (r s : Sides) → In s (with_loop r) → has_loop s ≡ true
+one_has_loop : (r s : Sides) → IsMember s (with_loop r) → has_loop s ≡ true
 one_has_loop r s h = by (has_loop r) refl h
   where
-    by : (b : Bool) → has_loop r ≡ b → In s (cond b (r ∷ []) []) → has_loop s ≡ true
+    by : (b : Bool) → has_loop r ≡ b → IsMember s (cond b (r ∷ []) []) → has_loop s ≡ true
     by true e (inl q) = ap has_loop q ∙ e
     by true e (inr i) = absurd i
     by false e i = absurd i
 
-place_has_loop : (f g : Option Affine) (s : Sides) → In s (paired f g) → has_loop s ≡ true
+place_has_loop : (f g : Option Affine) (s : Sides) → IsMember s (paired f g) → has_loop s ≡ true
 place_has_loop None g s h = absurd h
 place_has_loop (Some f) None s h = absurd h
 place_has_loop (Some f) (Some g) s h = one_has_loop (record { first = f; second = g }) s h
 
-have_loop : (fs gs : List (Option Affine)) (s : Sides) → In s (pairs_of fs gs) → has_loop s ≡ true
+have_loop : (fs gs : List (Option Affine)) (s : Sides) → IsMember s (pairs_of fs gs) → has_loop s ≡ true
 have_loop [] gs s h = absurd h
 have_loop (f ∷ fs) [] s h = absurd h
 have_loop (f ∷ fs) (g ∷ gs) s h = elim (in_either s (paired f g) (pairs_of fs gs) h) [ inl i ↦ place_has_loop f g s i | inr i ↦ have_loop fs gs s i ]
@@ -73,7 +73,7 @@ only (r ∷ []) s e = cc
 only (r ∷ q ∷ ss) s e = cc
 
 pub separable_has_loop : (fs gs : List (Option Affine)) (s : Sides) → only_one (pairs_of fs gs) ≡ Some s → has_loop s ≡ true
-separable_has_loop fs gs s e = have_loop fs gs s (subst (λ (ss : List Sides). In s ss) (sym (only (pairs_of fs gs) s e)) (inl refl))
+separable_has_loop fs gs s e = have_loop fs gs s (subst (λ (ss : List Sides). IsMember s ss) (sym (only (pairs_of fs gs) s e)) (inl refl))
 
 -- ---- couples
 
@@ -121,7 +121,7 @@ row_more o us i u t old mid new h e a b =
     back : (x : ℕ) → IsPointAmong (o ∷ []) (take i us ++ u ∷ []) t x → IsPointAmong (o ∷ []) (take i us) t x ⊎ CoupleGives t o u x
     back x g = by g.first_in (in_either g.second (take i us) (u ∷ []) g.second_in)
       where
-        by : (g.first ≡ o) ⊎ ⊥ → In g.second (take i us) ⊎ ((g.second ≡ u) ⊎ ⊥) → IsPointAmong (o ∷ []) (take i us) t x ⊎ CoupleGives t o u x
+        by : (g.first ≡ o) ⊎ ⊥ → IsMember g.second (take i us) ⊎ ((g.second ≡ u) ⊎ ⊥) → IsPointAmong (o ∷ []) (take i us) t x ⊎ CoupleGives t o u x
         by f (inl j) = inl (record { first = g.first; second = g.second; first_in = f; second_in = j; gives = g.gives })
         by (inl f) (inr (inl s)) = inr (subst (λ (v : Occurrence). CoupleGives t o v x) s (subst (λ (v : Occurrence). CoupleGives t v g.second x) f g.gives))
         by (inr f) (inr (inl s)) = absurd f

@@ -2,11 +2,11 @@
 use Rattle.std.proofs.Common.{◌≡◌, ◌≤◌, inl, inr, refl, sym, ap, subst, ◌∙◌, ℕ, ℤ, pos, int_div, Bool, true, false, ◌&&◌, cond, Option, Some, None, List, [], ◌∷◌, map, arith}
 use Rattle.std.specs.Prelude.{◌↔◌, MatchOption}
 use Rattle.std.specs.List.Sorted.{IsStrictlyIncreasing}
-use Rattle.components.specs.Lists.{In}
+use Rattle.components.specs.Lists.{IsMember}
 use Rattle.dependence_graph.specs.declared.nest_references.occurrences.Occurrence.{Occurrence}
 use Rattle.dependence_graph.specs.nest_graph.Ready.{IsTripIn}
 use Rattle.dependence_graph.specs.nest_graph.Spans.{ends_at, last_after, span_after}
-use Rattle.dependence_graph.specs.nest_graph.Trips.{is_constant}
+use Rattle.dependence_graph.specs.nest_graph.Trips.{has_constant_top}
 use Rattle.dependence_graph.specs.nest_references.Occurrences.{AreOccurrences}
 use Rattle.nest.specs.Plain.{Choice, Guarded, Jump, Label, Loop, Nest, Part, Parts, Run, Turns, no_parts, part, parts}
 use Rattle.nest.specs.declared.parts.Trip.{Trip}
@@ -26,9 +26,9 @@ IsTripOf l o = MatchOption o ((n : ℕ) → TurnsAlways l n → ⊥) (λ z. (n :
 
 pub constant_by : (l : Loop) (t : Trip) (s : Span) → l.trip ≡ Some t → IsTripIn 0 t → s ≡ span_after [] t → s.fixed ≡ true
     → MatchOption s.last ((n : ℕ) → TurnsAlways l n → ⊥) (λ z. (n : ℕ) → (z ≡ pos n) ↔ TurnsAlways l n)
-constant_by l t s is form e fixed = by (is_constant t) refl e
+constant_by l t s is form e fixed = by (has_constant_top t) refl e
   where
-    right : is_constant t ≡ true → (n : ℕ) → (int_div t.top.constant t.by ≡ pos n) ↔ TurnsAlways l n
+    right : has_constant_top t ≡ true → (n : ℕ) → (int_div t.top.constant t.by ≡ pos n) ↔ TurnsAlways l n
     right c n = (
       λ q. record { trip = t; is = is; linear = form; constant = c; number = q },
       λ h. ap (λ (u : Trip). int_div u.top.constant u.by) (same_trip l t h.trip is h.is) ∙ h.number,
@@ -37,7 +37,7 @@ constant_by l t s is form e fixed = by (is_constant t) refl e
     no : s.fixed ≡ false → ⊥
     no f = cc
 
-    by : (b : Bool) → is_constant t ≡ b → s ≡ cond b (record { last = Some (int_div t.top.constant t.by); fixed = true }) (ends_at (last_after [] t)) → IsTripOf l s.last
+    by : (b : Bool) → has_constant_top t ≡ b → s ≡ cond b (record { last = Some (int_div t.top.constant t.by); fixed = true }) (ends_at (last_after [] t)) → IsTripOf l s.last
     by true c f = subst (IsTripOf l) (sym (ap (λ (x : Span). x.last) f)) (right c)
     by false c f = absurd (no (ap (λ (x : Span). x.fixed) f))
 
@@ -119,10 +119,10 @@ module _ (n : Nest) (l : Loop) (e : only_loop n.body ≡ Some l) where
 -- ---- points
 
 pub gathered : (os : List Occurrence) (t : ℕ) (list items ordered points : List ℕ) → Adds (IsPointAmong os os t) [] list → items ≡ list
-    → ((x : ℕ) → In x ordered ↔ In x items) → points ≡ ordered → (x : ℕ) → In x points ↔ IsPointAmong os os t x
+    → ((x : ℕ) → IsMember x ordered ↔ IsMember x items) → points ≡ ordered → (x : ℕ) → IsMember x points ↔ IsPointAmong os os t x
 gathered os t list items ordered points h e s f x = (
-  λ i. elim ((h x).0 (subst (λ (xs : List ℕ). In x xs) e ((s x).0 (subst (λ (xs : List ℕ). In x xs) f i)))) [ inl n ↦ absurd n | inr p ↦ p ],
-  λ p. subst (λ (xs : List ℕ). In x xs) (sym f) ((s x).1 (subst (λ (xs : List ℕ). In x xs) (sym e) ((h x).1 (inr p)))),
+  λ i. elim ((h x).0 (subst (λ (xs : List ℕ). IsMember x xs) e ((s x).0 (subst (λ (xs : List ℕ). IsMember x xs) f i)))) [ inl n ↦ absurd n | inr p ↦ p ],
+  λ p. subst (λ (xs : List ℕ). IsMember x xs) (sym f) ((s x).1 (subst (λ (xs : List ℕ). IsMember x xs) (sym e) ((h x).1 (inr p)))),
 )
 
 module _ (n : Nest) (os list : List Occurrence) (same : list ≡ os) (are : AreOccurrences n os) where
@@ -135,7 +135,7 @@ module _ (n : Nest) (os list : List Occurrence) (same : list ≡ os) (are : AreO
   })
 
   pub all_points : (t : ℕ) → IsConsidered n t → (points : List ℕ) → IsStrictlyIncreasing points
-      → ((x : ℕ) → In x points ↔ IsPointAmong list list t x) → AreCutPoints n points
+      → ((x : ℕ) → IsMember x points ↔ IsPointAmong list list t x) → AreCutPoints n points
   all_points t h points rising each = record {
     references = list;
     are = subst (AreOccurrences n) (sym same) are;

@@ -4,6 +4,7 @@ use Rattle.find_nests.specs.Found.{Found, InNest, Kept, found_in}
 use Rattle.linear_forms.specs.Affines.{IsFound}
 use Rattle.linear_forms.specs.Linear.{form_of}
 use Rattle.meaning.specs.Dialect.{fortran77}
+use Rattle.tree.specs.declared.width.Width.TheVariants.{Wide}
 use Rattle.meaning.specs.Profile77.{IsProgram77}
 use Rattle.nest.specs.Plain.{Loop, Nest}
 use Rattle.normal_loops.specs.Normalised.{normalised}
@@ -62,5 +63,5 @@ AreAnswersTo (f ∷ fs) (a ∷ as') = IsAnswerTo f a × AreAnswersTo fs as'
 -- found in some program of FORTRAN 77
 pub record IsOfSource (f : Found) : Type 0 where
   pub program : Program
-  pub profile : IsProgram77 fortran77 program
+  pub profile : IsProgram77 (fortran77 Wide) program
   pub among : Contains (found_in program) f

@@ -1,13 +1,13 @@
 -- Points that are gathered in a list, in any order.
 use Rattle.std.specs.Prelude.{◌↔◌, ◌⊎◌, ℕ, ℤ, nat_eq, Bool, true, false, ◌&&◌, Option, Some, None, List, [], ◌∷◌}
 use Rattle.std.specs.Ordering.{int_eq}
-use Rattle.components.specs.Lists.{In}
+use Rattle.components.specs.Lists.{IsMember}
 use Rattle.subscripts.specs.declared.affine.Affine.{Affine}
 use Rattle.index_split.specs.declared.points.Sides.{Sides}
 
 -- those of which this holds have come to those that were there
 abbrev pub Adds : (ℕ → Type 0) → List ℕ → List ℕ → Type 0
-Adds P old new = (x : ℕ) → In x new ↔ (In x old ⊎ P x)
+Adds P old new = (x : ℕ) → IsMember x new ↔ (IsMember x old ⊎ P x)
 
 -- two subscripts in one place, where both are linear
 abbrev pub sides_of : Option Affine → Option Affine → Option Sides

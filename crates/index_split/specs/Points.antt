@@ -6,10 +6,10 @@ use Rattle.std.specs.Prelude.{Bool, not, ◌||◌, if◌then◌else◌, Option, 
 use Rattle.std.specs.Prelude.{slice_index_or}
 use Rattle.std.specs.Ordering.{int_eq}
 use Rattle.std.specs.List.Sorted.{IsStrictlyIncreasing}
-use Rattle.components.specs.Lists.{In}
+use Rattle.components.specs.Lists.{IsMember}
 use Rattle.dependence_graph.specs.declared.nest_references.occurrences.Occurrence.{Occurrence}
 use Rattle.dependence_graph.specs.nest_graph.Ready.{IsTripIn}
-use Rattle.dependence_graph.specs.nest_graph.Trips.{is_constant}
+use Rattle.dependence_graph.specs.nest_graph.Trips.{has_constant_top}
 use Rattle.dependence_graph.specs.nest_references.Occurrences.{AreOccurrences}
 use Rattle.nest.specs.Plain.{Guarded, Loop, Nest, Run, Turns, parts}
 use Rattle.nest.specs.declared.parts.Trip.{Trip}
@@ -23,7 +23,7 @@ pub record TurnsAlways (l : Loop) (t : ℕ) : Type 0 where
   pub trip : Trip
   pub is : l.trip ≡ Some trip
   pub linear : IsTripIn 0 trip
-  pub constant : IsTrue (is_constant trip)
+  pub constant : IsTrue (has_constant_top trip)
   pub number : int_div trip.top.constant trip.by ≡ pos t
 
 -- one loop round assignments alone, which turns t times, from 2 to 2147483646
@@ -112,8 +112,8 @@ pub record CoupleGives (t : ℕ) (o u : Occurrence) (x : ℕ) : Type 0 where
 pub record IsPointAmong (os us : List Occurrence) (t x : ℕ) : Type 0 where
   pub first : Occurrence
   pub second : Occurrence
-  pub first_in : In first os
-  pub second_in : In second us
+  pub first_in : IsMember first os
+  pub second_in : IsMember second us
   pub gives : CoupleGives t first second x
 
 -- the points that the references of the nest give, in rising order; none where it isn't considered
@@ -121,4 +121,4 @@ pub record AreCutPoints (n : Nest) (points : List ℕ) : Type 0 where
   pub references : List Occurrence
   pub are : AreOccurrences n references
   pub rising : IsStrictlyIncreasing points
-  pub each : (x : ℕ) → In x points ↔ ((t : ℕ) × IsConsidered n t × IsPointAmong references references t x)
+  pub each : (x : ℕ) → IsMember x points ↔ ((t : ℕ) × IsConsidered n t × IsPointAmong references references t x)

@@ -1,7 +1,7 @@
 -- What a program is split to.
 use Rattle.std.specs.Prelude.{◌≡◌, ◌<◌, ◌^◌, List}
 use Rattle.find_nests.specs.Found.{found_in}
-use Rattle.meaning.specs.Blocks.{statements_in}
+use Rattle.meaning.specs.Blocks.{statement_count_in}
 use Rattle.tree.specs.Plain.{Program, block}
 use Rattle.index_split.specs.Answers.{AreAnswersTo}
 use Rattle.index_split.specs.Filled.{filled_in}
@@ -12,4 +12,4 @@ pub record IsSplitTo (p q : Program) : Type 0 where
   pub answers : List Answer
   pub are : AreAnswersTo (found_in p) answers
   pub is : q ≡ record p { body = block (filled_in answers 0 p.body) }
-  pub few : statements_in q.body < 2 ^ 31
+  pub few : statement_count_in q.body < 2 ^ 31

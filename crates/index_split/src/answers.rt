@@ -4,6 +4,7 @@ ghost use Rattle.dependence_graph.specs.nest_graph.Ready.{IsReady};
 ghost use Rattle.find_nests.specs.Found.{InNest, found_in};
 ghost use Rattle.find_nests.specs.View.{found_of};
 ghost use Rattle.meaning.specs.Dialect.{fortran77};
+ghost use Rattle.tree.specs.declared.width.Width.TheVariants.{Wide};
 ghost use Rattle.meaning.specs.Profile77.{IsProgram77};
 ghost use Rattle.nest.specs.View.{loop_of, nest_of};
 ghost use Rattle.tree.specs.View.{program_of};
@@ -123,7 +124,7 @@ fn answer_to(alloc: Global, found: &Found) -> Result<Answer, Memory>
 
 /// The answer to each loop of a program that stands in no nest, in the order of the text.
 pub(crate) fn answers_to(alloc: Global, program: &Program77) -> Result<Seq<Answer>, Memory>
-    requires { IsProgram77 fortran77 (program_of program.now) }
+    requires { IsProgram77 (fortran77 Wide) (program_of program.now) }
     ensures { IfOk result (AreAnswersTo (found_in (program_of program.now))) }
 {
     let mut answers = Seq::new(alloc);

@@ -1,7 +1,7 @@
 //! The cut points of a nest.
 ghost use Rattle.std.specs.Prelude.{◌≡◌, ◌↔◌, ◌≤◌, ℕ, pos, IfOk, MatchOption, None, Some, map};
 ghost use Rattle.std.specs.List.Sorted.{IsStrictlyIncreasing};
-ghost use Rattle.components.specs.Lists.{In};
+ghost use Rattle.components.specs.Lists.{IsMember};
 ghost use Rattle.dependence_graph.specs.nest_graph.Ready.{IsReady};
 ghost use Rattle.nest.specs.Plain.{parts};
 ghost use Rattle.nest.specs.View.{loop_of, nest_of, part_of};
@@ -101,7 +101,7 @@ pub fn trip_to_cut(nest: &Nest) -> Option<u32>
 // The numbers in rising order, each once.
 fn in_order(numbers: Vec<u32>) -> Vec<u32>
     ensures rising { IsStrictlyIncreasing result.items }
-    ensures same { (x : ℕ) → In x result.items ↔ In x numbers.items }
+    ensures same { (x : ℕ) → IsMember x result.items ↔ IsMember x numbers.items }
 {
     let mut numbers = numbers;
     numbers.sort_unstable();
@@ -113,7 +113,7 @@ fn in_order(numbers: Vec<u32>) -> Vec<u32>
 fn points_among(alloc: Global, all: &[Occurrence], trip: u32) -> Result<Seq<u32>, Memory>
     requires { trip ≤ 2147483646 }
     ensures rising { IfOk result (λ points. IsStrictlyIncreasing points) }
-    ensures points { IfOk result (λ points. (x : ℕ) → In x points ↔ IsPointAmong all.now all.now trip x) }
+    ensures points { IfOk result (λ points. (x : ℕ) → IsMember x points ↔ IsPointAmong all.now all.now trip x) }
 {
     let mut points = Points {
         trip,

@@ -9,9 +9,9 @@ use Rattle.tree.proofs.Equations.{block_of-is, block_of-made}
 use Rattle.nest.specs.Allocations.{block_then}
 use Rattle.nest.specs.Plain.{Nest}
 use Rattle.nest.specs.declared.parts.Trip.{Trip}
-use Rattle.statement_passes.specs.Shifted.{with_symbols}
+use Rattle.statement_passes.specs.Shifted.{with_nest_symbols}
 use Rattle.inductions.specs.Laws.{NoneIsWritten}
-use Rattle.inductions.specs.Nests.{endings, induction_names, inductions_substituted, with_body, with_inductions}
+use Rattle.inductions.specs.Nests.{endings, induction_names, inductions_substituted, with_inductions_put, with_inductions}
 use Rattle.inductions.specs.declared.found.Induction.{Induction}
 use Rattle.inductions.proofs.NotWritten.{no_induction_is_written}
 
@@ -27,7 +27,7 @@ more-is a more all e =
     ∙ sym (ap (λ b. block_then b (P.block (map statement_of more))) (block_of-is a) ∙ one_behind (map statement_of (out-Block a).stmts) (map statement_of more))
 
 pub with-some : (n : Nest) (o : List ℕ × Trip) (ds : List Induction) → (ds ≡ [] → ⊥)
-    → with_inductions n o ds ≡ with_body o.0 ds (block_then n.after (endings n o.1 ds)) (with_symbols n (induction_names ds))
+    → with_inductions n o ds ≡ with_inductions_put o.0 ds (block_then n.after (endings n o.1 ds)) (with_nest_symbols n (induction_names ds))
 with-some n o [] h = absurd (h refl)
 with-some n o (d ∷ ds) h = refl
 

@@ -13,7 +13,7 @@ use Rattle.nest.specs.declared.parts.Trip.{Trip}
 use Rattle.nest_order.specs.orders.Lists.{In}
 use Rattle.statement_passes.specs.MadeNames.{kind_if_scalar}
 use Rattle.inductions.specs.Found.{if_integer, induction_declared}
-use Rattle.inductions.specs.Growing.{only_one, only_write, writes, writes_from}
+use Rattle.inductions.specs.Growing.{one_number, only_write, writes_scalar, writes_from}
 use Rattle.inductions.specs.Laws.{IsGrowth}
 use Rattle.inductions.specs.Putting.{found, grows_at}
 use Rattle.inductions.specs.Together.{Is, is_own}
@@ -132,36 +132,36 @@ record WritesAt (x : List ℕ) (ss : List Standing) (n k : ℕ) : Type 0 where
   is : k ≡ n + place
   standing : Standing
   there : slice_get ss place ≡ Some standing
-  written : writes x standing ≡ true
+  written : writes_scalar x standing ≡ true
 
 written_at : (x : List ℕ) (n : ℕ) (ss : List Standing) (k : ℕ) → In k (writes_from n ss x) → WritesAt x ss n k
 written_at x n [] k i = absurd i
-written_at x n (s ∷ ss) k i = by (writes x s) refl i (λ j. later (written_at x (n + 1) ss k j))
+written_at x n (s ∷ ss) k i = by (writes_scalar x s) refl i (λ j. later (written_at x (n + 1) ss k j))
   where
     later : WritesAt x ss (n + 1) k → WritesAt x (s ∷ ss) n k
     later r =
         let e = r.is in
         record { place = suc r.place; is = omega (arith, e); standing = r.standing; there = r.there; written = r.written }
 
-    by : (b : Bool) → writes x s ≡ b → In k (cond b (n ∷ writes_from (n + 1) ss x) (writes_from (n + 1) ss x)) → (In k (writes_from (n + 1) ss x) → WritesAt x (s ∷ ss) n k)
+    by : (b : Bool) → writes_scalar x s ≡ b → In k (cond b (n ∷ writes_from (n + 1) ss x) (writes_from (n + 1) ss x)) → (In k (writes_from (n + 1) ss x) → WritesAt x (s ∷ ss) n k)
         → WritesAt x (s ∷ ss) n k
     by true e (inl q) more = record { place = 0; is = q ∙ (let f : n ≡ n + 0 = omega arith in f); standing = s; there = refl; written = e }
     by true e (inr j) more = more j
     by false e j more = more j
 
-only_in : (ks : List ℕ) (p : ℕ) → only_one ks ≡ Some p → In p ks
+only_in : (ks : List ℕ) (p : ℕ) → one_number ks ≡ Some p → In p ks
 only_in [] p h = absurd cc
 only_in (k ∷ []) p h = let same : k ≡ p = cc in inl (sym same)
 only_in (k ∷ l ∷ ks) p h = absurd cc
 
-only_written : (ss : List Standing) (x : List ℕ) (p : ℕ) (s : Standing) → only_write ss x ≡ Some p → slice_get ss p ≡ Some s → writes x s ≡ true
+only_written : (ss : List Standing) (x : List ℕ) (p : ℕ) (s : Standing) → only_write ss x ≡ Some p → slice_get ss p ≡ Some s → writes_scalar x s ≡ true
 only_written ss x p s h g =
     let r = written_at x 0 ss p (only_in (writes_from 0 ss x) p h) in
     let e = r.is in
     let place : p ≡ r.place = omega (arith, e) in
     let both : ◌≡◌ {A = Option Standing} (Some r.standing) (Some s) = sym r.there ∙ (ap (slice_get ss) (sym place) ∙ g) in
     let same : r.standing ≡ s = cc in
-    subst (λ (y : Standing). writes x y ≡ true) same r.written
+    subst (λ (y : Standing). writes_scalar x y ≡ true) same r.written
 
 pub record IsWritten (bits : ℕ) (ss : List Standing) (d : Induction) : Type 0 where
   pub standing : Standing

@@ -14,22 +14,22 @@ use Rattle.nest.specs.declared.parts.Trip.{Trip}
 use Rattle.nest_order.specs.shapes.Shapes.{IsPlain}
 use Rattle.statement_passes.specs.MadeNames.{kind_if_scalar}
 use Rattle.statement_passes.specs.Passes.{mapped_nest}
-use Rattle.statement_passes.specs.Shifted.{shifted_part, with_symbol, with_symbols}
+use Rattle.statement_passes.specs.Shifted.{shifted_part, with_nest_symbol, with_nest_symbols}
 use Rattle.statement_passes.specs.Standings.{IsLoop, mapped_standings, shifted_standing, standings}
-use Rattle.statement_passes.specs.Symbols.{place_of}
+use Rattle.statement_passes.specs.Symbols.{place_among}
 use Rattle.statement_passes.proofs.Standings.{mapped_nest_has, symbol_leaves_nest}
-use Rattle.inductions.specs.Found.{if_integer, induction_declared, inductions_by, inductions_of, outermost}
-use Rattle.inductions.specs.Growing.{only_one, only_write, writes, writes_from}
+use Rattle.inductions.specs.Found.{if_integer, induction_declared, inductions_by, inductions_of, outermost_trip}
+use Rattle.inductions.specs.Growing.{one_number, only_write, writes_scalar, writes_from}
 use Rattle.inductions.specs.Laws.{IsWrittenNowhere, NoInductionIsWritten}
 use Rattle.inductions.specs.Nests.{induction_names, inductions_substituted, substituted_by, with_inductions}
-use Rattle.inductions.specs.Putting.{grows_at, put_in, with_forms}
+use Rattle.inductions.specs.Putting.{grows_at, put_in, with_induction_forms}
 use Rattle.inductions.specs.declared.found.Induction.{Induction}
 use Rattle.inductions.proofs.FoundLaws.{IsFoundIn, named-is}
 
 -- ---- the only write
 
 -- all of them are among those of a longer list, which has one
-only_is : (ks : List ℕ) (p k : ℕ) → only_one ks ≡ Some p → Contains ks k → k ≡ p
+only_is : (ks : List ℕ) (p k : ℕ) → one_number ks ≡ Some p → Contains ks k → k ≡ p
 only_is [] p k h c = absurd cc
 only_is (j ∷ []) p k h c = by (cases_of j [] k c)
   where
@@ -38,23 +38,23 @@ only_is (j ∷ []) p k h c = by (cases_of j [] k c)
     by (inr g) = absurd (nowhere k g)
 only_is (i ∷ j ∷ ks) p k h c = absurd cc
 
-is-written : (n : ℕ) (ss : List Standing) (x : List ℕ) (k : ℕ) (s : Standing) → slice_get ss k ≡ Some s → writes x s ≡ true → Contains (writes_from n ss x) (n + k)
+is-written : (n : ℕ) (ss : List Standing) (x : List ℕ) (k : ℕ) (s : Standing) → slice_get ss k ≡ Some s → writes_scalar x s ≡ true → Contains (writes_from n ss x) (n + k)
 is-written n [] x k s h e = absurd cc
 is-written n (t ∷ ts) x zero s h e =
     let same : t ≡ s = cc in
     let first : n ≡ n + 0 = omega arith in
-    subst (λ b. Contains (cond b (n ∷ writes_from (n + 1) ts x) (writes_from (n + 1) ts x)) (n + 0)) (sym (ap (writes x) same ∙ e))
+    subst (λ b. Contains (cond b (n ∷ writes_from (n + 1) ts x) (writes_from (n + 1) ts x)) (n + 0)) (sym (ap (writes_scalar x) same ∙ e))
     (subst (Contains (n ∷ writes_from (n + 1) ts x)) first (here n (writes_from (n + 1) ts x)))
 is-written n (t ∷ ts) x (suc k) s h e =
     let further : (n + 1) + k ≡ n + suc k = omega arith in
     let more : Contains (writes_from (n + 1) ts x) (n + suc k) = subst (Contains (writes_from (n + 1) ts x)) further (is-written (n + 1) ts x k s h e) in
-    by (writes x t) more
+    by (writes_scalar x t) more
   where
     by : (b : Bool) → Contains (writes_from (n + 1) ts x) (n + suc k) → Contains (cond b (n ∷ writes_from (n + 1) ts x) (writes_from (n + 1) ts x)) (n + suc k)
     by true c = there n (writes_from (n + 1) ts x) (n + suc k) c
     by false c = c
 
-pub only-write-is : (ss : List Standing) (x : List ℕ) (p k : ℕ) (s : Standing) → only_write ss x ≡ Some p → slice_get ss k ≡ Some s → writes x s ≡ true → k ≡ p
+pub only-write-is : (ss : List Standing) (x : List ℕ) (p k : ℕ) (s : Standing) → only_write ss x ≡ Some p → slice_get ss k ≡ Some s → writes_scalar x s ≡ true → k ≡ p
 only-write-is ss x p k s h g e =
     let first : 0 + k ≡ k = omega arith in
     sym first ∙ only_is (writes_from 0 ss x) p (0 + k) h (is-written 0 ss x k s g e)
@@ -98,27 +98,27 @@ found-shifted at [] k s h = absurd cc
 found-shifted at (t ∷ ts) zero s h = let same : shifted_standing at t ≡ s = cc in (t, refl, ap (λ (x : Standing). x.statement) same)
 found-shifted at (t ∷ ts) (suc k) s h = found-shifted at ts k s h
 
-one-symbol : (n : Nest) (x : List ℕ) → IsPlain n.body → SameLefts n (with_symbol n x)
+one-symbol : (n : Nest) (x : List ℕ) → IsPlain n.body → SameLefts n (with_nest_symbol n x)
 one-symbol n x h =
     let p = symbol_leaves_nest n x h in
     record {
       plain = p.plain;
       loop = loop n.body;
-      lefts = λ k s g. found-shifted (place_of n.symbols x) (nest_statements n) k s (sym (ap (λ ss. slice_get ss k) p.statements) ∙ g);
+      lefts = λ k s g. found-shifted (place_among n.symbols x) (nest_statements n) k s (sym (ap (λ ss. slice_get ss k) p.statements) ∙ g);
     }
   where
-    loop : (p : Part) → IsLoop p → IsLoop (shifted_part (place_of n.symbols x) p)
+    loop : (p : Part) → IsLoop p → IsLoop (shifted_part (place_among n.symbols x) p)
     loop (Turns l ps) g = g
     loop (Run g') g = absurd g
     loop (Choice bs ps) g = absurd g
     loop (Label k) g = absurd g
     loop (Jump k) g = absurd g
 
-pub all-symbols : (n : Nest) (xs : List (List ℕ)) → IsPlain n.body → SameLefts n (with_symbols n xs)
+pub all-symbols : (n : Nest) (xs : List (List ℕ)) → IsPlain n.body → SameLefts n (with_nest_symbols n xs)
 all-symbols n [] h = record { plain = h; loop = λ g. g; lefts = λ k s g. (s, g, refl) }
 all-symbols n (x ∷ xs) h =
     let one = one-symbol n x h in
-    let more = all-symbols (with_symbol n x) xs one.plain in
+    let more = all-symbols (with_nest_symbol n x) xs one.plain in
     record {
       plain = more.plain;
       loop = λ g. more.loop (one.loop g);
@@ -165,7 +165,7 @@ all-of P (x ∷ xs) h (suc k) d l = all-of P xs h.1 k d (omega (arith, l))
 module _ (n : Nest) (plain : IsPlain n.body) (loop : IsLoop n.body) (o : List ℕ × Trip) (ds : List Induction) (d : Induction) (among : Contains ds d)
     (is : IsFoundIn n.symbols o.1 (nest_statements n) d) where
   abbrev more : Nest
-  more = with_symbols n (induction_names ds)
+  more = with_nest_symbols n (induction_names ds)
 
   abbrev each : List Loop → ℕ → Guarded → List Guarded
   each = put_in o.0 ds more.symbols
@@ -189,7 +189,7 @@ module _ (n : Nest) (plain : IsPlain n.body) (loop : IsLoop n.body) (o : List �
           let place = only-write-is (nest_statements n) d.name d.place k t.0 is.write t.1 (ap (λ (q : Guarded). bytes_eq q.left.name d.name) t.2 ∙ e) in
           let now : true ≡ false = sym (grows-here ds d (0 + k) among (first ∙ place)) ∙ f in absurd cc
 
-      by : (b : Bool) → grows_at ds (0 + k) ≡ b → AllByRecursion Other (standings s.loops (cond b [] (with_forms o.0 ds more.symbols s.loops (0 + k) s.statement ∷ [])))
+      by : (b : Bool) → grows_at ds (0 + k) ≡ b → AllByRecursion Other (standings s.loops (cond b [] (with_induction_forms o.0 ds more.symbols s.loops (0 + k) s.statement ∷ [])))
       by true e = tt
       by false e = (other (bytes_eq s.statement.left.name d.name) refl e, tt)
 
@@ -208,17 +208,17 @@ by-outermost n h (Some o) (inr g) d c = by (inductions_by n (Some o)) c (listed-
 
 pub no_induction_is_written : NoInductionIsWritten
 unfolding inductions_substituted
-no_induction_is_written n h k x l = by-name (inductions_of n) (λ d c. by-outermost n h (outermost n.body) (is-loop n.body) d c) k x l
+no_induction_is_written n h k x l = by-name (inductions_of n) (λ d c. by-outermost n h (outermost_trip n.body) (is-loop n.body) d c) k x l
   where
-    is-loop : (p : Part) → (outermost p ≡ None) ⊎ IsLoop p
+    is-loop : (p : Part) → (outermost_trip p ≡ None) ⊎ IsLoop p
     is-loop (Turns m ps) = inr tt
     is-loop (Run g) = inl refl
     is-loop (Choice bs ps) = inl refl
     is-loop (Label j) = inl refl
     is-loop (Jump j) = inl refl
 
-    by-name : (ds : List Induction) → ((d : Induction) → Contains ds d → IsWrittenNowhere (substituted_by n (outermost n.body)) d.name)
-        → All (IsWrittenNowhere (substituted_by n (outermost n.body))) (induction_names ds)
+    by-name : (ds : List Induction) → ((d : Induction) → Contains ds d → IsWrittenNowhere (substituted_by n (outermost_trip n.body)) d.name)
+        → All (IsWrittenNowhere (substituted_by n (outermost_trip n.body))) (induction_names ds)
     by-name [] f k x l = absurd (omega (arith, l))
     by-name (d ∷ ds) f zero x l = f d (here d ds)
     by-name (d ∷ ds) f (suc k) x l = by-name ds (λ e c. f e (there d ds e c)) k x (omega (arith, l))

@@ -17,9 +17,9 @@ use Rattle.rewrite.proofs.ReplacedProfile.{in_parentheses, kind_of, no_rank}
 use Rattle.linear_forms.specs.Expressed.{expressed, plus_term, term, variable, variables, with_constant, with_term}
 use Rattle.linear_forms.specs.Linear.{is_limited, is_small}
 use Rattle.linear_forms.proofs.Sizes.{both}
-use Rattle.inductions.specs.Growing.{form_behind, form_with}
+use Rattle.inductions.specs.Growing.{form_behind, counter_form}
 use Rattle.inductions.specs.Laws.{FormsKeepProfile}
-use Rattle.inductions.specs.Putting.{constant_at, found, induction_in, text_or, value_text}
+use Rattle.inductions.specs.Putting.{constant_at, found, induction_in, form_text_or, induction_text}
 use Rattle.inductions.specs.Together.{AreInductions, Is}
 use Rattle.inductions.specs.declared.found.Induction.{Induction}
 use Rattle.inductions.proofs.Together.{found-name}
@@ -116,7 +116,7 @@ module _ (es : List Declaration) where
       deep : (e : Expression) → IsSum 3 e → 1 + max (enclosed 7 (level e) (depth_of e)) 0 ≤ 4
       deep e s = let d = s.depth in subst (λ b. 1 + max (cond b (depth_of e) (1 + depth_of e)) 0 ≤ 4) (sym s.level) (omega (arith, d))
 
-  text-sum : (c z : ℤ) (i x : List ℕ) → Size c → Size z → IsIntegerScalar es i → IsIntegerScalar es x → IsSum 4 (expressed (variables (i ∷ x ∷ [])) (form_with c z))
+  text-sum : (c z : ℤ) (i x : List ℕ) → Size c → Size z → IsIntegerScalar es i → IsIntegerScalar es x → IsSum 4 (expressed (variables (i ∷ x ∷ [])) (counter_form c z))
   text-sum c z i x h k hi hx = with-constant (plus_term (with_term None c (variable i)) (variable x)) z k (two-terms c i x h hi hx)
 
   -- ---- sizes
@@ -133,7 +133,7 @@ module _ (es : List Declaration) where
 
   module _ (counter : List ℕ) (counters : List ℕ → Bool) (ds : List Induction) (k : ℕ) (are : AreInductions counter counters ds) (count : IsIntegerScalar es counter)
       (scalars : (d : Induction) → Is ds d → IsIntegerScalar es d.name) where
-    form-sum : (d : Induction) → Is ds d → IsSum 4 (value_text counter d k)
+    form-sum : (d : Induction) → Is ds d → IsSum 4 (induction_text counter d k)
     form-sum d h = text-sum d.step (constant_at d k) counter d.name size (by (nat_le k d.place)) count (scalars d h)
       where
         size : Size d.step
@@ -149,7 +149,7 @@ module _ (es : List Declaration) where
         below_first : (a : ℕ) → a ≤ max a 5
         below_first a = omega arith
 
-    stands : (x : List ℕ) (d : Induction) (q : Kind) → found ds x ≡ Some d → HasKind es (Named x no_subscripts) q → TakesPlace es 5 (Named x no_subscripts) (value_text counter d k) q
+    stands : (x : List ℕ) (d : Induction) (q : Kind) → found ds x ≡ Some d → HasKind es (Named x no_subscripts) q → TakesPlace es 5 (Named x no_subscripts) (induction_text counter d k) q
     stands x d q f h =
         let name = found-name ds x d f in
         let is : Is ds d = subst (λ y. found ds y ≡ Some d) (sym name) f in
@@ -157,23 +157,23 @@ module _ (es : List Declaration) where
         let kind : q ≡ Integer = kind_of (declared es x) q _ h.0 this in
         let s = form-sum d is in
         record {
-          kind = subst (HasKind es (value_text counter d k)) (sym kind) s.kind;
+          kind = subst (HasKind es (induction_text counter d k)) (sym kind) s.kind;
           rank = s.rank ∙ sym (no_rank (declared es x) this);
-          depth = λ least. below (enclosed least (level (value_text counter d k)) (depth_of (value_text counter d k))) (depth_of (value_text counter d k)) (enclosed least 10 0)
-              (in_parentheses least (level (value_text counter d k)) (depth_of (value_text counter d k))) s.depth;
+          depth = λ least. below (enclosed least (level (induction_text counter d k)) (depth_of (induction_text counter d k))) (depth_of (induction_text counter d k)) (enclosed least 10 0)
+              (in_parentheses least (level (induction_text counter d k)) (depth_of (induction_text counter d k))) s.depth;
         }
       where
         below : (a n c : ℕ) → a ≤ 1 + n → n ≤ 4 → a ≤ max c 5
         below a n c l m = omega arith
 
-    bare : (x : List ℕ) (q : Kind) → HasKind es (Named x no_subscripts) q → TakesPlace es 5 (Named x no_subscripts) (text_or counter k (found ds x) (Named x no_subscripts)) q
+    bare : (x : List ℕ) (q : Kind) → HasKind es (Named x no_subscripts) q → TakesPlace es 5 (Named x no_subscripts) (form_text_or counter k (found ds x) (Named x no_subscripts)) q
     bare x q h = by (found ds x) refl
       where
-        by : (o : Option Induction) → found ds x ≡ o → TakesPlace es 5 (Named x no_subscripts) (text_or counter k o (Named x no_subscripts)) q
+        by : (o : Option Induction) → found ds x ≡ o → TakesPlace es 5 (Named x no_subscripts) (form_text_or counter k o (Named x no_subscripts)) q
         by (Some d) f = stands x d q f h
         by None f = same (Named x no_subscripts) q h
 
-    node : (e : Expression) (q : Kind) → HasKind es e q → TakesPlace es 5 e (text_or counter k (induction_in ds e) e) q
+    node : (e : Expression) (q : Kind) → HasKind es e q → TakesPlace es 5 e (form_text_or counter k (induction_in ds e) e) q
     node (Named x no_subscripts) q h = bare x q h
     node (Named x (subscript p ps)) q h = same (Named x (subscript p ps)) q h
     node (Number n) q h = same (Number n) q h

@@ -14,7 +14,7 @@ use Rattle.linear_forms.specs.Linear.{is_limited, is_small}
 use Rattle.nest.specs.Bodies.{Standing}
 use Rattle.nest.specs.View.{guarded_of}
 use Rattle.nest.specs.declared.parts.GuardedStmt.{GuardedStmt}
-use Rattle.inductions.specs.Growing.{form_before, form_behind, is_bare, is_outermost, limited_step, step_at, step_in, step_of}
+use Rattle.inductions.specs.Growing.{form_before, form_behind, is_bare_name, is_outermost, limited_step, step_at, step_in, growth_of}
 
 abs-negative : (c : ℤ) → nat_abs (neg_ℤ c) ≡ nat_abs c
 abs-negative c = omega (arith, ints)
@@ -61,8 +61,8 @@ step-at-small x s d h = outer (is_outermost s.loops) h
     bare true g = limited (step_in x s.statement.right) g
     bare false g = absurd cc
 
-    outer : (q : Bool) → cond q (step_of x s.statement) None ≡ Some d → nat_abs d ≤ 2 ^ 40
-    outer true g = bare (is_none s.statement.guard && is_bare s.statement.left.subscripts) g
+    outer : (q : Bool) → cond q (growth_of x s.statement) None ≡ Some d → nat_abs d ≤ 2 ^ 40
+    outer true g = bare (is_none s.statement.guard && is_bare_name s.statement.left.subscripts) g
     outer false g = absurd cc
 
 pub negative-limited : (o : Option ℤ) → option_and_then limited_step (option_map neg_ℤ o) ≡ option_map neg_ℤ (option_and_then limited_step o)
@@ -92,16 +92,16 @@ negative-step o s e h = ap Some (ap (λ z. to_z w64 (of_z w64 (pos 0 -ℤ z))) h
 
 -- ---- statements
 
-bare-subs : (ss : List Sub) → ss ≡ [] → is_bare (P.subscripts (map subscript_of ss)) ≡ true
+bare-subs : (ss : List Sub) → ss ≡ [] → is_bare_name (P.subscripts (map subscript_of ss)) ≡ true
 bare-subs [] e = refl
 bare-subs (s ∷ ss) e = cc
 
-subscripted-subs : (ss : List Sub) → (ss ≡ [] → ⊥) → is_bare (P.subscripts (map subscript_of ss)) ≡ false
+subscripted-subs : (ss : List Sub) → (ss ≡ [] → ⊥) → is_bare_name (P.subscripts (map subscript_of ss)) ≡ false
 subscripted-subs [] n = absurd (n refl)
 subscripted-subs (s ∷ ss) n = refl
 
-bare-left : (r : Ref) → is_bare (reference_of r).subscripts ≡ is_bare (P.subscripts (map subscript_of (out-Ref r).subs))
-bare-left r = ap (λ (q : P.Reference). is_bare q.subscripts) (reference_of-is r)
+bare-left : (r : Ref) → is_bare_name (reference_of r).subscripts ≡ is_bare_name (P.subscripts (map subscript_of (out-Ref r).subs))
+bare-left r = ap (λ (q : P.Reference). is_bare_name q.subscripts) (reference_of-is r)
 
 none-map : (o : Option Expr) (b : Bool) → is_some o ≡ b → is_none (option_map expression_of o) ≡ cond b false true
 none-map (Some e) true h = refl
@@ -110,11 +110,11 @@ none-map None true h = cc
 none-map None false h = refl
 
 module _ (x : List ℕ) (s : GuardedStmt) where
-  pub guarded-none : is_some s.guard ≡ true → step_of x (guarded_of s) ≡ None
+  pub guarded-none : is_some s.guard ≡ true → growth_of x (guarded_of s) ≡ None
   guarded-none h =
-      ap (λ b. cond (b && is_bare (reference_of s.left).subscripts) (option_and_then limited_step (step_in x (expression_of s.right))) None) (none-map s.guard true h)
+      ap (λ b. cond (b && is_bare_name (reference_of s.left).subscripts) (option_and_then limited_step (step_in x (expression_of s.right))) None) (none-map s.guard true h)
 
-  pub subscripted-none : ((out-Ref s.left).subs ≡ [] → ⊥) → step_of x (guarded_of s) ≡ None
+  pub subscripted-none : ((out-Ref s.left).subs ≡ [] → ⊥) → growth_of x (guarded_of s) ≡ None
   subscripted-none n =
       ap (λ b. cond (is_none (option_map expression_of s.guard) && b) (option_and_then limited_step (step_in x (expression_of s.right))) None)
       (bare-left s.left ∙ subscripted-subs (out-Ref s.left).subs n) ∙ none (is_none (option_map expression_of s.guard))
@@ -123,9 +123,9 @@ module _ (x : List ℕ) (s : GuardedStmt) where
       none true = refl
       none false = refl
 
-  pub bare-step : is_some s.guard ≡ false → (out-Ref s.left).subs ≡ [] → step_of x (guarded_of s) ≡ option_and_then limited_step (step_in x (expression_of s.right))
+  pub bare-step : is_some s.guard ≡ false → (out-Ref s.left).subs ≡ [] → growth_of x (guarded_of s) ≡ option_and_then limited_step (step_in x (expression_of s.right))
   bare-step h e =
-      ap (λ b. cond (b && is_bare (reference_of s.left).subscripts) (option_and_then limited_step (step_in x (expression_of s.right))) None) (none-map s.guard false h)
+      ap (λ b. cond (b && is_bare_name (reference_of s.left).subscripts) (option_and_then limited_step (step_in x (expression_of s.right))) None) (none-map s.guard false h)
       ∙ ap (λ b. cond b (option_and_then limited_step (step_in x (expression_of s.right))) None) (bare-left s.left ∙ bare-subs (out-Ref s.left).subs e)
 
 pub ruleset statement_laws = (guarded-none, subscripted-none, bare-step)

@@ -16,8 +16,8 @@ use Rattle.linear_forms.specs.Expressed.{expressed, variables}
 use Rattle.linear_forms.specs.Linear.{is_limited}
 use Rattle.linear_forms.proofs.Expressed.{text_has_value}
 use Rattle.nest_steps.specs.Statements.{cell_of}
-use Rattle.inductions.specs.Growing.{form_with}
-use Rattle.inductions.specs.Putting.{value_text}
+use Rattle.inductions.specs.Growing.{counter_form}
+use Rattle.inductions.specs.Putting.{induction_text}
 use Rattle.inductions.specs.Together.{IsInduction}
 use Rattle.inductions.specs.declared.found.Induction.{Induction}
 use Rattle.inductions.proofs.Ring.{spread_left}
@@ -63,21 +63,21 @@ held_value : (bits : ℕ) (x : List ℕ) (v : Value) (u : Store) → u.bounds x 
 held_value bits x v u b h = ap (λ o. do c ← cell_in o x []; Ok (u.held c)) b ∙ ap Ok h
 
 module _ (bits : ℕ) (high : bits ≤ 63) (counter : List ℕ) (counters : List ℕ → Bool) (d : Induction) (is : IsInduction counter counters d) where
-  valued : (k x0 : ℤ) (i : ℕ) (u : Store) → is_limited 1 (form_with d.step k) ≡ true → is_in_range bits (Int x0) ≡ true → is_in_range bits (Int (pos i)) ≡ true
+  valued : (k x0 : ℤ) (i : ℕ) (u : Store) → is_limited 1 (counter_form d.step k) ≡ true → is_in_range bits (Int x0) ≡ true → is_in_range bits (Int (pos i)) ≡ true
       → u.bounds d.name ≡ Some [] → u.bounds counter ≡ Some [] → u.held (cell_of d.name) ≡ Int x0 → u.held (cell_of counter) ≡ Int (pos i)
-      → value_of (sequential bits) (expressed (variables (counter ∷ d.name ∷ [])) (form_with d.step k)) u ≡ Ok (Int ((d.step *ℤ pos i +ℤ (pos 1 *ℤ x0 +ℤ pos 0)) +ℤ k))
-  valued k x0 i u small r t b e h g = text_has_value (sequential bits) 1 (variables (counter ∷ d.name ∷ [])) (form_with d.step k) u (pos i ∷ x0 ∷ []) (omega arith) small
+      → value_of (sequential bits) (expressed (variables (counter ∷ d.name ∷ [])) (counter_form d.step k)) u ≡ Ok (Int ((d.step *ℤ pos i +ℤ (pos 1 *ℤ x0 +ℤ pos 0)) +ℤ k))
+  valued k x0 i u small r t b e h g = text_has_value (sequential bits) 1 (variables (counter ∷ d.name ∷ [])) (counter_form d.step k) u (pos i ∷ x0 ∷ []) (omega arith) small
       (held_value bits counter (Int (pos i)) u e g, (held_value bits d.name (Int x0) u b h, tt)) (sized bits high (pos i) t, (sized bits high x0 r, tt))
 
   -- where the scalar was x0 before the nest, in the turn i
   pub text_is_right : (k : ℕ) (x0 : ℤ) (i : ℕ) (u : Store) → is_in_range bits (Int x0) ≡ true → is_in_range bits (Int (pos i)) ≡ true
       → u.bounds d.name ≡ Some [] → u.bounds counter ≡ Some [] → u.held (cell_of d.name) ≡ Int x0 → u.held (cell_of counter) ≡ Int (pos i)
-      → value_of (sequential bits) (value_text counter d k) u ≡ Ok (Int (x0 +ℤ d.step *ℤ cond (nat_le k d.place) (pos i -ℤ pos 1) (pos i)))
+      → value_of (sequential bits) (induction_text counter d k) u ≡ Ok (Int (x0 +ℤ d.step *ℤ cond (nat_le k d.place) (pos i -ℤ pos 1) (pos i)))
   text_is_right k x0 i u r t b e h g = by (nat_le k d.place)
     where
-      by : (q : Bool) → value_of (sequential bits) (expressed (variables (counter ∷ d.name ∷ [])) (form_with d.step (cond q d.less (pos 0)))) u
+      by : (q : Bool) → value_of (sequential bits) (expressed (variables (counter ∷ d.name ∷ [])) (counter_form d.step (cond q d.less (pos 0)))) u
           ≡ Ok (Int (x0 +ℤ d.step *ℤ cond q (pos i -ℤ pos 1) (pos i)))
       by true =
-          ap (λ z. value_of (sequential bits) (expressed (variables (counter ∷ d.name ∷ [])) (form_with d.step z)) u) is.less
+          ap (λ z. value_of (sequential bits) (expressed (variables (counter ∷ d.name ∷ [])) (counter_form d.step z)) u) is.less
           ∙ (valued (neg_ℤ d.step) x0 i u is.before r t b e h g ∙ ap (λ z. Ok (Int z)) (before_number d.step (pos i) x0))
       by false = valued (pos 0) x0 i u is.behind r t b e h g ∙ ap (λ z. Ok (Int z)) (behind_number d.step (pos i) x0)

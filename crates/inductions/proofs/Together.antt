@@ -28,7 +28,7 @@ use Rattle.linear_forms.specs.Laws.{HoldsSized}
 use Rattle.nest.specs.Blocks.{block_of_parts, guarded_statement, statement_of_part}
 use Rattle.nest.specs.Plain.{Loop, Guarded, Part, Run, Turns, Choice, Label, Jump, Parts, no_parts, part, parts}
 use Rattle.nest_steps.specs.Leading.{Led, Leads}
-use Rattle.nest_steps.specs.Mapped.{count_in, count_of, mapped, AllLead, AllLeadIn}
+use Rattle.nest_steps.specs.Mapped.{count_in, count_of, mapped_parts_of, AllLead, AllLeadIn}
 use Rattle.nest_steps.specs.Rounds.{Hold, InLoops, IsSteady, Turning}
 use Rattle.nest_steps.specs.Statements.{cell_of, with_making}
 use Rattle.nest_steps.proofs.Acts.{Leads-from, Leads-to}
@@ -37,7 +37,7 @@ use Rattle.nest_steps.proofs.Mapped.{mapped_nest_leads, wide_enough}
 use Rattle.nest_steps.proofs.Rounds.{hold_put, loop_turns}
 use Rattle.nest_steps.proofs.Ruled.{rule_leads}
 use Rattle.statement_passes.proofs.Alike.{number_alike}
-use Rattle.inductions.specs.Putting.{found, grows_at, induction_in, put_in, putting, text_or, value_text, with_forms}
+use Rattle.inductions.specs.Putting.{found, grows_at, induction_in, put_in, putting, form_text_or, induction_text, with_induction_forms}
 use Rattle.inductions.specs.Together.{AllGrowIn, AreInductions, Counts, Fits, FitIn, forms_suit, Is, is_free, is_own, is_suited, LetsGrow, number_in}
 use Rattle.inductions.specs.Laws.{SubstitutedLoopsLead}
 use Rattle.inductions.specs.Stores.{AreApart, AreBefore, AreBehind, IsApart, SameHeld, element}
@@ -314,7 +314,7 @@ module _ (bits : ℕ) (high : bits ≤ 63) (wide : 31 ≤ bits) (counter : List 
     There = At (o ∷ ls) (i ∷ is) (k + 1)
 
     -- the text has the value of the scalar
-    stands : (d : Induction) → Is' d → (s u : Store) → Here s u → value_of (sequential bits) (value_text counter d k) u ≡ Ok (s.held (cell_of d.name))
+    stands : (d : Induction) → Is' d → (s u : Store) → Here s u → value_of (sequential bits) (induction_text counter d k) u ≡ Ok (s.held (cell_of d.name))
     stands d h s u a =
         let one = a.stores.apart.each d h in
         let counts = (a.scalars counter (subst (λ y. counters y ≡ true) is_counter all.0)).1 in
@@ -336,7 +336,7 @@ module _ (bits : ℕ) (high : bits ≤ 63) (wide : 31 ≤ bits) (counter : List 
     -- ---- the rule
 
     scalar-value : (x : List ℕ) (d : Induction) → found ds x ≡ Some d → (s u : Store) → Here s u → (v : Value)
-        → ◌≡◌ {A = Result Value Fault} (do c ← cell_at x [] s; Ok (s.held c)) (Ok v) → value_of (sequential bits) (value_text counter d k) u ≡ Ok v
+        → ◌≡◌ {A = Result Value Fault} (do c ← cell_at x [] s; Ok (s.held c)) (Ok v) → value_of (sequential bits) (induction_text counter d k) u ≡ Ok v
     scalar-value x d h s u a v e =
         let itself = found-itself x d h in
         let there : s.bounds x ≡ Some [] = ap s.bounds (sym (found-name ds x d h)) ∙ (a.stores.apart.bounds d.name ∙ (a.stores.apart.each d itself).scalar) in
@@ -356,15 +356,15 @@ module _ (bits : ℕ) (high : bits ≤ 63) (wide : 31 ≤ bits) (counter : List 
     none-own x h = ap is_some h
 
     bare-value : (x : List ℕ) (s u : Store) (v : Value) → Here s u → value_between (sequential bits) (Named x no_subscripts) s u ≡ Ok v
-        → value_of (sequential bits) (text_or counter k (found ds x) (Named x no_subscripts)) u ≡ Ok v
+        → value_of (sequential bits) (form_text_or counter k (found ds x) (Named x no_subscripts)) u ≡ Ok v
     bare-value x s u v a e = by (found ds x) refl
       where
-        by : (q : Option Induction) → found ds x ≡ q → value_of (sequential bits) (text_or counter k q (Named x no_subscripts)) u ≡ Ok v
+        by : (q : Option Induction) → found ds x ≡ q → value_of (sequential bits) (form_text_or counter k q (Named x no_subscripts)) u ≡ Ok v
         by (Some d) h = scalar-value x d h s u a v e
         by None h = shared-value x no_subscripts s u a (none-own x h) v e
 
     value : (first e : Expression) (s u : Store) (v : Value) → IsTrue (is_suited ds e) → Here s u → value_between (sequential bits) e s u ≡ Ok v
-        → value_of (sequential bits) (text_or counter k (induction_in ds e) e) u ≡ Ok v
+        → value_of (sequential bits) (form_text_or counter k (induction_in ds e) e) u ≡ Ok v
     value first (Named x no_subscripts) s u v h a e = bare-value x s u v a e
     value first (Named x (subscript p ps)) s u v h a e = shared-value x (subscript p ps) s u a (not_true (Own x) h) v e
     value first (Number n) s u v h a e = e
@@ -390,18 +390,18 @@ module _ (bits : ℕ) (high : bits ≤ 63) (wide : 31 ≤ bits) (counter : List 
         by None = refl
 
     scalar-items : (x : List ℕ) (d : Induction) → found ds x ≡ Some d → (s u : Store) → Here s u → (vs : List Value)
-        → item_values (sequential bits) (Named x no_subscripts) s ≡ Ok vs → item_values (sequential bits) (value_text counter d k) u ≡ Ok vs
+        → item_values (sequential bits) (Named x no_subscripts) s ≡ Ok vs → item_values (sequential bits) (induction_text counter d k) u ≡ Ok vs
     scalar-items x d h s u a vs e =
         let itself = found-itself x d h in
         let there : s.bounds x ≡ Some [] = ap s.bounds (sym (found-name ds x d h)) ∙ (a.stores.apart.bounds d.name ∙ (a.stores.apart.each d itself).scalar) in
-        single_item bits (value_text counter d k) u (s.held (cell_of d.name)) (stands d itself s u a)
+        single_item bits (induction_text counter d k) u (s.held (cell_of d.name)) (stands d itself s u a)
         ∙ (ap (λ y. Ok (s.held (cell_of y) ∷ [])) (found-name ds x d h) ∙ (sym (ap (λ b. do cs ← (do bs ← bounds_in b; Ok (cells_of x bs)); Ok (map s.held cs)) there) ∙ e))
 
     printed : (x : List ℕ) (s u : Store) (vs : List Value) → IsTrue (is_suited ds (Named x no_subscripts)) → Here s u
-        → item_values (sequential bits) (Named x no_subscripts) s ≡ Ok vs → item_values (sequential bits) (text_or counter k (found ds x) (Named x no_subscripts)) u ≡ Ok vs
+        → item_values (sequential bits) (Named x no_subscripts) s ≡ Ok vs → item_values (sequential bits) (form_text_or counter k (found ds x) (Named x no_subscripts)) u ≡ Ok vs
     printed x s u vs h a e = by (found ds x) refl
       where
-        by : (q : Option Induction) → found ds x ≡ q → item_values (sequential bits) (text_or counter k q (Named x no_subscripts)) u ≡ Ok vs
+        by : (q : Option Induction) → found ds x ≡ q → item_values (sequential bits) (form_text_or counter k q (Named x no_subscripts)) u ≡ Ok vs
         by (Some d) g = scalar-items x d g s u a vs e
         by None g = shared-items x s u a (none-own x g) vs e
 
@@ -455,7 +455,7 @@ module _ (bits : ℕ) (high : bits ≤ 63) (wide : 31 ≤ bits) (counter : List 
     }
 
     other-leads : (g : Guarded) → grows_at ds k ≡ false → SuitsStatement (putting counter ds k) (forms_suit settled ds) (guarded_statement g)
-        → Leads Here There (does (sequential bits) None (guarded_statement g)) (does (sequential bits) None (guarded_statement (with_forms counter ds symbols (o ∷ ls) k g)))
+        → Leads Here There (does (sequential bits) None (guarded_statement g)) (does (sequential bits) None (guarded_statement (with_induction_forms counter ds symbols (o ∷ ls) k g)))
     other-leads g e h =
         Leads-to Here Here There _ _ (λ s u a. with-next s u e a)
         (Leads-through Here Here (SameHeld bits) (SameHeld bits) _ _ _ sized-itself text-alike
@@ -557,11 +557,11 @@ module _ (bits : ℕ) (high : bits ≤ 63) (wide : 31 ≤ bits) (counter : List 
         → AllLead each-of bits line Known At (o ∷ ls) (i ∷ is) k p
     part-leads o ls v all i is k (Run g) (inl h) =
         subst (λ b. Leads (At (o ∷ ls) (i ∷ is) k) (At (o ∷ ls) (i ∷ is) (k + 1)) (does (sequential bits) None (guarded_statement g))
-        (does_all (sequential bits) None (block_of_parts line (parts (map Run (cond b [] (with_forms counter ds symbols (o ∷ ls) k g ∷ [])))))))
+        (does_all (sequential bits) None (block_of_parts line (parts (map Run (cond b [] (with_induction_forms counter ds symbols (o ∷ ls) k g ∷ [])))))))
         (sym (found-grows ds h.induction.name h.induction k h.is (is-eq h.induction.place k (sym h.place)))) (grows-leads o ls v all i is k g h)
     part-leads o ls v all i is k (Run g) (inr h) =
         subst (λ b. Leads (At (o ∷ ls) (i ∷ is) k) (At (o ∷ ls) (i ∷ is) (k + 1)) (does (sequential bits) None (guarded_statement g))
-        (does_all (sequential bits) None (block_of_parts line (parts (map Run (cond b [] (with_forms counter ds symbols (o ∷ ls) k g ∷ []))))))) (sym h.0) (other-leads o ls v all i is k g h.0 h.1)
+        (does_all (sequential bits) None (block_of_parts line (parts (map Run (cond b [] (with_induction_forms counter ds symbols (o ∷ ls) k g ∷ []))))))) (sym h.0) (other-leads o ls v all i is k g h.0 h.1)
     part-leads o ls v all i is k (Turns l ps) h = (
       loop_turns each-of bits line counters like (wide_enough bits wide) steady Known (o ∷ ls) l (i ∷ is) k (count_in ps) (inner-turns o ls l i is k (count_in ps) h.0 h.1),
       λ n known j p q. parts-lead o (ls ++ l ∷ []) v (known-more (o ∷ ls) l all h.0.counts) i (is ++ j ∷ []) k ps h.2,
@@ -621,7 +621,7 @@ module _ (bits : ℕ) (high : bits ≤ 63) (wide : 31 ≤ bits) (counter : List 
         plus-zero m = omega arith
 
     loops-lead : Leads (At [] [] 0) (At [] [] (count_in ps)) (does (sequential bits) None (statement_of_part line (Turns l ps)))
-        (does_all (sequential bits) None (block_of_parts line (parts (mapped each-of [] 0 (Turns l ps)))))
+        (does_all (sequential bits) None (block_of_parts line (parts (mapped_parts_of each-of [] 0 (Turns l ps)))))
     loops-lead = mapped_nest_leads each-of bits line Known At (Turns l ps) wide (
       loop_turns each-of bits line counters like (wide_enough bits wide) steady Known [] l [] 0 (count_in ps) outer-turns,
       λ n many i p q. parts-lead l [] grow.variable (grow.counts.counts, tt) i [] 0 ps grow.fit,
@@ -634,7 +634,7 @@ module _ (bits : ℕ) (high : bits ≤ 63) (wide : 31 ≤ bits) (counter : List 
 
     -- the nest's loops, and those with all inductions substituted, which lack their last values
     pub inductions_lead : Leads (AreBefore bits ds start kept base counters last z) (AreBehind bits ds start kept base counters z) (does (sequential bits) None (statement_of_part line (Turns l ps)))
-        (does_all (sequential bits) None (block_of_parts line (parts (mapped each-of [] 0 (Turns l ps)))))
+        (does_all (sequential bits) None (block_of_parts line (parts (mapped_parts_of each-of [] 0 (Turns l ps)))))
     inductions_lead =
         Leads-from (At [] [] 0) (AreBefore bits ds start kept base counters last z) (AreBehind bits ds start kept base counters z) _ _
         (λ s u a. record { stores = record { apart = a.apart; trip = a.trip }; scalars = a.scalars; first = tt; second = tt })

@@ -10,7 +10,7 @@ use Rattle.nest.specs.statement_loops.Standings.{standing_of}
 use Rattle.tree.specs.View.{reference_of}
 use Rattle.tree.specs.declared.exprs.Ref.{Ref, out-Ref}
 use Rattle.tree.proofs.Equations.{reference_of-is}
-use Rattle.inductions.specs.Growing.{only_one, writes, writes_from}
+use Rattle.inductions.specs.Growing.{one_number, writes_scalar, writes_from}
 
 -- the number that was found so far, and further ones
 abbrev pub with_found : Option ℕ → List ℕ → List ℕ
@@ -19,7 +19,7 @@ with_found (Some k) ks = k ∷ ks
 
 -- the place behind is written k + 1 in the code, and suc k in lists
 here : (i : ℕ) (ss : List plain.Standing) (s d : plain.Standing) (x : List ℕ) → i < length ss → s ≡ get_or ss i d
-    → writes_from i (drop i ss) x ≡ cond (writes x s) (i ∷ writes_from (i + 1) (drop (i + 1) ss) x) (writes_from (i + 1) (drop (i + 1) ss) x)
+    → writes_from i (drop i ss) x ≡ cond (writes_scalar x s) (i ∷ writes_from (i + 1) (drop (i + 1) ss) x) (writes_from (i + 1) (drop (i + 1) ss) x)
 here i ss s d x h e =
     let one : drop i ss ≡ get_or ss i d ∷ drop (i + 1) ss = drop-cons ss i d h ∙ ap (λ n. get_or ss i d ∷ drop n ss) (further i) in
     ap (λ ts. writes_from i ts x) (one ∙ ap (λ (t : plain.Standing). t ∷ drop (i + 1) ss) (sym e))
@@ -35,7 +35,7 @@ module _ (x : List ℕ) (all : List Standing) (i : ℕ) (s : Standing) (within :
   standing-at = ap standing_of is ∙ sym (get_or-map standing_of all i s (standing_of s) within)
 
   further : writes_from i (drop i (map standing_of all)) x
-      ≡ cond (writes x (standing_of s)) (i ∷ writes_from (i + 1) (drop (i + 1) (map standing_of all)) x) (writes_from (i + 1) (drop (i + 1) (map standing_of all)) x)
+      ≡ cond (writes_scalar x (standing_of s)) (i ∷ writes_from (i + 1) (drop (i + 1) (map standing_of all)) x) (writes_from (i + 1) (drop (i + 1) (map standing_of all)) x)
   further = here i (map standing_of all) (standing_of s) (standing_of s) x (subst (λ n. i < n) (sym (length-map all standing_of)) within) standing-at
 
   pub none-here : bytes_eq (out-Ref s.stmt.left).name x ≡ false
@@ -60,11 +60,11 @@ none-left x all i h = ap (λ ts. writes_from i ts x) (dropped (map standing_of a
     dropped (s ∷ ss) (suc n) h = dropped ss n (omega (arith, h))
 
 -- a second one
-pub second-found : (o : Option ℕ) (k : ℕ) (ks : List ℕ) → is_some o ≡ true → only_one (with_found o (k ∷ ks)) ≡ None
+pub second-found : (o : Option ℕ) (k : ℕ) (ks : List ℕ) → is_some o ≡ true → one_number (with_found o (k ∷ ks)) ≡ None
 second-found (Some j) k ks h = refl
 second-found None k ks h = cc
 
 -- the first one
-pub first-found : (o new : Option ℕ) (k : ℕ) (ks : List ℕ) → is_some o ≡ false → new ≡ Some k → only_one (with_found o (k ∷ ks)) ≡ only_one (with_found new ks)
-first-found None new k ks h e = ap (λ q. only_one (with_found q ks)) (sym e)
+pub first-found : (o new : Option ℕ) (k : ℕ) (ks : List ℕ) → is_some o ≡ false → new ≡ Some k → one_number (with_found o (k ∷ ks)) ≡ one_number (with_found new ks)
+first-found None new k ks h e = ap (λ q. one_number (with_found q ks)) (sym e)
 first-found (Some j) new k ks h e = cc

@@ -12,7 +12,7 @@ use Rattle.subscripts.specs.declared.affine.Affine.{Affine}
 use Rattle.last_values.specs.normal_forms.NormalLoops.{plus_multiple, symbol_form, trip_form}
 use Rattle.last_values.specs.normal_forms.Steps.{◌>>=◌}
 use Rattle.statement_passes.specs.MadeNames.{kind_if_scalar}
-use Rattle.statement_passes.specs.Symbols.{place_of, shifted_trip}
+use Rattle.statement_passes.specs.Symbols.{place_among, shifted_trip}
 use Rattle.inductions.specs.Growing.{only_write, step_at}
 use Rattle.inductions.specs.declared.found.Induction.{Induction}
 
@@ -22,8 +22,8 @@ use Rattle.inductions.specs.declared.found.Induction.{Induction}
 -- behind all symbols
 abbrev pub end_form : List (List ℕ) → Trip → List ℕ → ℤ → Option Affine
 end_form symbols t x c =
-    plus_multiple (length symbols + 2) (symbol_form (place_of symbols x)) c
-    (trip_form (length symbols + 1) (shifted_trip (place_of symbols x) t))
+    plus_multiple (length symbols + 2) (symbol_form (place_among symbols x)) c
+    (trip_form (length symbols + 1) (shifted_trip (place_among symbols x) t))
 
 -- ---- inductions
 
@@ -48,12 +48,12 @@ module _ (symbols : List (List ℕ)) (t : Trip) (ss : List Standing) where
   induction_declared d = if_integer d.name (kind_if_scalar d)
 
 -- the counter and the trip of the outermost loop
-abbrev pub outermost : Part → Option (List ℕ × Trip)
-outermost (Turns l ps) = option_map (λ t. (l.variable, t)) l.trip
-outermost (Run g) = None
-outermost (Choice bs ps) = None
-outermost (Label n) = None
-outermost (Jump n) = None
+abbrev pub outermost_trip : Part → Option (List ℕ × Trip)
+outermost_trip (Turns l ps) = option_map (λ t. (l.variable, t)) l.trip
+outermost_trip (Run g) = None
+outermost_trip (Choice bs ps) = None
+outermost_trip (Label n) = None
+outermost_trip (Jump n) = None
 
 abbrev pub inductions_by : Nest → Option (List ℕ × Trip) → List Induction
 inductions_by n None = []
@@ -61,4 +61,4 @@ inductions_by n (Some o) = filter_map (induction_declared n.symbols o.1 (nest_st
 
 -- declarations stand in byte order of their names
 abbrev pub inductions_of : Nest → List Induction
-inductions_of n = inductions_by n (outermost n.body)
+inductions_of n = inductions_by n (outermost_trip n.body)

@@ -17,7 +17,7 @@ use Rattle.nest_order.specs.shapes.Shapes.{IsPlain}
 use Rattle.nest_steps.specs.Leading.{Leads}
 use Rattle.statement_passes.specs.Passes.{mapped_body}
 use Rattle.inductions.specs.Found.{inductions_of}
-use Rattle.inductions.specs.Growing.{form_before, form_behind, is_outermost, step_at, writes}
+use Rattle.inductions.specs.Growing.{form_before, form_behind, is_outermost, step_at, writes_scalar}
 use Rattle.inductions.specs.Nests.{induction_names, inductions_substituted}
 use Rattle.inductions.specs.Putting.{put_in, putting}
 use Rattle.inductions.specs.Stores.{AreBefore, AreBehind}
@@ -53,7 +53,8 @@ pub record IsGrowth (bits : ℕ) (d : Induction) (s : Standing) : Type 0 where
   pub behind : is_limited 1 (form_behind d.step) ≡ true
 
 abbrev pub TheWriteGrows : Type 0
-TheWriteGrows = (bits : ℕ) (d : Induction) (s : Standing) → step_at d.name s ≡ Some d.step → writes d.name s ≡ true
+TheWriteGrows = (bits : ℕ) (d : Induction) (s : Standing) → step_at d.name s ≡ Some d.step
+    → writes_scalar d.name s ≡ true
     → IsGrowth bits d s
 
 -- Where all inductions grow in the body of this loop, which goes from 1 to z: from stores that differ in them alone,

@@ -1,6 +1,5 @@
 -- Statements in which forms of the counter stand for the inductions.
-use Rattle.std.specs.Prelude.{ℕ, ◌==◌, nat_le, Option, Some, None, ℤ, pos, Bool, if◌then◌else◌, List, [], ◌∷◌}
-use Rattle.std.specs.Prelude.{map}
+use Rattle.std.specs.Prelude.{ℕ, ◌==◌, nat_le, Option, Some, None, ℤ, pos, Bool, if◌then◌else◌, List, [], ◌∷◌, map}
 use Rattle.std.specs.List.{list_any}
 use Rattle.std.specs.Str.{bytes_eq}
 use Rattle.tree.specs.Plain.{Expression, Named, no_subscripts, subscript}
@@ -9,7 +8,7 @@ use Rattle.linear_forms.specs.Canonical.{canonising}
 use Rattle.linear_forms.specs.Expressed.{expressed, variables}
 use Rattle.nest.specs.Plain.{Guarded, Loop}
 use Rattle.nest_rewrite.specs.Statements.{rewritten_statement}
-use Rattle.inductions.specs.Growing.{form_with}
+use Rattle.inductions.specs.Growing.{counter_form}
 use Rattle.inductions.specs.declared.found.Induction.{Induction}
 
 abbrev pub found : List Induction → List ℕ → Option Induction
@@ -34,24 +33,24 @@ module _ (ds : List Induction) where
 -- by the counter of the outermost loop
 module _ (counter : List ℕ) where
   -- what stands for the scalar there
-  abbrev pub value_text : Induction → ℕ → Expression
-  value_text d k = expressed (variables (counter ∷ d.name ∷ [])) (form_with d.step (constant_at d k))
+  abbrev pub induction_text : Induction → ℕ → Expression
+  induction_text d k = expressed (variables (counter ∷ d.name ∷ [])) (counter_form d.step (constant_at d k))
 
-  abbrev pub text_or : ℕ → Option Induction → Expression → Expression
-  text_or k None e = e
-  text_or k (Some d) e = value_text d k
+  abbrev pub form_text_or : ℕ → Option Induction → Expression → Expression
+  form_text_or k None e = e
+  form_text_or k (Some d) e = induction_text d k
 
 -- all of them at once: a form has its own name and the counter alone
 module _ (counter : List ℕ) (ds : List Induction) where
   abbrev pub putting : ℕ → Making
-  putting k = record { expression = λ first e. text_or counter k (induction_in ds e) e; left = λ l. l }
+  putting k = record { expression = λ first e. form_text_or counter k (induction_in ds e) e; left = λ l. l }
 
   -- a statement with the forms in it, in canonical text
-  abbrev pub with_forms : List (List ℕ) → List Loop → ℕ → Guarded → Guarded
-  with_forms symbols ls k g =
+  abbrev pub with_induction_forms : List (List ℕ) → List Loop → ℕ → Guarded → Guarded
+  with_induction_forms symbols ls k g =
       rewritten_statement (canonising (map (λ (l : Loop). l.variable) ls) symbols)
       (rewritten_statement (putting k) g)
 
   -- one in which such a scalar grows goes
   abbrev pub put_in : List (List ℕ) → List Loop → ℕ → Guarded → List Guarded
-  put_in symbols ls k g = if grows_at ds k then [] else with_forms symbols ls k g ∷ []
+  put_in symbols ls k g = if grows_at ds k then [] else with_induction_forms symbols ls k g ∷ []

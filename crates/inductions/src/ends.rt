@@ -3,7 +3,7 @@ ghost use Rattle.std.specs.Prelude.{◌≡◌, [], ◌∷◌, IfOk, map};
 ghost use Rattle.tree.specs.View.{expression_of, statement_of};
 ghost use Rattle.last_values.specs.Endings.{assigned, only_where};
 ghost use Rattle.last_values.specs.normal_forms.Texts.{trip_text};
-ghost use Rattle.inductions.specs.Ends.{end_text, ending};
+ghost use Rattle.inductions.specs.Ends.{induction_end_text, induction_ending};
 
 use crate::found::Induction;
 use last_values::normal_forms::{at_least_one, is_positive, trip_text};
@@ -56,7 +56,7 @@ fn end_text(
     trip: &Trip,
     induction: &Induction,
 ) -> Result<Expr, Memory>
-    ensures { IfOk result (λ e. expression_of e ≡ end_text symbols.now trip.now induction.now) }
+    ensures { IfOk result (λ e. expression_of e ≡ induction_end_text symbols.now trip.now induction.now) }
 {
     let all = with_name(alloc, symbols, induction.name)?;
     let mut trips = Vec::new(alloc);
@@ -72,7 +72,7 @@ fn last_value(
     induction: &Induction,
 ) -> Result<Stmt, Memory>
     ensures { IfOk result (λ stmt. statement_of stmt
-        ≡ assigned line induction.now.name (end_text symbols.now trip.now induction.now)) }
+        ≡ assigned line induction.now.name (induction_end_text symbols.now trip.now induction.now)) }
 {
     let value = end_text(alloc, symbols, trip, induction)?;
     Ok(assigned(alloc, line, induction.name, value))
@@ -87,7 +87,7 @@ pub(crate) fn ending(
     trip: &Trip,
     induction: &Induction,
 ) -> Result<Stmt, Memory>
-    ensures { IfOk result (λ stmt. statement_of stmt ≡ ending symbols.now line trip.now induction.now) }
+    ensures { IfOk result (λ stmt. statement_of stmt ≡ induction_ending symbols.now line trip.now induction.now) }
 {
     if is_positive(trip) {
         return last_value(alloc, symbols, line, trip, induction);

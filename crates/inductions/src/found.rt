@@ -7,7 +7,7 @@ ghost use Rattle.nest.specs.View.{nest_of, part_of};
 ghost use Rattle.nest.specs.statement_loops.Standings.{standing_of};
 ghost use Rattle.last_values.specs.normal_forms.NormalLoops.{plus_multiple, symbol_form, trip_form};
 ghost use Rattle.inductions.specs.Found.{end_form, induction_declared, induction_named, inductions_by, inductions_of};
-ghost use Rattle.inductions.specs.Found.{outermost};
+ghost use Rattle.inductions.specs.Found.{outermost_trip};
 
 use crate::growing::{only_write, step_at};
 use last_values::normal_forms::{Multiple, combination};
@@ -173,7 +173,7 @@ fn inductions_declared(
 /// The counter and the trip of the outermost loop, where it has one.
 #[tactic(auto, using(nest::proofs::Equations::part_equations))]
 pub(crate) fn outermost(body: &Part) -> Option<OuterLoop>
-    ensures { option_map (λ o. (o.counter, o.trip)) result ≡ outermost (part_of body.now) }
+    ensures { option_map (λ o. (o.counter, o.trip)) result ≡ outermost_trip (part_of body.now) }
 {
     match body {
         Part::Turns(turns, _) => match turns.trip {

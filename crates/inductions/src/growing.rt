@@ -5,7 +5,8 @@ ghost use Rattle.tree.specs.View.{expression_of};
 ghost use Rattle.linear_forms.specs.Linear.{constant_of};
 ghost use Rattle.nest.specs.View.{guarded_of, loop_of};
 ghost use Rattle.nest.specs.statement_loops.Standings.{standing_of};
-ghost use Rattle.inductions.specs.Growing.{is_outermost, limited_step, only_write, step_at, step_by, step_in, step_of};
+ghost use Rattle.inductions.specs.Growing.{is_outermost, limited_step, only_write, step_at, step_by, step_in};
+ghost use Rattle.inductions.specs.Growing.{growth_of};
 
 use linear_forms::constant_value;
 use nest::statement_loops::Standing;
@@ -99,7 +100,7 @@ fn step_in(name: Name, expr: &Expr) -> Option<i64>
 
 #[tactic(auto, using(crate::proofs::StepLaws::statement_laws))]
 fn step_of(name: Name, stmt: &GuardedStmt) -> Option<i64>
-    ensures { result ≡ step_of name (guarded_of stmt.now) }
+    ensures { result ≡ growth_of name (guarded_of stmt.now) }
 {
     if stmt.guard.is_some() {
         return None;

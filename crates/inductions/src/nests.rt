@@ -4,11 +4,11 @@ ghost use Rattle.tree.specs.View.{block_of, statement_of};
 ghost use Rattle.nest.specs.Allocations.{block_then};
 ghost use Rattle.nest.specs.View.{nest_of};
 ghost use Rattle.tree.specs.Plain as plain;
-ghost use Rattle.inductions.specs.Ends.{ending as ending_of};
+ghost use Rattle.inductions.specs.Ends.{induction_ending as ending_of};
 ghost use Rattle.inductions.specs.Laws.{NoneIsWritten};
-ghost use Rattle.inductions.specs.Nests.{endings, induction_names, inductions_substituted, with_body};
+ghost use Rattle.inductions.specs.Nests.{endings, induction_names, inductions_substituted, with_inductions_put};
 ghost use Rattle.inductions.specs.Nests.{with_inductions};
-ghost use Rattle.statement_passes.specs.Shifted.{with_symbols};
+ghost use Rattle.statement_passes.specs.Shifted.{with_nest_symbols};
 
 use crate::ends::ending;
 use crate::found::{Induction, OuterLoop, inductions_under, outermost};
@@ -81,7 +81,7 @@ fn with_body(
     after: Block,
 ) -> Result<Nest, Memory>
     ensures { IfOk result (λ new. nest_of new
-        ≡ with_body counter inductions (block_of after) (nest_of nest.now)) }
+        ≡ with_inductions_put counter inductions (block_of after) (nest_of nest.now)) }
 {
     let symbols = Seq::from_vec(Vec::from_slice(alloc, nest.symbols.as_slice())?);
     let mut pass = Substitution {
@@ -101,9 +101,9 @@ fn with_some(
     loops: &OuterLoop,
     inductions: Seq<Induction>,
 ) -> Result<Nest, Memory>
-    ensures { IfOk result (λ new. nest_of new ≡ with_body loops.now.counter inductions
+    ensures { IfOk result (λ new. nest_of new ≡ with_inductions_put loops.now.counter inductions
         (block_then (nest_of nest.now).after (endings (nest_of nest.now) loops.now.trip inductions))
-        (with_symbols (nest_of nest.now) (induction_names inductions))) }
+        (with_nest_symbols (nest_of nest.now) (induction_names inductions))) }
 {
     let names = names_of(alloc, &inductions)?;
     let after = with_endings(alloc, nest, loops, &inductions)?;

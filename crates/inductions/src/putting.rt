@@ -2,7 +2,8 @@
 ghost use Rattle.std.specs.Prelude.{◌≡◌, IfOk, map};
 ghost use Rattle.tree.specs.View.{expression_of};
 ghost use Rattle.nest.specs.View.{guarded_of, loop_of};
-ghost use Rattle.inductions.specs.Putting.{constant_at, found, grows_at, induction_in, putting, value_text, with_forms};
+ghost use Rattle.inductions.specs.Putting.{constant_at, found, grows_at, induction_in, putting, induction_text};
+ghost use Rattle.inductions.specs.Putting.{with_induction_forms};
 
 use crate::found::Induction;
 use linear_forms::express;
@@ -48,7 +49,7 @@ fn value_text(
     induction: &Induction,
     number: u32,
 ) -> Result<Expr, Memory>
-    ensures { IfOk result (λ e. expression_of e ≡ value_text counter induction.now number) }
+    ensures { IfOk result (λ e. expression_of e ≡ induction_text counter induction.now number) }
 {
     let form = Affine {
         loops: [induction.step, 0, 0, 0, 0, 0, 0],
@@ -150,7 +151,7 @@ impl Substitution {
         stmt: &GuardedStmt,
     ) -> Result<GuardedStmt, Memory>
         ensures { IfOk result (λ new. guarded_of new
-            ≡ with_forms self.now.counter self.now.inductions self.now.symbols (map loop_of loops.now) number
+            ≡ with_induction_forms self.now.counter self.now.inductions self.now.symbols (map loop_of loops.now) number
             (guarded_of stmt.now)) }
     {
         let mut rule = text_rule(alloc, &self.symbols, loops)?;

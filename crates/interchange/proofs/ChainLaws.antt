@@ -3,7 +3,7 @@ use Rattle.std.proofs.Common.{◌≡◌, refl, sym, ap, ◌∙◌, subst, inl, i
 use Rattle.std.specs.Prelude.{All, IfOk}
 use Rattle.std.specs.Option.{option_map}
 use Rattle.std.proofs.lemmas.List.{length-map}
-use Rattle.components.specs.Lists.{In}
+use Rattle.components.specs.Lists.{IsMember}
 use Rattle.nest.specs.Bodies.{Standing, nest_statements, statements_in, statements_in_parts}
 use Rattle.nest.specs.Plain.{Loop, Nest, Part, Parts, no_parts, part, parts, Run, Turns, Choice, Label, Jump}
 use Rattle.nest.specs.View.{loop_of, nest_of, part_of}
@@ -11,10 +11,10 @@ use Rattle.nest.specs.declared.nests.Nest as declared_nests
 use Rattle.nest.specs.declared.parts.Part as declared_parts
 use Rattle.dependence_graph.specs.nest_graph.Ready.{HaveTrips, IsReady, IsReadyStatement}
 use Rattle.interchange.specs.declared.chains.Chain as declared
-use Rattle.interchange.specs.Chains.{Chain, are_statements, chain_in, chain_of, if_alone, is_statement, no_loops, within}
+use Rattle.interchange.specs.Chains.{Chain, are_statements, chain_in, chain_of, if_alone, is_statement_part, no_loops, chain_within}
 use Rattle.interchange.specs.View as view
 
-in_all : {X : Type 0} (P : X → Type 0) (xs : List X) → All P xs → (x : X) → In x xs → P x
+in_all : {X : Type 0} (P : X → Type 0) (xs : List X) → All P xs → (x : X) → IsMember x xs → P x
 in_all P [] h x i = absurd i
 in_all P (y ∷ xs) h x (inl e) = subst P (sym e) (h 0 y (omega arith))
 in_all P (y ∷ xs) h x (inr i) = in_all P xs (λ k d g. h (suc k) d (omega arith)) x i
@@ -25,7 +25,7 @@ none_some x e = cc
 some_same : {A : Type 0} (x y : A) → ◌≡◌ {A = Option A} (Some x) (Some y) → x ≡ y
 some_same x y e = cc
 
-In_front : {X : Type 0} (x : X) (xs ys : List X) → In x xs → In x (xs ++ ys)
+In_front : {X : Type 0} (x : X) (xs ys : List X) → IsMember x xs → IsMember x (xs ++ ys)
 In_front x [] ys i = absurd i
 In_front x (y ∷ xs) ys (inl e) = inl e
 In_front x (y ∷ xs) ys (inr i) = inr (In_front x xs ys i)
@@ -33,10 +33,10 @@ In_front x (y ∷ xs) ys (inr i) = inr (In_front x xs ys i)
 -- a statement with just these loops round it
 pub record StandsUnder (all : List Standing) (loops : List Loop) : Type 0 where
   pub standing : Standing
-  pub among : In standing all
+  pub among : IsMember standing all
   pub round : standing.loops ≡ loops
 
-statement_is : (p : Part) (round : List Loop) → is_statement p ≡ true → StandsUnder (statements_in round p) round
+statement_is : (p : Part) (round : List Loop) → is_statement_part p ≡ true → StandsUnder (statements_in round p) round
 statement_is (Run s) round e = record { standing = record { loops = round; statement = s }; among = inl refl; round = refl }
 statement_is (Turns l ps) round e = cc
 statement_is (Choice bs ps) round e = cc
@@ -47,7 +47,7 @@ and_left : (a b : Bool) → a && b ≡ true → a ≡ true
 and_left true b e = refl
 and_left false b e = e
 
-within_is : (l : Loop) (o : Option Chain) (c : Chain) → within l o ≡ Some c → (d : Chain) × (o ≡ Some d) × (c.loops ≡ l ∷ d.loops)
+within_is : (l : Loop) (o : Option Chain) (c : Chain) → chain_within l o ≡ Some c → (d : Chain) × (o ≡ Some d) × (c.loops ≡ l ∷ d.loops)
 within_is l None c e = absurd (none_some c e)
 within_is l (Some d) c e = (d, refl, sym (ap (λ (z : Chain). z.loops) (some_same (record { loops = l ∷ d.loops; body = d.body }) c e)))
 
@@ -78,14 +78,14 @@ mutual
       by true f e more =
           let none : [] ≡ c.loops = ap (λ (z : Chain). z.loops) (some_same (no_loops (part p ps)) c e) in
           front (statements_in round p) (statements_in_parts round ps) (round ++ c.loops)
-          (subst (StandsUnder (statements_in round p)) (sym (append-nil round) ∙ ap (λ zs. round ++ zs) none) (statement_is p round (and_left (is_statement p) (are_statements ps) f)))
+          (subst (StandsUnder (statements_in round p)) (sym (append-nil round) ∙ ap (λ zs. round ++ zs) none) (statement_is p round (and_left (is_statement_part p) (are_statements ps) f)))
       by false f e more = front (statements_in round p) (statements_in_parts round ps) (round ++ c.loops) (more c (alone ps (chain_of p) e))
 
 pub chain_statement : (n : Nest) (c : Chain) → chain_of n.body ≡ Some c → StandsUnder (nest_statements n) c.loops
 chain_statement n c e = chain_stands n.body [] c e
 
 module _ (n : Nest) (ready : IsReady n) (c : Chain) (e : chain_of n.body ≡ Some c) where
-  ready_statement : (s : Standing) → In s (nest_statements n) → IsReadyStatement s
+  ready_statement : (s : Standing) → IsMember s (nest_statements n) → IsReadyStatement s
   ready_statement s i = in_all IsReadyStatement (nest_statements n) ready.statements s i
 
   pub few_loops : length c.loops ≤ 7

@@ -1,7 +1,7 @@
 -- What a chain is.
 use Rattle.std.proofs.Common.{◌≡◌, refl, sym, ap, ◌∙◌, subst, Bool, true, false, cond, Option, Some, None, ◌∷◌}
 use Rattle.nest.specs.Plain.{Loop, Part, Parts, no_parts, part, Run, Turns, Choice, Label, Jump}
-use Rattle.interchange.specs.Chains.{Chain, are_statements, chain_in, chain_of, if_alone, in_loops, no_loops, within}
+use Rattle.interchange.specs.Chains.{Chain, are_statements, chain_in, chain_of, if_alone, in_loops, no_loops, chain_within}
 use Rattle.interchange.specs.Laws.{ChainsAreLoops, IsChainOf}
 
 none_some : {A : Type 0} (x : A) → ◌≡◌ {A = Option A} None (Some x) → ⊥
@@ -14,7 +14,7 @@ record InLoops (ps : Parts) (c : Chain) : Type 0 where
   is : ps ≡ in_loops c.loops c.body
   body : are_statements c.body ≡ true
 
-within_is : (l : Loop) (o : Option Chain) (c : Chain) → within l o ≡ Some c → (d : Chain) × (o ≡ Some d) × (c ≡ record { loops = l ∷ d.loops; body = d.body })
+within_is : (l : Loop) (o : Option Chain) (c : Chain) → chain_within l o ≡ Some c → (d : Chain) × (o ≡ Some d) × (c ≡ record { loops = l ∷ d.loops; body = d.body })
 within_is l None c e = absurd (none_some c e)
 within_is l (Some d) c e = (d, refl, sym (some_same (record { loops = l ∷ d.loops; body = d.body }) c e))
 

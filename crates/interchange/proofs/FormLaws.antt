@@ -6,7 +6,7 @@ use Rattle.subscripts.specs.declared.affine.Affine.{Affine}
 use Rattle.linear_forms.specs.Affines.{IsAffineOf, IsFound}
 use Rattle.linear_forms.specs.Linear.{Form, all_small, is_limited, is_small, limited, multiple, not_zero, sum}
 use Rattle.linear_forms.specs.Places.{padded, terms_from}
-use Rattle.interchange.specs.Reads.{all_zero, has_no_symbol, is_zero, is_zero_affine, same_form}
+use Rattle.interchange.specs.Reads.{all_zero, has_no_symbol, is_no_difference, is_zero_affine, same_form}
 
 true_false : true ≡ false → ⊥
 true_false e = cc
@@ -79,7 +79,7 @@ no_symbol_padded cs =
     ∙ (ap (λ b. has_no_symbol (terms_from 0 cs) && b) (no_symbol_padding (8 - length (terms_from 0 cs)))
     ∙ (and_true (has_no_symbol (terms_from 0 cs)) ∙ no_symbol_terms 0 cs))
 
-affine_zero : (n : ℕ) (f : Form) (a : Affine) → IsAffineOf n f a → is_zero_affine a ≡ is_zero f
+affine_zero : (n : ℕ) (f : Form) (a : Affine) → IsAffineOf n f a → is_zero_affine a ≡ is_no_difference f
 affine_zero n f a h =
     let loops : all_zero a.loops ≡ all_zero (take n f.coefficients) = same_zero a.loops (take n f.coefficients) h.loops in
     let symbols : has_no_symbol a.syms ≡ all_zero (drop n f.coefficients) = ap has_no_symbol h.symbols ∙ no_symbol_padded (drop n f.coefficients) in
@@ -103,7 +103,7 @@ none_other (c ∷ cs) e =
     let h = and_both (int_eq c (pos 0)) (all_zero cs) e in
     ap (λ b. cond b (not_zero cs) (suc (not_zero cs))) h.0 ∙ none_other cs h.1
 
-zero_limited : (n : ℕ) (f : Form) → is_zero f ≡ true → is_limited n f ≡ true
+zero_limited : (n : ℕ) (f : Form) → is_no_difference f ≡ true → is_limited n f ≡ true
 zero_limited n f e =
     let h = and_both (all_zero f.coefficients) (int_eq f.constant (pos 0)) e in
     let d = and_both (all_zero (take n f.coefficients)) (all_zero (drop n f.coefficients)) (sym (split_zero n f.coefficients) ∙ h.0) in
@@ -125,13 +125,13 @@ none_second n None g a h k = absurd h
 none_second n (Some f) None a h k = refl
 none_second n (Some f) (Some g) a h k = absurd k
 
-found_zero : (n : ℕ) (f : Form) (d : Option Affine) → IsFound n (limited n (Some f)) d → is_found_zero d ≡ is_zero f
+found_zero : (n : ℕ) (f : Form) (d : Option Affine) → IsFound n (limited n (Some f)) d → is_found_zero d ≡ is_no_difference f
 found_zero n f d h = by (is_limited n f) refl d h
   where
-    by : (c : Bool) → is_limited n f ≡ c → (d : Option Affine) → IsFound n (cond c (Some f) None) d → is_found_zero d ≡ is_zero f
+    by : (c : Bool) → is_limited n f ≡ c → (d : Option Affine) → IsFound n (cond c (Some f) None) d → is_found_zero d ≡ is_no_difference f
     by true e None h = absurd h
     by true e (Some x) h = affine_zero n f x h
-    by false e None h = equal false (is_zero f) (λ z. absurd (true_false (sym z))) (λ z. absurd (true_false (sym (zero_limited n f z) ∙ e)))
+    by false e None h = equal false (is_no_difference f) (λ z. absurd (true_false (sym z))) (λ z. absurd (true_false (sym (zero_limited n f z) ∙ e)))
     by false e (Some x) h = absurd h
 
 pub by_difference : (n : ℕ) (f g : Option Form) (a b : Affine) (d : Option Affine) → IsFound n f (Some a) → IsFound n g (Some b)

@@ -19,7 +19,7 @@ use Rattle.interchange.specs.Chains.{part_in_loops}
 use Rattle.interchange.specs.View as view
 use Rattle.interchange.specs.declared.chains.Chain as declared_chains
 use Rattle.dependence_graph.specs.declared.graphs.Edge.{Edge}
-use Rattle.interchange.specs.Arranged.{body_in, in_order, is_own_anti, trips_of, vectors_of, with_trip, without_loops}
+use Rattle.interchange.specs.Arranged.{body_in, in_order, is_own_antidependence, free_trips_of, vectors_of, with_free_trip, if_loop_free}
 
 none_some : {A : Type 0} (a : A) → ◌≡◌ {A = Option A} None (Some a) → ⊥
 none_some a e = cc
@@ -43,28 +43,28 @@ empty (x ∷ xs) e = absurd (omega arith)
 
 -- ---- trips
 
-trips_more : (ls : List Loop) (l : Loop) (ts : List Trip) (t : Trip) → trips_of ls ≡ Some ts → without_loops l.trip ≡ Some t
-    → trips_of (ls ++ l ∷ []) ≡ Some (ts ++ t ∷ [])
-trips_more [] l ts t e f = ap (λ o. with_trip o (Some [])) f ∙ ap (λ us. Some (us ++ t ∷ [])) (some_same [] ts e)
-trips_more (m ∷ ls) l ts t e f = by (without_loops m.trip) (trips_of ls) refl refl e (λ us h. trips_more ls l us t h f)
+trips_more : (ls : List Loop) (l : Loop) (ts : List Trip) (t : Trip) → free_trips_of ls ≡ Some ts → if_loop_free l.trip ≡ Some t
+    → free_trips_of (ls ++ l ∷ []) ≡ Some (ts ++ t ∷ [])
+trips_more [] l ts t e f = ap (λ o. with_free_trip o (Some [])) f ∙ ap (λ us. Some (us ++ t ∷ [])) (some_same [] ts e)
+trips_more (m ∷ ls) l ts t e f = by (if_loop_free m.trip) (free_trips_of ls) refl refl e (λ us h. trips_more ls l us t h f)
   where
-    by : (o : Option Trip) (r : Option (List Trip)) → without_loops m.trip ≡ o → trips_of ls ≡ r → with_trip o r ≡ Some ts
-        → ((us : List Trip) → trips_of ls ≡ Some us → trips_of (ls ++ l ∷ []) ≡ Some (us ++ t ∷ []))
-        → with_trip (without_loops m.trip) (trips_of (ls ++ l ∷ [])) ≡ Some (ts ++ t ∷ [])
+    by : (o : Option Trip) (r : Option (List Trip)) → if_loop_free m.trip ≡ o → free_trips_of ls ≡ r → with_free_trip o r ≡ Some ts
+        → ((us : List Trip) → free_trips_of ls ≡ Some us → free_trips_of (ls ++ l ∷ []) ≡ Some (us ++ t ∷ []))
+        → with_free_trip (if_loop_free m.trip) (free_trips_of (ls ++ l ∷ [])) ≡ Some (ts ++ t ∷ [])
     by None r g h k more = absurd (none_some ts k)
     by (Some u) None g h k more = absurd (none_some ts k)
     by (Some u) (Some us) g h k more =
-        ap (λ o. with_trip o (trips_of (ls ++ l ∷ []))) g ∙ (ap (with_trip (Some u)) (more us h) ∙ ap (λ vs. Some (vs ++ t ∷ [])) (some_same (u ∷ us) ts k))
+        ap (λ o. with_free_trip o (free_trips_of (ls ++ l ∷ []))) g ∙ (ap (with_free_trip (Some u)) (more us h) ∙ ap (λ vs. Some (vs ++ t ∷ [])) (some_same (u ∷ us) ts k))
 
-with_none : (o : Option Trip) → with_trip o None ≡ None
+with_none : (o : Option Trip) → with_free_trip o None ≡ None
 with_none None = refl
 with_none (Some t) = refl
 
-missing : (ls : List declared.Loop) (i : ℕ) (x : declared.Loop) → i < length ls → x ≡ get_or ls i x → without_loops x.trip ≡ None
-    → trips_of (map loop_of ls) ≡ None
+missing : (ls : List declared.Loop) (i : ℕ) (x : declared.Loop) → i < length ls → x ≡ get_or ls i x → if_loop_free x.trip ≡ None
+    → free_trips_of (map loop_of ls) ≡ None
 missing [] i x h e f = absurd (omega arith)
-missing (y ∷ ls) zero x h e f = ap (λ o. with_trip o (trips_of (map loop_of ls))) (ap (λ (z : declared.Loop). without_loops z.trip) (sym e) ∙ f)
-missing (y ∷ ls) (suc i) x h e f = ap (with_trip (without_loops y.trip)) (missing ls i x (omega arith) e f) ∙ with_none (without_loops y.trip)
+missing (y ∷ ls) zero x h e f = ap (λ o. with_free_trip o (free_trips_of (map loop_of ls))) (ap (λ (z : declared.Loop). if_loop_free z.trip) (sym e) ∙ f)
+missing (y ∷ ls) (suc i) x h e f = ap (with_free_trip (if_loop_free y.trip)) (missing ls i x (omega arith) e f) ∙ with_none (if_loop_free y.trip)
 
 -- ---- loops in an order
 
@@ -84,15 +84,15 @@ order_skip ls order p e =
 -- ---- vectors of edges
 
 abbrev counts : Edge → Bool
-counts e = not (is_own_anti e)
+counts e = not (is_own_antidependence e)
 
-vectors_more : (es : List Edge) (e : Edge) → is_own_anti e ≡ false → vectors_of (es ++ e ∷ []) ≡ vectors_of es ++ e.dirs ∷ []
+vectors_more : (es : List Edge) (e : Edge) → is_own_antidependence e ≡ false → vectors_of (es ++ e ∷ []) ≡ vectors_of es ++ e.dirs ∷ []
 vectors_more es e f =
     ap (map (λ (x : Edge). x.dirs)) (filter-append counts es (e ∷ []))
     ∙ (map-append (λ (x : Edge). x.dirs) (filter counts es) (filter counts (e ∷ []))
     ∙ ap (λ b. vectors_of es ++ map (λ (x : Edge). x.dirs) (cond (not b) (e ∷ []) [])) f)
 
-vectors_skip : (es : List Edge) (e : Edge) → is_own_anti e ≡ true → vectors_of (es ++ e ∷ []) ≡ vectors_of es
+vectors_skip : (es : List Edge) (e : Edge) → is_own_antidependence e ≡ true → vectors_of (es ++ e ∷ []) ≡ vectors_of es
 vectors_skip es e f =
     ap (map (λ (x : Edge). x.dirs)) (filter-append counts es (e ∷ []))
     ∙ (map-append (λ (x : Edge). x.dirs) (filter counts es) (filter counts (e ∷ []))
@@ -109,15 +109,15 @@ body_is n c order ordered p e f =
 
 -- ---- for the code
 
-pub trips_step : (ls : List declared.Loop) (i : ℕ) (x : declared.Loop) (r : Option Trip) (ts new : List Trip) (t : Trip) → i < length ls → x ≡ get_or ls i x → r ≡ without_loops x.trip → r ≡ Some t
-    → trips_of (map loop_of (take i ls)) ≡ Some ts → new ≡ ts ++ t ∷ [] → trips_of (map loop_of (take (i + 1) ls)) ≡ Some new
+pub trips_step : (ls : List declared.Loop) (i : ℕ) (x : declared.Loop) (r : Option Trip) (ts new : List Trip) (t : Trip) → i < length ls → x ≡ get_or ls i x → r ≡ if_loop_free x.trip → r ≡ Some t
+    → free_trips_of (map loop_of (take i ls)) ≡ Some ts → new ≡ ts ++ t ∷ [] → free_trips_of (map loop_of (take (i + 1) ls)) ≡ Some new
 trips_step ls i x r ts new t inside is e f g h =
-    ap (λ zs. trips_of (map loop_of zs)) (take_more ls i x inside ∙ ap (λ z. take i ls ++ z ∷ []) (sym is))
-    ∙ (ap trips_of (map-append loop_of (take i ls) (x ∷ []))
+    ap (λ zs. free_trips_of (map loop_of zs)) (take_more ls i x inside ∙ ap (λ z. take i ls ++ z ∷ []) (sym is))
+    ∙ (ap free_trips_of (map-append loop_of (take i ls) (x ∷ []))
     ∙ (trips_more (map loop_of (take i ls)) (loop_of x) ts t g (sym e ∙ f) ∙ ap (λ us. Some us) (sym h)))
 
-pub trips_missing : (ls : List declared.Loop) (i : ℕ) (x : declared.Loop) (r : Option Trip) → i < length ls → x ≡ get_or ls i x → r ≡ without_loops x.trip → r ≡ None
-    → None ≡ trips_of (map loop_of ls)
+pub trips_missing : (ls : List declared.Loop) (i : ℕ) (x : declared.Loop) (r : Option Trip) → i < length ls → x ≡ get_or ls i x → r ≡ if_loop_free x.trip → r ≡ None
+    → None ≡ free_trips_of (map loop_of ls)
 trips_missing ls i x r inside is e f = sym (missing ls i x inside is (sym e ∙ f))
 
 pub order_found : (ls old new : List declared.Loop) (p : ℕ) (x y : declared.Loop) (r : Option declared.Loop) → r ≡ slice_get ls p → r ≡ Some x → loop_of y ≡ loop_of x → new ≡ old ++ y ∷ []
@@ -135,10 +135,10 @@ order_step ls order i old new inside h k =
     k ∙ (ap (λ zs. zs ++ in_order (map loop_of ls) (get_or order i 0 ∷ [])) h
     ∙ (sym (filter_map-append (slice_get (map loop_of ls)) (take i order) (get_or order i 0 ∷ [])) ∙ ap (in_order (map loop_of ls)) (sym (take_more order i 0 inside))))
 
-pub vectors_found : (e : Edge) (b : Bool) (old new : List Dirs) → b ≡ is_own_anti e → b ≡ false → new ≡ old ++ e.dirs ∷ [] → new ≡ old ++ vectors_of (e ∷ [])
+pub vectors_found : (e : Edge) (b : Bool) (old new : List Dirs) → b ≡ is_own_antidependence e → b ≡ false → new ≡ old ++ e.dirs ∷ [] → new ≡ old ++ vectors_of (e ∷ [])
 vectors_found e b old new f g k = k ∙ ap (λ zs. old ++ zs) (sym (vectors_more [] e (sym f ∙ g)))
 
-pub vectors_none : (e : Edge) (b : Bool) (old : List Dirs) → b ≡ is_own_anti e → b ≡ true → old ≡ old ++ vectors_of (e ∷ [])
+pub vectors_none : (e : Edge) (b : Bool) (old : List Dirs) → b ≡ is_own_antidependence e → b ≡ true → old ≡ old ++ vectors_of (e ∷ [])
 vectors_none e b old f g = sym (ap (λ zs. old ++ zs) (vectors_skip [] e (sym f ∙ g)) ∙ append-nil old)
 
 pub vectors_step : (es : List Edge) (i : ℕ) (x : Edge) (old new : List Dirs) → i < length es → x ≡ get_or es i x → old ≡ vectors_of (take i es) → new ≡ old ++ vectors_of (x ∷ [])

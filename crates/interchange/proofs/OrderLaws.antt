@@ -5,10 +5,10 @@ use Rattle.std.proofs.lemmas.Bool.Decides.{Decides-eqb}
 use Rattle.std.specs.List.{find, fold, insert, list_any, range_with_len, remove}
 use Rattle.subscripts.specs.declared.affine.Dirs.{Dirs}
 use Rattle.subscripts.specs.declared.affine.Span.{Span}
-use Rattle.components.specs.Lists.{In}
+use Rattle.components.specs.Lists.{IsMember}
 use Rattle.nest.specs.declared.parts.Trip.{Trip}
 use Rattle.interchange.specs.Arranged.{is_changed}
-use Rattle.interchange.specs.Orders.{carries, is_fit, moved, moved_if_found, settled}
+use Rattle.interchange.specs.Orders.{carries, is_fit, moved, moved_if_found, settled_at_place}
 
 -- ---- numbers in a row
 
@@ -28,7 +28,7 @@ pub range_length : (a n : ℕ) → length (range_with_len a n) ≡ n
 range_length a zero = refl
 range_length a (suc n) = ap suc (range_length (a + 1) n)
 
-pub range_inside : (a n q : ℕ) → In q (range_with_len a n) → (a ≤ q) × (q < a + n)
+pub range_inside : (a n q : ℕ) → IsMember q (range_with_len a n) → (a ≤ q) × (q < a + n)
 range_inside a zero q i = absurd i
 range_inside a (suc n) q (inl e) = (omega arith, omega arith)
 range_inside a (suc n) q (inr i) = let h = range_inside (a + 1) n q i in (omega arith, omega arith)
@@ -47,7 +47,7 @@ find_more test (x ∷ xs) ys e = by (test x) refl e (λ f. find_more test xs ys 
     by true f e more = absurd (some_none x e)
     by false f e more = ap (λ b. cond b (Some x) (find test (xs ++ ys))) f ∙ more e
 
-pub found_in : {X : Type 0} (test : X → Bool) (xs : List X) (x : X) → find test xs ≡ Some x → In x xs
+pub found_in : {X : Type 0} (test : X → Bool) (xs : List X) (x : X) → find test xs ≡ Some x → IsMember x xs
 found_in test [] x e = absurd (none_some x e)
   where
     none_some : {A : Type 0} (a : A) → ◌≡◌ {A = Option A} None (Some a) → ⊥
@@ -57,7 +57,7 @@ found_in test (y ∷ xs) x e = by (test y) e (λ f. found_in test xs x f)
     some_same : {A : Type 0} (a b : A) → ◌≡◌ {A = Option A} (Some a) (Some b) → a ≡ b
     some_same a b e = cc
 
-    by : (b : Bool) → cond b (Some y) (find test xs) ≡ Some x → (find test xs ≡ Some x → In x xs) → In x (y ∷ xs)
+    by : (b : Bool) → cond b (Some y) (find test xs) ≡ Some x → (find test xs ≡ Some x → IsMember x xs) → IsMember x (y ∷ xs)
     by true e more = inl (sym (some_same y x e))
     by false e more = inr (more e)
 
@@ -116,7 +116,7 @@ pub moved_length : (p q : ℕ) (order : List ℕ) → q < length order → lengt
 moved_length p q order h = insert_length (remove order q) p (slice_index order q) ∙ remove_length order q h
 
 module _ (trips : List Trip) (spans : List Span) (vectors : List Dirs) where
-  pub settled_length : (order : List ℕ) (p : ℕ) → length (settled trips spans vectors order p) ≡ length order
+  pub settled_length : (order : List ℕ) (p : ℕ) → length (settled_at_place trips spans vectors order p) ≡ length order
   settled_length order p = by (carries vectors order p) (find (is_fit trips spans vectors order p) (range_with_len (p + 1) (length order - (p + 1)))) refl
     where
       by : (b : Bool) (o : Option ℕ) → find (is_fit trips spans vectors order p) (range_with_len (p + 1) (length order - (p + 1))) ≡ o → length (cond b order (moved_if_found order p o)) ≡ length order
@@ -140,7 +140,7 @@ any_more test (y ∷ xs) x h f = by (test y) refl h (λ e. any_more test xs x e 
         true_false e = cc
     by false g e more = ap (λ b. b || list_any test (xs ++ x ∷ [])) g ∙ more e
 
-pub any_found : {X : Type 0} (test : X → Bool) (xs : List X) (x : X) → In x xs → test x ≡ true → list_any test xs ≡ true
+pub any_found : {X : Type 0} (test : X → Bool) (xs : List X) (x : X) → IsMember x xs → test x ≡ true → list_any test xs ≡ true
 any_found test [] x i f = absurd i
 any_found test (y ∷ xs) x (inl e) f = ap (λ b. b || list_any test xs) (sym (ap test e) ∙ f)
 any_found test (y ∷ xs) x (inr i) f = by (test y) (any_found test xs x i f)
@@ -149,7 +149,7 @@ any_found test (y ∷ xs) x (inr i) f = by (test y) (any_found test xs x i f)
     by true more = refl
     by false more = more
 
-pub range_has : (a n q : ℕ) → a ≤ q → q < a + n → In q (range_with_len a n)
+pub range_has : (a n q : ℕ) → a ≤ q → q < a + n → IsMember q (range_with_len a n)
 range_has a zero q h g = absurd (omega arith)
 range_has a (suc n) q h g = by (split a q h) (λ k. range_has (a + 1) n q k (omega arith))
   where
@@ -163,7 +163,7 @@ range_has a (suc n) q h g = by (split a q h) (λ k. range_has (a + 1) n q k (ome
         more (inl e) = inl (ap suc e)
         more (inr k) = inr (omega arith)
 
-    by : (q ≡ a) ⊎ (a + 1 ≤ q) → (a + 1 ≤ q → In q (range_with_len (a + 1) n)) → In q (range_with_len a (suc n))
+    by : (q ≡ a) ⊎ (a + 1 ≤ q) → (a + 1 ≤ q → IsMember q (range_with_len (a + 1) n)) → IsMember q (range_with_len a (suc n))
     by (inl e) more = inl e
     by (inr k) more = inr (more k)
 
@@ -176,13 +176,13 @@ pub range_push : (order : List ℕ) (n : ℕ) → order ≡ range_with_len 0 n �
 range_push order n e = ap (λ zs. zs ++ n ∷ []) e ∙ sym (range_next n)
 
 module _ (trips : List Trip) (spans : List Span) (vectors : List Dirs) where
-  pub settled_more : (order new first : List ℕ) (n : ℕ) → order ≡ fold (settled trips spans vectors) first (range_with_len 0 n) → new ≡ settled trips spans vectors order n
-      → new ≡ fold (settled trips spans vectors) first (range_with_len 0 (n + 1))
+  pub settled_more : (order new first : List ℕ) (n : ℕ) → order ≡ fold (settled_at_place trips spans vectors) first (range_with_len 0 n) → new ≡ settled_at_place trips spans vectors order n
+      → new ≡ fold (settled_at_place trips spans vectors) first (range_with_len 0 (n + 1))
   settled_more order new first n e f =
-      f ∙ (ap (λ o. settled trips spans vectors o n) e
-      ∙ (sym (fold_more (settled trips spans vectors) first (range_with_len 0 n) n) ∙ ap (fold (settled trips spans vectors) first) (sym (range_next n))))
+      f ∙ (ap (λ o. settled_at_place trips spans vectors o n) e
+      ∙ (sym (fold_more (settled_at_place trips spans vectors) first (range_with_len 0 n) n) ∙ ap (fold (settled_at_place trips spans vectors) first) (sym (range_next n))))
 
-  pub settled_size : (order new : List ℕ) (n k : ℕ) → length order ≡ k → new ≡ settled trips spans vectors order n → length new ≡ k
+  pub settled_size : (order new : List ℕ) (n k : ℕ) → length order ≡ k → new ≡ settled_at_place trips spans vectors order n → length new ≡ k
   settled_size order new n k e f = ap length f ∙ (settled_length trips spans vectors order n ∙ e)
 
 abbrev is_moved : List ℕ → ℕ → Bool

@@ -4,7 +4,7 @@ use Rattle.std.specs.List.{find, fold, range_with_len}
 use Rattle.subscripts.specs.declared.affine.Dirs.{Dirs}
 use Rattle.subscripts.specs.declared.affine.Span.{Span}
 use Rattle.nest.specs.declared.parts.Trip.{Trip}
-use Rattle.interchange.specs.Orders.{carries, is_fit, keeps_all, may_move, moved, moved_if_found, order_of, settled}
+use Rattle.interchange.specs.Orders.{carries, is_fit, keeps_all, may_move, moved, moved_if_found, order_of, settled_at_place}
 use Rattle.interchange.proofs.OrderLaws.{found_in, moved_length, range_inside, range_length}
 use Rattle.interchange.specs.Laws.{OrderIsReached}
 use Rattle.interchange.specs.Moves.{IsAllowed, IsReached, LeadTo, Move, moves_to}
@@ -42,7 +42,7 @@ module _ (trips : List Trip) (spans : List Span) (vectors : List Dirs) (n : ℕ)
   one_more [] order last m h a = (subst (λ o. IsAllowed trips spans o m) (sym h) a, ap (moves_to m) h)
   one_more (k ∷ ms) order last m h a = (h.0, one_more ms (moves_to k order) last m h.1 a)
 
-  step : (order : List ℕ) (p : ℕ) → Reached order → Reached (settled trips spans vectors order p)
+  step : (order : List ℕ) (p : ℕ) → Reached order → Reached (settled_at_place trips spans vectors order p)
   step order p r = by (carries vectors order p) (find (is_fit trips spans vectors order p) (range_with_len (p + 1) (length order - (p + 1)))) refl
     where
       by : (b : Bool) (o : Option ℕ) → find (is_fit trips spans vectors order p) (range_with_len (p + 1) (length order - (p + 1))) ≡ o → Reached (cond b order (moved_if_found order p o))
@@ -63,9 +63,9 @@ module _ (trips : List Trip) (spans : List Span) (vectors : List Dirs) (n : ℕ)
             size = moved_length p q order (omega arith) ∙ r.size;
           }
 
-  all : (order : List ℕ) (ps : List ℕ) → Reached order → Reached (fold (settled trips spans vectors) order ps)
+  all : (order : List ℕ) (ps : List ℕ) → Reached order → Reached (fold (settled_at_place trips spans vectors) order ps)
   all order [] r = r
-  all order (p ∷ ps) r = all (settled trips spans vectors order p) ps (step order p r)
+  all order (p ∷ ps) r = all (settled_at_place trips spans vectors order p) ps (step order p r)
 
   reached_at_last : Reached (order_of trips spans vectors n)
   reached_at_last = all start (range_with_len 0 n) (record { moves = []; lead = refl; keeps = λ h. h; size = range_length 0 n })

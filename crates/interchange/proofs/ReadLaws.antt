@@ -10,7 +10,7 @@ use Rattle.subscripts.specs.declared.affine.Affine.{Affine}
 use Rattle.linear_forms.specs.Affines.{IsFound}
 use Rattle.linear_forms.specs.Linear.{Form}
 use Rattle.dependence_graph.specs.nest_references.Occurrences.{AreFormsIn, IsFormIn}
-use Rattle.interchange.specs.Reads.{same_form, same_forms, subscript_form}
+use Rattle.interchange.specs.Reads.{same_form, same_forms, form_of_subscript}
 
 -- what is answered for two forms, and for two lists of them
 abbrev IsSameForm : Option Affine → Option Affine → Bool → Type 0
@@ -21,7 +21,7 @@ AreSameForms os us b = (loops symbols : List (List ℕ)) (ps qs : Subscripts) �
     → b ≡ same_forms loops symbols ps qs
 
 module _ (loops symbols : List (List ℕ)) where
-  found : (p : Subscript) (o : Option Affine) → IsFormIn loops symbols p o → IsFound (length loops) (subscript_form loops symbols p) o
+  found : (p : Subscript) (o : Option Affine) → IsFormIn loops symbols p o → IsFound (length loops) (form_of_subscript loops symbols p) o
   found (Only e) o h = h
   found (Section a b s) o h = subst (IsFound (length loops) None) (sym h) tt
 
@@ -42,8 +42,8 @@ module _ (loops symbols : List (List ℕ)) where
   more no_subscripts qs o u os us a b few h k f g = absurd h
   more (subscript p ps) no_subscripts o u os us a b few h k f g = absurd k
   more (subscript p ps) (subscript q qs) o u os us a b few h k f g =
-      ap (λ x. x && b) (f (length loops) (subscript_form loops symbols p) (subscript_form loops symbols q) few (found p o h.0) (found q u k.0))
-      ∙ ap (λ x. same_form (subscript_form loops symbols p) (subscript_form loops symbols q) && x) (g loops symbols ps qs few h.1 k.1)
+      ap (λ x. x && b) (f (length loops) (form_of_subscript loops symbols p) (form_of_subscript loops symbols q) few (found p o h.0) (found q u k.0))
+      ∙ ap (λ x. same_form (form_of_subscript loops symbols p) (form_of_subscript loops symbols q) && x) (g loops symbols ps qs few h.1 k.1)
 
 -- ---- for the code
 
@@ -73,7 +73,7 @@ forms_else one other os us o u a e f g t loops symbols ps qs few h k =
     by no_subscripts qs h k = absurd h
     by (subscript p ps) no_subscripts h k = absurd k
     by (subscript p ps) (subscript q qs) h k =
-        ap (λ x. x && same_forms loops symbols ps qs) (g (length loops) (subscript_form loops symbols p) (subscript_form loops symbols q) few (found loops symbols p o h.0) (found loops symbols q u k.0))
+        ap (λ x. x && same_forms loops symbols ps qs) (g (length loops) (form_of_subscript loops symbols p) (form_of_subscript loops symbols q) few (found loops symbols p o h.0) (found loops symbols q u k.0))
 
 -- what is asked of each item of a list is asked of each item of what is seen of it
 pub all_seen : {X Y : Type 0} (P : Y → Type 0) (view : X → Y) (list all : List X) (seen : List Y) → list ≡ all → map view all ≡ seen → All P seen → All (λ x. P (view x)) list

@@ -19,38 +19,38 @@ use Rattle.interchange.specs.Reads.{read_own_elements}
 
 -- ---- which dependences count
 
-abbrev pub is_anti : Dep → Bool
-is_anti Flow = Bool.false
-is_anti Anti = Bool.true
-is_anti Output = Bool.false
+abbrev pub is_antidependence : Dep → Bool
+is_antidependence Flow = Bool.false
+is_antidependence Anti = Bool.true
+is_antidependence Output = Bool.false
 
 -- an antidependence of a statement on itself
-abbrev pub is_own_anti : Edge → Bool
-is_own_anti e = is_anti e.kind && (e.from.stmt == e.to.stmt)
+abbrev pub is_own_antidependence : Edge → Bool
+is_own_antidependence e = is_antidependence e.kind && (e.from.stmt == e.to.stmt)
 
 -- the vectors of all other edges
 abbrev pub vectors_of : List Edge → List Dirs
-vectors_of es = map (λ (e : Edge). e.dirs) (filter (λ e. not (is_own_anti e)) es)
+vectors_of es = map (λ (e : Edge). e.dirs) (filter (λ e. not (is_own_antidependence e)) es)
 
 -- ---- trips
 
 -- no loop's variable stands in it
-abbrev pub has_no_loop : Trip → Bool
-has_no_loop t = list_all (λ a. int_eq a (pos 0)) t.top.loops
+abbrev pub is_loop_free : Trip → Bool
+is_loop_free t = list_all (λ a. int_eq a (pos 0)) t.top.loops
 
-abbrev pub without_loops : Option Trip → Option Trip
-without_loops None = None
-without_loops (Some t) = if has_no_loop t then Some t else None
+abbrev pub if_loop_free : Option Trip → Option Trip
+if_loop_free None = None
+if_loop_free (Some t) = if is_loop_free t then Some t else None
 
-abbrev pub with_trip : Option Trip → Option (List Trip) → Option (List Trip)
-with_trip None ts = None
-with_trip (Some t) None = None
-with_trip (Some t) (Some ts) = Some (t ∷ ts)
+abbrev pub with_free_trip : Option Trip → Option (List Trip) → Option (List Trip)
+with_free_trip None ts = None
+with_free_trip (Some t) None = None
+with_free_trip (Some t) (Some ts) = Some (t ∷ ts)
 
 -- the trips of loops, where each is such
-abbrev pub trips_of : List Loop → Option (List Trip)
-trips_of [] = Some []
-trips_of (l ∷ ls) = with_trip (without_loops l.trip) (trips_of ls)
+abbrev pub free_trips_of : List Loop → Option (List Trip)
+free_trips_of [] = Some []
+free_trips_of (l ∷ ls) = with_free_trip (if_loop_free l.trip) (free_trips_of ls)
 
 -- ---- the nest
 
@@ -78,7 +78,7 @@ arranged_chain n vectors c (Some trips) =
 abbrev pub arranged_by : Nest → List Dirs → Option Chain → Option Nest
 arranged_by n vectors None = None
 arranged_by n vectors (Some c) =
-    if read_own_elements n then arranged_chain n vectors c (trips_of c.loops) else None
+    if read_own_elements n then arranged_chain n vectors c (free_trips_of c.loops) else None
 
 -- Where a loop moves, the nest in which it has: all statements stand in the innermost loop of one chain, no trip has a
 -- loop's variable in it, and no statement reads of the array that it writes another element than it writes

@@ -7,23 +7,23 @@ pub record Chain : Type 0 where
   pub loops : List Loop
   pub body : Parts
 
-abbrev pub is_statement : Part → Bool
-is_statement (Run s) = true
-is_statement (Turns l ps) = false
-is_statement (Choice bs ps) = false
-is_statement (Label n) = false
-is_statement (Jump n) = false
+abbrev pub is_statement_part : Part → Bool
+is_statement_part (Run s) = true
+is_statement_part (Turns l ps) = false
+is_statement_part (Choice bs ps) = false
+is_statement_part (Label n) = false
+is_statement_part (Jump n) = false
 
 abbrev pub are_statements : Parts → Bool
 are_statements no_parts = true
-are_statements (part p ps) = is_statement p && are_statements ps
+are_statements (part p ps) = is_statement_part p && are_statements ps
 
 abbrev pub no_loops : Parts → Chain
 no_loops ps = record { loops = []; body = ps }
 
-abbrev pub within : Loop → Option Chain → Option Chain
-within l None = None
-within l (Some c) = Some (record { loops = l ∷ c.loops; body = c.body })
+abbrev pub chain_within : Loop → Option Chain → Option Chain
+chain_within l None = None
+chain_within l (Some c) = Some (record { loops = l ∷ c.loops; body = c.body })
 
 -- the chain of a part that stands alone
 abbrev pub if_alone : Parts → Option Chain → Option Chain
@@ -35,7 +35,7 @@ if_alone (part p ps) c = None
 abbrev mutual
   pub chain_of : Part → Option Chain
   chain_of (Run s) = None
-  chain_of (Turns l ps) = within l (chain_in ps)
+  chain_of (Turns l ps) = chain_within l (chain_in ps)
   chain_of (Choice bs ps) = None
   chain_of (Label n) = None
   chain_of (Jump n) = None

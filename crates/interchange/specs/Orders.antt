@@ -26,16 +26,16 @@ direction d k = slice_index_or d.at k Any
 abbrev pub directions : Dirs → List ℕ → List Dir
 directions d order = map (direction d) order
 
-abbrev pub is_same : Dir → Bool
-is_same Lt = false
-is_same Eq = true
-is_same Gt = false
-is_same Any = false
+abbrev pub is_equal_direction : Dir → Bool
+is_equal_direction Lt = false
+is_equal_direction Eq = true
+is_equal_direction Gt = false
+is_equal_direction Any = false
 
 -- the first entry other than `=` stands at the place p
 abbrev pub begins_at : ℕ → List Dir → Bool
 begins_at p [] = false
-begins_at p (d ∷ ds) = if p == 0 then not (is_same d) else (is_same d && begins_at (p - 1) ds)
+begins_at p (d ∷ ds) = if p == 0 then not (is_equal_direction d) else (is_equal_direction d && begins_at (p - 1) ds)
 
 -- it is `<`, or there is none; `*` may stand for `>`
 abbrev pub leads_forward : List Dir → Bool
@@ -110,11 +110,11 @@ module _ (trips : List Trip) (spans : List Span) where
     is_fit order p q = carries vectors order q && (may_move order p q && keeps_all vectors (moved p q order))
 
     -- where the loop at the place p carries nothing, the first fit one behind it moves there
-    abbrev pub settled : List ℕ → ℕ → List ℕ
-    settled order p =
+    abbrev pub settled_at_place : List ℕ → ℕ → List ℕ
+    settled_at_place order p =
         if carries vectors order p then order
         else moved_if_found order p (find (is_fit order p) (range_with_len (p + 1) (length order - (p + 1))))
 
     -- from the outermost place inwards
     abbrev pub order_of : ℕ → List ℕ
-    order_of n = fold settled (range_with_len 0 n) (range_with_len 0 n)
+    order_of n = fold settled_at_place (range_with_len 0 n) (range_with_len 0 n)

@@ -13,8 +13,8 @@ use Rattle.dependence_graph.specs.nest_graph.References.{references_of, variable
 abbrev pub all_zero : List ℤ → Bool
 all_zero as' = list_all (λ a. int_eq a (pos 0)) as'
 
-abbrev pub is_zero : Form → Bool
-is_zero f = all_zero f.coefficients && int_eq f.constant (pos 0)
+abbrev pub is_no_difference : Form → Bool
+is_no_difference f = all_zero f.coefficients && int_eq f.constant (pos 0)
 
 abbrev pub has_no_symbol : List (ℕ × ℤ) → Bool
 has_no_symbol ts = list_all (λ (t : ℕ × ℤ). int_eq t.1 (pos 0)) ts
@@ -27,18 +27,19 @@ is_zero_affine a = all_zero a.loops && (has_no_symbol a.syms && int_eq a.constan
 abbrev pub same_form : Option Form → Option Form → Bool
 same_form None g = false
 same_form (Some f) None = false
-same_form (Some f) (Some g) = is_zero (sum f (multiple (negsuc 0) g))
+same_form (Some f) (Some g) = is_no_difference (sum f (multiple (negsuc 0) g))
 
 module _ (loops symbols : List (List ℕ)) where
-  abbrev pub subscript_form : Subscript → Option Form
-  subscript_form (Only e) = form_of loops symbols e
-  subscript_form (Section a b s) = None
+  abbrev pub form_of_subscript : Subscript → Option Form
+  form_of_subscript (Only e) = form_of loops symbols e
+  form_of_subscript (Section a b s) = None
 
   abbrev pub same_forms : Subscripts → Subscripts → Bool
   same_forms no_subscripts no_subscripts = true
   same_forms no_subscripts (subscript q qs) = false
   same_forms (subscript p ps) no_subscripts = false
-  same_forms (subscript p ps) (subscript q qs) = same_form (subscript_form p) (subscript_form q) && same_forms ps qs
+  same_forms (subscript p ps) (subscript q qs) =
+      same_form (form_of_subscript p) (form_of_subscript q) && same_forms ps qs
 
   -- the reference is of another name, or of the same element
   abbrev pub reads_what_is_written : Reference → Reference → Bool

@@ -4,8 +4,8 @@ ghost use Rattle.std.specs.Option.{option_map};
 ghost use Rattle.nest.specs.Plain.{no_parts, part, parts, Turns};
 ghost use Rattle.nest.specs.View.{loop_of, part_of};
 ghost use Rattle.interchange.specs.Arranged.{in_order};
-ghost use Rattle.interchange.specs.Chains.{are_statements, chain_in, chain_of, in_loops, is_statement};
-ghost use Rattle.interchange.specs.Chains.{part_in_loops, within};
+ghost use Rattle.interchange.specs.Chains.{are_statements, chain_in, chain_of, in_loops, is_statement_part};
+ghost use Rattle.interchange.specs.Chains.{part_in_loops, chain_within};
 ghost use Rattle.interchange.specs.View.{chain_of as plain_chain};
 
 use nest::{Loop, Part, copy_parts};
@@ -21,7 +21,7 @@ pub(crate) struct Chain {
 
 #[tactic(auto, using(nest::proofs::Equations::part_equations))]
 fn is_statement(part: &Part) -> bool
-    ensures { result ≡ is_statement (part_of part.now) }
+    ensures { result ≡ is_statement_part (part_of part.now) }
 {
     match part {
         Part::Run(_) => true,
@@ -40,7 +40,7 @@ fn are_statements(body: &[Part]) -> bool
 
 // The chain with one more loop round it.
 fn within(alloc: Global, turns: &Loop, chain: Chain) -> Result<Chain, Memory>
-    ensures { IfOk result (λ c. Some (plain_chain c) ≡ within (loop_of turns.now) (Some (plain_chain chain))) }
+    ensures { IfOk result (λ c. Some (plain_chain c) ≡ chain_within (loop_of turns.now) (Some (plain_chain chain))) }
 {
     let Chain { loops, body } = chain;
     let mut all = loops.into_vec();

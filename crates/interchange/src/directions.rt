@@ -1,12 +1,12 @@
 //! Direction vectors in an order of the loops.
 ghost use Rattle.std.specs.Prelude.{◌≡◌};
-ghost use Rattle.interchange.specs.Orders.{begins_at, carries, direction, directions, is_same, keeps_all};
+ghost use Rattle.interchange.specs.Orders.{begins_at, carries, direction, directions, is_equal_direction, keeps_all};
 ghost use Rattle.interchange.specs.Orders.{leads_forward};
 
 use subscripts::{Dir, Dirs};
 
 fn is_same(dir: Dir) -> bool
-    ensures { result ≡ is_same dir }
+    ensures { result ≡ is_equal_direction dir }
 {
     match dir {
         Dir::Eq => true,

@@ -1,6 +1,6 @@
 //! The edges that are looked at.
 ghost use Rattle.std.specs.Prelude.{◌≡◌, ◌∷◌, ◌++◌, [], IfOk, OnOk};
-ghost use Rattle.interchange.specs.Arranged.{is_anti, is_own_anti, vectors_of};
+ghost use Rattle.interchange.specs.Arranged.{is_antidependence, is_own_antidependence, vectors_of};
 
 use dependence_graph::graphs::{Dep, Edge};
 use std::alloc::Global;
@@ -8,7 +8,7 @@ use subscripts::Dirs;
 use tree::{Memory, Seq};
 
 fn is_anti(kind: Dep) -> bool
-    ensures { result ≡ is_anti kind }
+    ensures { result ≡ is_antidependence kind }
 {
     match kind {
         Dep::Anti => true,
@@ -18,7 +18,7 @@ fn is_anti(kind: Dep) -> bool
 
 // Whether it is an antidependence of a statement on itself.
 fn is_own_anti(edge: &Edge) -> bool
-    ensures { result ≡ is_own_anti edge.now }
+    ensures { result ≡ is_own_antidependence edge.now }
 {
     is_anti(edge.kind) && edge.from.stmt == edge.to.stmt
 }

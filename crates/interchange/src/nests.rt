@@ -5,7 +5,7 @@ ghost use Rattle.nest.specs.View.{loop_of, made_of, nest_of, part_of};
 ghost use Rattle.linear_forms.specs.Canonical.{canonising};
 ghost use Rattle.nest_rewrite.specs.Rewritten.{rewritten};
 ghost use Rattle.dependence_graph.specs.nest_graph.Ready.{HaveTrips, IsReady};
-ghost use Rattle.interchange.specs.Arranged.{arranged_chain, body_in, trips_of, with_moved_loops, with_order};
+ghost use Rattle.interchange.specs.Arranged.{arranged_chain, body_in, free_trips_of, with_moved_loops, with_order};
 ghost use Rattle.interchange.specs.Chains.{chain_of};
 ghost use Rattle.interchange.specs.View.{chain_of as plain_chain};
 
@@ -107,7 +107,7 @@ fn arrange_chain(
     requires few { length chain.loops ≤ 7 }
     requires trips { HaveTrips 0 (map loop_of chain.loops) }
     ensures { IfOk result (λ new. option_map nest_of new
-        ≡ arranged_chain (nest_of nest.now) vectors.now (plain_chain chain) (trips_of (map loop_of chain.loops))) }
+        ≡ arranged_chain (nest_of nest.now) vectors.now (plain_chain chain) (free_trips_of (map loop_of chain.loops))) }
 {
     let Some(trips) = trips_of(alloc, chain.loops.as_slice())? else {
         return Ok(None);

@@ -2,7 +2,8 @@
 ghost use Rattle.std.specs.Prelude.{◌≡◌, ◌<◌, ◌-◌, ◌+◌, false, Some, IfOk, length};
 ghost use Rattle.std.specs.List.{find, range_with_len};
 ghost use Rattle.interchange.specs.Arranged.{is_changed};
-ghost use Rattle.interchange.specs.Orders.{carries, is_fit, may_move, moved, moved_if_found, order_of, settled};
+ghost use Rattle.interchange.specs.Orders.{carries, is_fit, may_move, moved, moved_if_found, order_of};
+ghost use Rattle.interchange.specs.Orders.{settled_at_place};
 
 use crate::directions::{carries, keeps_all};
 use crate::trips::{all_turn, is_countable, same_trip};
@@ -102,7 +103,7 @@ impl Known<'_> {
     fn settled(&self, alloc: Global, order: Vec<usize>, to: usize) -> Result<Vec<usize>, Memory>
         requires { to < length order.items }
         ensures { IfOk result (λ new. new.items
-            ≡ settled self.now.trips.now self.now.spans.now self.now.vectors.now order.items to) }
+            ≡ settled_at_place self.now.trips.now self.now.spans.now self.now.vectors.now order.items to) }
     {
         if carries(self.vectors, order.as_slice(), to) {
             return Ok(order);

@@ -2,7 +2,7 @@
 ghost use Rattle.std.specs.Prelude.{◌≡◌, map, slice_get, IfOk};
 ghost use Rattle.std.specs.List.{list_all};
 ghost use Rattle.nest.specs.View.{loop_of};
-ghost use Rattle.interchange.specs.Arranged.{has_no_loop, trips_of, without_loops};
+ghost use Rattle.interchange.specs.Arranged.{is_loop_free, free_trips_of, if_loop_free};
 ghost use Rattle.interchange.specs.Orders.{has_constant, has_turn, is_count, same_terms, same_trip};
 
 use nest::{Loop, Trip};
@@ -94,13 +94,13 @@ pub(crate) fn same_trip(one: Option<Trip>, other: Option<Trip>) -> bool
 
 // Whether no loop's variable stands in a trip.
 fn has_no_loop(trip: &Trip) -> bool
-    ensures { result ≡ has_no_loop trip.now }
+    ensures { result ≡ is_loop_free trip.now }
 {
     trip.top.loops.iter().all(|number| *number == 0)
 }
 
 fn without_loops(trip: Option<Trip>) -> Option<Trip>
-    ensures { result ≡ without_loops trip }
+    ensures { result ≡ if_loop_free trip }
 {
     let Some(trip) = trip else {
         return None;
@@ -114,7 +114,7 @@ fn without_loops(trip: Option<Trip>) -> Option<Trip>
 /// The trips of loops, where in each there is no variable of a loop.
 #[tactic(auto, using(crate::proofs::ListLaws::list_laws))]
 pub(crate) fn trips_of(alloc: Global, loops: &[Loop]) -> Result<Option<Seq<Trip>>, Memory>
-    ensures { IfOk result (λ trips. trips ≡ trips_of (map loop_of loops.now)) }
+    ensures { IfOk result (λ trips. trips ≡ free_trips_of (map loop_of loops.now)) }
 {
     let mut trips = Seq::new(alloc);
     for turns in loops {

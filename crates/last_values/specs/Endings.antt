@@ -38,8 +38,8 @@ where_all_hold line [] cs = cs
 where_all_hold line (t ∷ ts) cs = only_where line (all_hold t ts) cs ∷ []
 
 -- v is the variable of a loop with this trip
-abbrev pub ending : ℕ → List ℕ → Trip → Texts → List Statement
-ending line v trip t =
+abbrev pub loop_ending : ℕ → List ℕ → Trip → Texts → List Statement
+loop_ending line v trip t =
     if is_positive trip then assigned line v t.end ∷ []
     else if is_known trip then assigned line v t.first ∷ []
     else assigned line v t.first ∷ only_where line (at_least_one t.trip) (assigned line v t.end ∷ []) ∷ []
@@ -56,7 +56,7 @@ last_texts symbols round f = record {
 -- by the forms of the loop in the last turn of each loop round it, where these loops have a turn
 abbrev pub ending_behind : List (List ℕ) → ℕ → List NormalLoop → NormalLoop → LastForms → List Statement
 ending_behind symbols line round r f =
-    where_all_hold line (tests_of symbols round) (ending line r.variable f.trip (last_texts symbols round f))
+    where_all_hold line (tests_of symbols round) (loop_ending line r.variable f.trip (last_texts symbols round f))
 
 abbrev pub with_last_forms :
     List (List ℕ) → ℕ → List NormalLoop → NormalLoop → Option LastForms → Option (List Statement)

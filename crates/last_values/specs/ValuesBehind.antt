@@ -7,15 +7,15 @@ use Rattle.last_values.specs.declared.behind.NestedLoop.{NestedLoop}
 use Rattle.last_values.specs.Endings.{after_statements}
 use Rattle.last_values.specs.Behind.{stands_behind}
 
-abbrev pub or_none : Option (List Statement) → List Statement
-or_none None = []
-or_none (Some cs) = cs
+abbrev pub statements_or_none : Option (List Statement) → List Statement
+statements_or_none None = []
+statements_or_none (Some cs) = cs
 
 -- what a loop leaves behind all loops
 abbrev pub left_behind : List (List ℕ) → ℕ → List NestedLoop → Part → NestedLoop → List Statement
 left_behind symbols line ls p l =
     if stands_behind (length symbols) ls p l.turns.variable
-    then or_none (after_statements symbols line l.round l.turns) else []
+    then statements_or_none (after_statements symbols line l.round l.turns) else []
 
 -- the last values behind all loops, in the order of these loops
 unfoldable pub values_behind : List (List ℕ) → ℕ → List NestedLoop → Part → Block

@@ -5,7 +5,7 @@ ghost use Rattle.tree.specs.Plain.{Binary};
 ghost use Rattle.tree.specs.declared.ops.Op.TheVariants.{And};
 ghost use Rattle.tree.specs.View.{expression_of, reference_of, statement_of, block_of};
 ghost use Rattle.last_values.specs.normal_forms.Texts.{at_least_one};
-ghost use Rattle.last_values.specs.Endings.{assigned, only_where, all_hold, where_all_hold, ending};
+ghost use Rattle.last_values.specs.Endings.{assigned, only_where, all_hold, where_all_hold, loop_ending};
 ghost use Rattle.last_values.specs.Scalars.{scalar};
 ghost use Rattle.last_values.specs.View.{texts_of, after_block};
 ghost use Rattle.last_values.specs.Endings.{ending_behind, after_statements};
@@ -118,7 +118,7 @@ fn ending(
     trip: &Trip,
     texts: LastTexts,
 ) -> Result<Seq<Stmt>, Memory>
-    ensures { IfOk result (λ stmts. map statement_of stmts ≡ ending line variable trip.now (texts_of texts)) }
+    ensures { IfOk result (λ stmts. map statement_of stmts ≡ loop_ending line variable trip.now (texts_of texts)) }
 {
     let LastTexts {
         first,

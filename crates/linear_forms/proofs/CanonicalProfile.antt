@@ -20,6 +20,7 @@ use Rattle.tree.specs.declared.ops.Value.TheVariants.{Int, Truth}
 use Rattle.tree.specs.Plain.{Expression, Number, Logic, Named, Unary, Binary, Apply, Constructor, Spread, Transpose, Reshape, Reduce, Expressions, no_expressions, expression, no_subscripts, subscript, Declaration}
 use Rattle.meaning.specs.Depths.{level, enclosed, depth_of}
 use Rattle.meaning.specs.Dialect.{fortran77}
+use Rattle.tree.specs.declared.width.Width.TheVariants.{Plain}
 use Rattle.meaning.specs.Store.{cell_at}
 use Rattle.meaning.specs.Typed.{declared, rank_of_extent}
 use Rattle.meaning.specs.Typed90.{HasKind, AreArguments, IsIntegerScalar, rank_of, rank_of_each}
@@ -104,24 +105,24 @@ module _ (es : List Declaration) where
     kind : Suits v k
 
   mutual
-    constant_is : (e : Expression) (v : Value) (k : Kind) → value_of fortran77 e no_store ≡ Ok v → HasKind es e k → IsConstantOf e v k
+    constant_is : (e : Expression) (v : Value) (k : Kind) → value_of (fortran77 Plain) e no_store ≡ Ok v → HasKind es e k → IsConstantOf e v k
     constant_is (Number n) v k h t = record { rank = refl; kind = integer_suits v k t.1 }
     constant_is (Logic b) v k h t = record { rank = refl; kind = truth_suits b v k h }
     constant_is (Named x ps) v k h t =
-        let p = parted (subscript_values fortran77 ps no_store) (λ is. do c ← cell_at x is no_store; Ok (no_store.held c)) v h in
+        let p = parted (subscript_values (fortran77 Plain) ps no_store) (λ is. do c ← cell_at x is no_store; Ok (no_store.held c)) v h in
         let e = p.second in cc
     constant_is (Unary o a) v k h t =
-        let p = parted (value_of fortran77 a no_store) (λ x. apply o x x) v h in
+        let p = parted (value_of (fortran77 Plain) a no_store) (λ x. apply o x x) v h in
         record { rank = (constant_is a p.part _ p.first t.2).rank; kind = result_suits o p.part p.part v k t.1 p.second }
     constant_is (Binary o a b) v k h t =
-        let p = parted (value_of fortran77 a no_store) (λ x. do y ← value_of fortran77 b no_store; apply o x y) v h in
-        let q = parted (value_of fortran77 b no_store) (λ y. apply o p.part y) v p.second in
+        let p = parted (value_of (fortran77 Plain) a no_store) (λ x. do y ← value_of (fortran77 Plain) b no_store; apply o x y) v h in
+        let q = parted (value_of (fortran77 Plain) b no_store) (λ y. apply o p.part y) v p.second in
         record {
           rank = no_rank_of_two (rank_of es a) (rank_of es b) (constant_is a p.part _ p.first t.2).rank (constant_is b q.part _ q.first t.3).rank;
           kind = result_suits o p.part q.part v k t.1 q.second;
         }
     constant_is (Apply f vs) v k h t =
-        let p = parted (values_of fortran77 vs no_store) (λ xs. call f xs) v h in
+        let p = parted (values_of (fortran77 Plain) vs no_store) (λ xs. call f xs) v h in
         record { rank = no_rank_of_each vs p.part p.first t.3; kind = integer_suits v k t.2 }
     constant_is (Constructor vs ls) v k h t = cc
     constant_is (Spread a i b) v k h t = cc
@@ -129,11 +130,11 @@ module _ (es : List Declaration) where
     constant_is (Reshape a vs) v k h t = cc
     constant_is (Reduce r a) v k h t = cc
 
-    no_rank_of_each : (vs : Expressions) (xs : List Value) → values_of fortran77 vs no_store ≡ Ok xs → AreArguments es vs → rank_of_each es vs ≡ 0
+    no_rank_of_each : (vs : Expressions) (xs : List Value) → values_of (fortran77 Plain) vs no_store ≡ Ok xs → AreArguments es vs → rank_of_each es vs ≡ 0
     no_rank_of_each no_expressions xs h t = refl
     no_rank_of_each (expression e vs) xs h t =
-        let p = parted (value_of fortran77 e no_store) (λ x. do xs ← values_of fortran77 vs no_store; Ok (x ∷ xs)) xs h in
-        let q = parted (values_of fortran77 vs no_store) (λ xs. Ok (p.part ∷ xs)) xs p.second in
+        let p = parted (value_of (fortran77 Plain) e no_store) (λ x. do xs ← values_of (fortran77 Plain) vs no_store; Ok (x ∷ xs)) xs h in
+        let q = parted (values_of (fortran77 Plain) vs no_store) (λ xs. Ok (p.part ∷ xs)) xs p.second in
         no_rank_of_two (rank_of es e) (rank_of_each es vs) (constant_is e p.part _ p.first t.0).rank (no_rank_of_each vs q.part q.first t.2)
 
   -- ---- an expression with a form is an INTEGER scalar, where its names are
@@ -144,7 +145,7 @@ module _ (es : List Declaration) where
 
   number_of_constant : (e : Expression) (k : Kind) (z : ℤ) → constant_of e ≡ Some z → HasKind es e k → IsNumber e k
   number_of_constant e k z h t =
-      let c = constant_is e (Int z) k (as_constant-is (value_of fortran77 e no_store) z h) t in
+      let c = constant_is e (Int z) k (as_constant-is (value_of (fortran77 Plain) e no_store) z h) t in
       record { rank = c.rank; kind = c.kind }
 
   among : (names : List (List ℕ)) (x : List ℕ) (cs : List ℤ) → AreIntegerScalars es names → unit names x ≡ Some cs → IsIntegerScalar es x

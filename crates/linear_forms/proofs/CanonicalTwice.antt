@@ -20,6 +20,7 @@ use Rattle.tree.specs.declared.ops.Value.{Value}
 use Rattle.tree.specs.declared.ops.Value.TheVariants.{Int}
 use Rattle.tree.specs.Plain.{Expression, Number, Named, Unary, Binary, no_subscripts}
 use Rattle.meaning.specs.Dialect.{fortran77}
+use Rattle.tree.specs.declared.width.Width.TheVariants.{Plain}
 use Rattle.meaning.specs.Names.{is_among}
 use Rattle.meaning.specs.Value.{value_of}
 use Rattle.rewrite.specs.Making.{made}
@@ -198,7 +199,7 @@ module _ (loops symbols : List (List ℕ)) (few : length loops ≤ 7) where
     is : form_of_part e ≡ Some (form0 coefficients)
     alike : Alike coefficients ps
     stuck : Fault
-    no_value : value_of fortran77 e no_store ≡ Err stuck
+    no_value : value_of (fortran77 Plain) e no_store ≡ Err stuck
 
   abbrev IsLimited : List ℤ → Type 0
   IsLimited ps = is_limited (length loops) (form0 ps) ≡ true
@@ -211,7 +212,7 @@ module _ (loops symbols : List (List ℕ)) (few : length loops ≤ 7) where
   from_text first e qs ps h a t =
       stays first e (form0 qs) h (ap (λ (o : Option Expression). with_constant o (pos 0)) (places_alike None qs ps (variables names) a ∙ t))
 
-  constant_none : (e : Expression) (f : Fault) → value_of fortran77 e no_store ≡ Err f → constant_of e ≡ None
+  constant_none : (e : Expression) (f : Fault) → value_of (fortran77 Plain) e no_store ≡ Err f → constant_of e ≡ None
   constant_none e f h = ap (λ r. as_constant (known r)) h
 
   -- ---- a name, with its coefficient
@@ -282,8 +283,8 @@ module _ (loops symbols : List (List ℕ)) (few : length loops ≤ 7) where
       ap (λ c. limited (length loops) (constant_or c (pair_form o e t (form_of_part e) (form_of_part t)))) c
       ∙ ap₂ (λ p q. limited (length loops) (pair_form o e t p q)) h k
 
-  no_pair : (o : Op) (e t : Expression) (f : Fault) → value_of fortran77 e no_store ≡ Err f → value_of fortran77 (Binary o e t) no_store ≡ Err f
-  no_pair o e t f h = ap (λ r. do x ← r; y ← value_of fortran77 t no_store; apply o x y) h
+  no_pair : (o : Op) (e t : Expression) (f : Fault) → value_of (fortran77 Plain) e no_store ≡ Err f → value_of (fortran77 Plain) (Binary o e t) no_store ≡ Err f
+  no_pair o e t f h = ap (λ r. do x ← r; y ← value_of (fortran77 Plain) t no_store; apply o x y) h
 
   both_fixed : (o : Op) (e t : Expression) → settled e ≡ e → settled t ≡ t → node (Binary o e t) (Binary o e t) ≡ Binary o e t → settled (Binary o e t) ≡ Binary o e t
   both_fixed o e t h k n = ap₂ (λ a b. node (Binary o e t) (Binary o a b)) h k ∙ n
@@ -337,7 +338,7 @@ module _ (loops symbols : List (List ℕ)) (few : length loops ≤ 7) where
   negative_kept t us ws b w l x =
       let qs = map (λ a. negsuc 0 *ℤ a) b.coefficients in
       let alike : Alike qs ws = (λ k. multiple-at (negsuc 0) b.coefficients k ∙ (ap (λ q. negsuc 0 *ℤ q) (b.alike k) ∙ sym (w k))) in
-      let none : value_of fortran77 (Unary Neg t) no_store ≡ Err b.stuck = ap (λ r. do x ← r; apply Neg x x) b.no_value in
+      let none : value_of (fortran77 Plain) (Unary Neg t) no_store ≡ Err b.stuck = ap (λ r. do x ← r; apply Neg x x) b.no_value in
       let form : form_of_part (Unary Neg t) ≡ Some (form0 qs) =
       ap (λ c. limited (length loops) (constant_or c (form_of_sign Neg (form_of_part t)))) (constant_none (Unary Neg t) b.stuck none)
       ∙ (ap (λ o. limited (length loops) (form_of_sign Neg o)) b.is

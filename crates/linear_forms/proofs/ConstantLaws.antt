@@ -27,6 +27,7 @@ use Rattle.tree.specs.Arguments.{added, finished}
 use Rattle.tree.proofs.Calls.{finished_is}
 use Rattle.tree.proofs.Equations.{expression_of-int, expression_of-truth, expression_of-item, expression_of-un, expression_of-bin, expression_of-call, expression_of-list, expression_of-spread, expression_of-transpose, expression_of-reshape, expression_of-reduce}
 use Rattle.meaning.specs.Dialect.{fortran77}
+use Rattle.tree.specs.declared.width.Width.TheVariants.{Plain}
 use Rattle.meaning.specs.Value.{value_of, values_of, subscript_values}
 use Rattle.linear_forms.specs.Linear.{no_store, known, constant_value}
 
@@ -37,21 +38,21 @@ known_some (Err f) x h = cc
 -- ---- plain expressions
 
 none_named : (x : List ℕ) (ps : P.Subscripts) → constant_value (P.Named x ps) ≡ None
-none_named x ps = by (subscript_values fortran77 ps no_store)
+none_named x ps = by (subscript_values (fortran77 Plain) ps no_store)
   where
     by : (r : Result (List ℤ) Fault) → known (◌>>=◌ r (λ is. ◌>>=◌ (Err Allocated) (λ c. Ok (no_store.held c)))) ≡ None
     by (Ok is) = refl
     by (Err f) = refl
 
 un_some : (o : Op) (a : P.Expression) (x : Value) → Some x ≡ constant_value a → constant_value (P.Unary o a) ≡ known (apply o x x)
-un_some o a x h = ap (λ (r : Result Value Fault). known (do x ← r; apply o x x)) (known_some (value_of fortran77 a no_store) x h)
+un_some o a x h = ap (λ (r : Result Value Fault). known (do x ← r; apply o x x)) (known_some (value_of (fortran77 Plain) a no_store) x h)
 
 none_un : (o : Op) (r : Result Value Fault) → None ≡ known r → known (do x ← r; apply o x x) ≡ None
 none_un o (Ok y) h = cc
 none_un o (Err f) h = refl
 
 bin_some : (o : Op) (a b : P.Expression) (x y : Value) → Some x ≡ constant_value a → Some y ≡ constant_value b → constant_value (P.Binary o a b) ≡ known (apply o x y)
-bin_some o a b x y h g = ap₂ (λ (r q : Result Value Fault). known (do x ← r; y ← q; apply o x y)) (known_some (value_of fortran77 a no_store) x h) (known_some (value_of fortran77 b no_store) y g)
+bin_some o a b x y h g = ap₂ (λ (r q : Result Value Fault). known (do x ← r; y ← q; apply o x y)) (known_some (value_of (fortran77 Plain) a no_store) x h) (known_some (value_of (fortran77 Plain) b no_store) y g)
 
 none_first : (o : Op) (r q : Result Value Fault) → None ≡ known r → known (do x ← r; y ← q; apply o x y) ≡ None
 none_first o (Ok y) q h = cc
@@ -66,16 +67,16 @@ pub plain_un_some : (o : Op) (a : P.Expression) (x : Value) → Some x ≡ const
 plain_un_some = un_some
 
 pub plain_un_none : (o : Op) (a : P.Expression) → None ≡ constant_value a → constant_value (P.Unary o a) ≡ None
-plain_un_none o a h = none_un o (value_of fortran77 a no_store) h
+plain_un_none o a h = none_un o (value_of (fortran77 Plain) a no_store) h
 
 pub plain_bin_some : (o : Op) (a b : P.Expression) (x y : Value) → Some x ≡ constant_value a → Some y ≡ constant_value b → constant_value (P.Binary o a b) ≡ known (apply o x y)
 plain_bin_some = bin_some
 
 pub plain_bin_first : (o : Op) (a b : P.Expression) → None ≡ constant_value a → constant_value (P.Binary o a b) ≡ None
-plain_bin_first o a b h = none_first o (value_of fortran77 a no_store) (value_of fortran77 b no_store) h
+plain_bin_first o a b h = none_first o (value_of (fortran77 Plain) a no_store) (value_of (fortran77 Plain) b no_store) h
 
 pub plain_bin_second : (o : Op) (a b : P.Expression) → None ≡ constant_value b → constant_value (P.Binary o a b) ≡ None
-plain_bin_second o a b h = none_second o (value_of fortran77 a no_store) (value_of fortran77 b no_store) h
+plain_bin_second o a b h = none_second o (value_of (fortran77 Plain) a no_store) (value_of (fortran77 Plain) b no_store) h
 
 pub plain_named : (x : List ℕ) (ps : P.Subscripts) → constant_value (P.Named x ps) ≡ None
 plain_named = none_named
@@ -136,7 +137,7 @@ taken_on f given x (Err e) = refl
 
 -- the value of a call, where some arguments were taken and these are left
 pub left_to_call : Fun → Arguments → List Expr → Option Value
-left_to_call f given es = known (do xs ← values_of fortran77 (P.expressions (map expression_of es)) no_store; finished f (fold (added f) given xs))
+left_to_call f given es = known (do xs ← values_of (fortran77 Plain) (P.expressions (map expression_of es)) no_store; finished f (fold (added f) given xs))
 
 called : (f : Fun) (q : Result (List Value) Fault) → ◌≡◌ {A = Result Value Fault} (do xs ← q; call f xs) (do xs ← q; finished f (fold (added f) Empty xs))
 called f (Ok xs) = sym (finished_is f xs)
@@ -144,7 +145,7 @@ called f (Err e) = refl
 
 pub call_begun : (f : Fun) (es : List Expr) → constant_value (P.Apply f (P.expressions (map expression_of es))) ≡ left_to_call f Empty es
 unfolding left_to_call
-call_begun f es = ap known (called f (values_of fortran77 (P.expressions (map expression_of es)) no_store))
+call_begun f es = ap known (called f (values_of (fortran77 Plain) (P.expressions (map expression_of es)) no_store))
 
 pub call_done : (f : Fun) (given : Arguments) → left_to_call f given [] ≡ known (finished f given)
 unfolding left_to_call
@@ -157,15 +158,15 @@ none_left f given (Err e) q h = refl
 
 pub call_fault : (f : Fun) (given : Arguments) (e : Expr) (es : List Expr) → None ≡ constant_value (expression_of e) → left_to_call f given (e ∷ es) ≡ None
 unfolding left_to_call
-call_fault f given e es h = none_left f given (value_of fortran77 (expression_of e) no_store) (values_of fortran77 (P.expressions (map expression_of es)) no_store) h
+call_fault f given e es h = none_left f given (value_of (fortran77 Plain) (expression_of e) no_store) (values_of (fortran77 Plain) (P.expressions (map expression_of es)) no_store) h
 
 pub call_more : (f : Fun) (given : Arguments) (e : Expr) (es : List Expr) (x : Value) → Some x ≡ constant_value (expression_of e)
     → left_to_call f given (e ∷ es) ≡ left_to_call f (added f given x) es
 unfolding left_to_call
 call_more f given e es x h =
-    ap (λ (r : Result Value Fault). known (do xs ← (do x ← r; xs ← values_of fortran77 (P.expressions (map expression_of es)) no_store; Ok (x ∷ xs)); finished f (fold (added f) given xs)))
-    (known_some (value_of fortran77 (expression_of e) no_store) x h)
-    ∙ ap known (taken_on f given x (values_of fortran77 (P.expressions (map expression_of es)) no_store))
+    ap (λ (r : Result Value Fault). known (do xs ← (do x ← r; xs ← values_of (fortran77 Plain) (P.expressions (map expression_of es)) no_store; Ok (x ∷ xs)); finished f (fold (added f) given xs)))
+    (known_some (value_of (fortran77 Plain) (expression_of e) no_store) x h)
+    ∙ ap known (taken_on f given x (values_of (fortran77 Plain) (P.expressions (map expression_of es)) no_store))
 
 pub ruleset call_laws = (call_begun, call_done, call_fault, call_more)
 

@@ -15,6 +15,7 @@ use Rattle.tree.specs.declared.ops.Value.{Value}
 use Rattle.tree.specs.declared.ops.Value.TheVariants.{Int, Truth}
 use Rattle.tree.specs.Plain.{Expression, Number, Logic, Named, Unary, Binary, Apply, Constructor, Spread, Transpose, Reshape, Reduce, Subscripts, no_subscripts, subscript}
 use Rattle.meaning.specs.Dialect.{Dialect, fortran77}
+use Rattle.tree.specs.declared.width.Width.TheVariants.{Plain}
 use Rattle.meaning.specs.Store.{Store, cell_in}
 use Rattle.meaning.specs.Value.{value_of}
 use Rattle.linear_forms.proofs.Parts.{parted}
@@ -75,7 +76,7 @@ as_constant-is (Err f) z h = cc
 
 module _ (lang : Dialect) (loops : ℕ) (names : List (List ℕ)) (s : Store) (xs : List ℤ) (values : HaveValues names s xs) where
   pub constant-value : (e : Expression) (z : ℤ) → constant_of e ≡ Some z → value_of lang e s ≡ Ok (Int z)
-  constant-value e z h = storeless lang s e (Int z) (as_constant-is (value_of fortran77 e no_store) z h)
+  constant-value e z h = storeless lang s e (Int z) (as_constant-is (value_of (fortran77 Plain) e no_store) z h)
 
   same_answer : (e : Expression) (v w : Value) → value_of lang e s ≡ Ok v → value_of lang e s ≡ Ok w → v ≡ w
   same_answer e v w h k = let e = sym h ∙ k in cc

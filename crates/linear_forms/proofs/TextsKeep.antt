@@ -16,6 +16,7 @@ use Rattle.tree.specs.declared.ops.Value.{Value}
 use Rattle.tree.specs.declared.ops.Value.TheVariants.{Int, Truth}
 use Rattle.tree.specs.Plain.{Expression, Number, Logic, Named, Unary, Binary, Apply, Constructor, Spread, Transpose, Reshape, Reduce, Subscripts, no_subscripts, subscript}
 use Rattle.meaning.specs.Dialect.{Dialect, fortran77}
+use Rattle.tree.specs.declared.width.Width.TheVariants.{Plain}
 use Rattle.meaning.specs.Store.{Store, Cell, cell_in}
 use Rattle.meaning.specs.Value.{value_of}
 use Rattle.linear_forms.proofs.Parts.{parted}
@@ -202,7 +203,7 @@ module _ (lang : Dialect) (s : Store) (sized : HoldsSized s) where
     IsFormed e = (f : Form) (z : ℤ) → linear loops names e ≡ Some f → value_of lang e s ≡ Ok (Int z) → IsNumberOf f z
 
     constant-is : (e : Expression) (k z : ℤ) → constant_of e ≡ Some k → value_of lang e s ≡ Ok (Int z) → z ≡ k
-    constant-is e k z h v = let w = storeless lang s e (Int k) (as_constant-is (value_of fortran77 e no_store) k h) in let e = sym v ∙ w in cc
+    constant-is e k z h v = let w = storeless lang s e (Int k) (as_constant-is (value_of (fortran77 Plain) e no_store) k h) in let e = sym v ∙ w in cc
 
     constant_formed : (e : Expression) (k z : ℤ) (f : Form) → constant_of e ≡ Some k → Some (constant_form k) ≡ Some f → value_of lang e s ≡ Ok (Int z) → IsNumberOf f z
     constant_formed e k z f h g v =
@@ -332,7 +333,7 @@ module _ (lang : Dialect) (s : Store) (sized : HoldsSized s) where
     sign_not_truth o q f x b h e = cc
 
     constant_not_truth : (e : Expression) (k : ℤ) (b : Bool) → constant_of e ≡ Some k → value_of lang e s ≡ Ok (Truth b) → ⊥
-    constant_not_truth e k b h v = let w = storeless lang s e (Int k) (as_constant-is (value_of fortran77 e no_store) k h) in let e = sym v ∙ w in cc
+    constant_not_truth e k b h v = let w = storeless lang s e (Int k) (as_constant-is (value_of (fortran77 Plain) e no_store) k h) in let e = sym v ∙ w in cc
 
     only_constant_not_truth : (e : Expression) (f : Form) (b : Bool) (o : Option ℤ) → constant_of e ≡ o → constant_or o None ≡ Some f → value_of lang e s ≡ Ok (Truth b) → ⊥
     only_constant_not_truth e f b (Some k) g h v = constant_not_truth e k b g v

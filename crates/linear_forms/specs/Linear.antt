@@ -13,6 +13,7 @@ use Rattle.tree.specs.declared.ops.Value.{Value}
 use Rattle.tree.specs.declared.ops.Value.TheVariants.{Int, Truth}
 use Rattle.tree.specs.declared.ops.Fault.{Fault}
 use Rattle.meaning.specs.Dialect.{fortran77}
+use Rattle.tree.specs.declared.width.Width.TheVariants.{Plain}
 use Rattle.meaning.specs.Store.{Store}
 use Rattle.meaning.specs.Value.{value_of}
 
@@ -88,7 +89,7 @@ known (Err f) = None
 
 -- the value of an expression without references, where it meets no fault
 abbrev pub constant_value : Expression → Option Value
-constant_value e = known (value_of fortran77 e no_store)
+constant_value e = known (value_of (fortran77 Plain) e no_store)
 
 abbrev pub as_constant : Option Value → Option ℤ
 as_constant (Some (Int z)) = Some z

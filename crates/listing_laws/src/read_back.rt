@@ -17,44 +17,45 @@ ghost use Rattle.listing_laws.specs.read_back.Laws.{ProgramListingIsRead, SameLi
 ghost use Rattle.listing_laws.specs.read_back.Laws.{SourceListingIsRead, SourceListingTextIsRead};
 ghost use Rattle.listing_laws.specs.read_back.Laws.{SourceListingIsCaused, SourceListingIsExpanded};
 ghost use Rattle.listing_laws.specs.read_back.Laws.{SourceListingIsSubstituted, SourceListingTextLists};
+ghost use Rattle.tree.specs.declared.width.Width.{Width};
 
 /// From the lines of a program's listing all its entries are read: its nests with their loops, statements, dependences
 /// and holds, and its kept loops.
 pub fn listing_of_program_is_read()
-    ensures { ProgramListingIsRead }
+    ensures { (width : Width) → ProgramListingIsRead width }
 {}
 
 /// So from the lines that are listed of a FORTRAN 77 source all their entries are read.
 pub fn listing_of_source_is_read()
-    ensures { SourceListingIsRead }
+    ensures { (width : Width) → SourceListingIsRead width }
 {}
 
 /// They are read also from the text of the listing, which has these lines.
 pub fn listing_text_of_source_is_read()
-    ensures { SourceListingTextIsRead }
+    ensures { (width : Width) → SourceListingTextIsRead width }
 {}
 
 /// The lines of that text, each of which a line feed ends, list the program that the source is.
 pub fn listing_text_of_source_lists()
-    ensures { SourceListingTextLists }
+    ensures { (width : Width) → SourceListingTextLists width }
 {}
 
 /// In the statements that are listed of a nest no private scalar is left.
 pub fn listing_of_source_is_expanded()
-    ensures { SourceListingIsExpanded }
+    ensures { (width : Width) → SourceListingIsExpanded width }
 {}
 
 /// In the statements that are listed of a nest no induction is written.
 pub fn listing_of_source_is_substituted()
-    ensures { SourceListingIsSubstituted }
+    ensures { (width : Width) → SourceListingIsSubstituted width }
 {}
 
 /// Each loop in which statements of a nest stand that is listed has its causes in what is listed.
 pub fn listing_of_source_is_caused()
-    ensures { SourceListingIsCaused }
+    ensures { (width : Width) → SourceListingIsCaused width }
 {}
 
 /// Where the listings of two sources have the same lines, they have the same entries.
 pub fn same_lines_list_the_same()
-    ensures { SameLinesListTheSame }
+    ensures { (width : Width) → SameLinesListTheSame width }
 {}

@@ -26,7 +26,7 @@ use Rattle.machine.specs.Statements.{HasArms, ArmsHaveArms, BlockHasArms, plain_
 use Rattle.machine.specs.Jumps.{way_at, arrived, passed, landed}
 use Rattle.std.proofs.Common.{[], ◌∷◌}
 use Rattle.tree.specs.Plain.{Logic}
-use Rattle.meaning.specs.Store.{bounds_of}
+use Rattle.meaning.specs.Store.{stored_bounds}
 use Rattle.meaning.specs.Value.{is_array, named}
 use Rattle.meaning.specs.ArrayStatements.{allocated_bounds}
 use Rattle.meaning.specs.Run.{Stopped, array_assigns, assigns, begins_line, reads_items, skips_line, writes, first_blank, prints_items, allocates, deallocates}
@@ -143,8 +143,8 @@ mutual
   Idles-does lang (Print line is) = Idles-counts_step lang (λ limit. then (writes (first_blank is)) (then (prints_items lang limit is line) (writes (10 ∷ []))))
   Idles-does lang (Allocate line x es) = Idles-either lang.arrays (λ limit. counts_step lang limit (evaluates line (allocated_bounds lang x es) (λ bs. allocates x bs))) (λ limit. nothing)
       (Idles-counts_step lang (λ limit. evaluates line (allocated_bounds lang x es) (λ bs. allocates x bs))) Idles-nothing
-  Idles-does lang (Deallocate line x) = Idles-either lang.arrays (λ limit. counts_step lang limit (evaluates line (bounds_of x) (λ bs. deallocates x))) (λ limit. nothing)
-      (Idles-counts_step lang (λ limit. evaluates line (bounds_of x) (λ bs. deallocates x))) Idles-nothing
+  Idles-does lang (Deallocate line x) = Idles-either lang.arrays (λ limit. counts_step lang limit (evaluates line (stored_bounds x) (λ bs. deallocates x))) (λ limit. nothing)
+      (Idles-counts_step lang (λ limit. evaluates line (stored_bounds x) (λ bs. deallocates x))) Idles-nothing
 
   Idles-does_all : (lang : Dialect) (b : Block) → Idles (λ limit. does_all lang limit b)
   Idles-does_all lang no_statements = Idles-nothing

@@ -1,11 +1,11 @@
 -- The store that values stand for, and the places of elements.
-use Rattle.std.proofs.Common.{◌≡◌, refl, zero, suc, ℕ, ℤ, ◌+◌, ◌*◌, ◌<◌, ◌≤◌, Bool, true, false, cond, List}
+use Rattle.std.proofs.Common.{◌≡◌, refl, sym, zero, suc, ℕ, ℤ, ◌+◌, ◌*◌, ◌<◌, ◌≤◌, Bool, true, false, cond, List}
 use Rattle.std.proofs.Common.{[], ◌∷◌, Option, Some, None, arith, rules, pos, negsuc, ◌-ℤ◌, ◌≤ℤ◌}
 use Rattle.std.proofs.lemmas.Float.{T_from_true}
 use Rattle.std.proofs.lemmas.Int.{ints}
 use Rattle.std.proofs.lemmas.Nat.{mul-add-lt}
 use Rattle.std.proofs.Math.Nat.{mul-le-mul_left}
-use Rattle.std.specs.Prelude.{int_le, ◌&&◌, nat_abs, ◌^◌, is_some}
+use Rattle.std.specs.Prelude.{int_le, ◌&&◌, nat_abs, ◌^◌, is_some, IfSome}
 use Rattle.tree.specs.Plain.{Declaration, Extent, Given, Later}
 use Rattle.tree.specs.declared.ops.Value.{Value}
 use Rattle.meaning.specs.Store.{Cell, is_within, opening_bounds, opening_value, size_of}
@@ -85,6 +85,11 @@ inner_bounds b bs h =
 
 pub rest_few : (b : ℤ × ℤ) (bs : List (ℤ × ℤ)) (r : ℕ) → AreBounds (b ∷ bs) → r < elements_of bs → size_of b * r ≤ 2 ^ 22
 rest_few b bs r h l = let m : size_of b * r ≤ size_of b * elements_of bs = mul-le-mul_left (size_of b) (omega arith) in omega (arith, h.few)
+
+-- the place of an element, by the place that its other subscripts give
+pub joined_below : (b : ℤ × ℤ) (bs : List (ℤ × ℤ)) (i : ℤ) (r : ℕ) (q : Option ℕ) → q ≡ joined b i (Some r) → r < elements_of bs → IfSome q (λ k. k < elements_of (b ∷ bs))
+joined_below b bs i r None e l = tt
+joined_below b bs i r (Some k) e l = offset_joined b i (Some r) k (elements_of bs) (λ s p. (let same : r ≡ s = cc in omega (arith, l))) (sym e)
 
 pub ruleset offset_laws = (inner_bounds, rest_few, offset_below)
 

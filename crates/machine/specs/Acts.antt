@@ -1,6 +1,5 @@
 -- What a machine's functions do to a moment, as acts of a run's definition.
-use Rattle.std.specs.Prelude.{◌≡◌, Result, Ok, Err, Option, Some, ℕ, ◌≤◌, ℤ}
-use Rattle.std.specs.Prelude.{List, [], ◌∷◌, ◌++◌}
+use Rattle.std.specs.Prelude.{◌≡◌, Result, Ok, Err, Option, Some, ℕ, ◌≤◌, ℤ, List, [], ◌∷◌, ◌++◌}
 use Rattle.std.specs.Io.KnownBytes.{append_known}
 use Rattle.tree.specs.Plain.{Declaration}
 use Rattle.tree.specs.declared.ops.Value.{Value}

@@ -1,7 +1,6 @@
 -- Jumps, and the labels where they end.
 use Rattle.std.specs.Prelude.{Result, Ok, Err, Option, Some, None, ℕ, ◌==◌, if◌then◌else◌}
-use Rattle.tree.specs.Plain.{Statement, Assignment, Where, If, Do, Label, GoTo, Stop, Read, Print, Allocate}
-use Rattle.tree.specs.Plain.{Deallocate}
+use Rattle.tree.specs.Plain.{Statement, Assignment, Where, If, Do, Label, GoTo, Stop, Read, Print, Allocate, Deallocate}
 use Rattle.meaning.specs.Run.{Way, Going, Jumping}
 use Rattle.machine.specs.declared.progress.Halt.{Halt}
 use Rattle.machine.specs.declared.progress.Halt.TheVariants.{Jump, Stop as Stop', Fault, Limit}

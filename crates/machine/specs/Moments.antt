@@ -5,7 +5,6 @@ use Rattle.tree.specs.Plain.{Declaration}
 use Rattle.tree.specs.declared.ops.Value.{Value}
 use Rattle.tree.specs.declared.ops.Fault.{Fault}
 use Rattle.tree.specs.declared.ops.Fault.TheVariants.{Overflow}
-use Rattle.meaning.specs.Dialect.{fortran77}
 use Rattle.meaning.specs.Store.{Store}
 use Rattle.meaning.specs.Value.{is_in_range}
 use Rattle.meaning.specs.Texts.{without_cr}
@@ -13,10 +12,6 @@ use Rattle.meaning.specs.Run.{State, Way, Going, Jumping, Stopped, Failed, Cut, 
 use Rattle.machine.specs.declared.progress.Progress.{Progress}
 use Rattle.machine.specs.declared.progress.Halt.{Halt}
 use Rattle.machine.specs.declared.progress.Halt.TheVariants.{Jump, Stop, Fault as Fault', Limit}
-
--- INTEGER holds -2 ^ bits to 2 ^ bits - 1, in the machines of both dialects
-abbrev pub integer_bits : ℕ
-integer_bits = fortran77.bits
 
 -- the names of a machine's program, the store that its values stand for, and how far the run is
 pub record Seen : Type 0 where

@@ -6,7 +6,7 @@ use Rattle.tree.specs.Operators.{fits}
 use Rattle.tree.specs.declared.ops.Value.{Value}
 use Rattle.tree.specs.declared.ops.Fault.{Fault}
 use Rattle.meaning.specs.Dialect.{Dialect}
-use Rattle.meaning.specs.Store.{Store, Cell, bounds_of, cells_of}
+use Rattle.meaning.specs.Store.{Store, Cell, stored_bounds, cells_of}
 use Rattle.meaning.specs.Texts.{signed_number, read_value}
 use Rattle.meaning.specs.Value.{is_in_range, cells_named}
 use Rattle.meaning.specs.Run.{Act, evaluates, for_each, takes_word, reads_into}
@@ -52,7 +52,7 @@ ReadsAt lang input line k old new r = (c : Cell) → place old.names c.name c.su
 -- all cells of a name
 abbrev pub all_cells : List ℕ → Store → Result (List Cell) Fault
 all_cells x s = do
-  bs ← bounds_of x s
+  bs ← stored_bounds x s
   Ok (cells_of x bs)
 
 abbrev pub reads_all : Dialect → Option ℕ → ℕ → List ℕ → Act

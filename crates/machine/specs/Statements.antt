@@ -1,7 +1,6 @@
 -- Statements, as a machine does them.
 use Rattle.std.specs.Prelude.{Result, Ok, Err, Option, ℕ, Bool, true, false, List, map, IsTrue}
-use Rattle.tree.specs.Plain.{Statement, Assignment, Where, If, Do, Label, GoTo, Stop, Read, Print, Allocate}
-use Rattle.tree.specs.Plain.{Deallocate}
+use Rattle.tree.specs.Plain.{Statement, Assignment, Where, If, Do, Label, GoTo, Stop, Read, Print, Allocate, Deallocate}
 use Rattle.tree.specs.Plain.{Arms, no_arms, arm, Block, no_statements, statement, Items}
 use Rattle.tree.specs.View.{arms, tested_of}
 use Rattle.tree.specs.declared.stmts.Arm.{Arm}

@@ -2,7 +2,7 @@
 -- the
 -- elements of an array in column-major order (ANSI X3.9-1978, section 5.2.5).
 use Rattle.std.specs.Prelude.{◌≡◌, false, Option, Some, None, ℕ, ◌+◌, ◌*◌, ◌^◌, ◌≤◌, ℤ, ◌-ℤ◌, nat_abs, int_le, ◌&&◌}
-use Rattle.std.specs.Prelude.{pos, neg_ℤ, ◌≤ℤ◌, ◌<ℤ◌}
+use Rattle.std.specs.Prelude.{pos, ◌+ℤ◌, ◌≤ℤ◌, ◌<ℤ◌}
 use Rattle.std.specs.Prelude.{if◌then◌else◌, List, [], ◌∷◌, map, get_or, nat_lt, length, ◌++◌, replicate}
 use Rattle.std.specs.Option.{option_map}
 use Rattle.std.specs.Str.{bytes_eq}
@@ -11,7 +11,6 @@ use Rattle.tree.specs.Plain.{Declaration, Extent, Given, Later}
 use Rattle.tree.specs.View.{declaration_of, bounds_of}
 use Rattle.tree.specs.declared.ops.Value.{Value}
 use Rattle.tree.specs.declared.programs.Dim.{Dim}
-use Rattle.meaning.specs.Dialect.{fortran77}
 use Rattle.meaning.specs.Store.{Store, size_of, opening_bounds, opening_value, nought}
 use Rattle.meaning.specs.Typed.{dimensions}
 use Rattle.meaning.specs.Extents.{elements_of}
@@ -86,11 +85,10 @@ starts_in vs = map (λ (v : Variable). v.start) vs
 abbrev pub bounds_list : List Dim → List (ℤ × ℤ)
 bounds_list ds = map bounds_of ds
 
--- the bounds of a dimension are INTEGER values, the lower one at most the upper one
+-- the lower bound of a dimension is at most the upper one, and from the one to the other are at most 2^22 numbers
 pub record IsBounded (b : ℤ × ℤ) : Type 0 where
-  pub above : neg_ℤ (pos (2 ^ fortran77.bits)) ≤ℤ b.0
   pub ordered : b.0 ≤ℤ b.1
-  pub below : b.1 <ℤ pos (2 ^ fortran77.bits)
+  pub near : b.1 <ℤ (b.0 +ℤ pos (2 ^ 22))
 
 -- the bounds of an array, which has at most 2^22 elements
 pub record AreBounds (bs : List (ℤ × ℤ)) : Type 0 where

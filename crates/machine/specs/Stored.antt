@@ -7,7 +7,7 @@ use Rattle.tree.specs.Plain.{Declaration}
 use Rattle.tree.specs.View.{declaration_of}
 use Rattle.tree.specs.declared.ops.Value.{Value}
 use Rattle.tree.specs.declared.ops.Fault.{Fault}
-use Rattle.meaning.specs.Store.{Store, Cell, opening_bounds, bounds_of, cells_of}
+use Rattle.meaning.specs.Store.{Store, Cell, opening_bounds, stored_bounds, cells_of}
 use Rattle.meaning.specs.Typed.{dimensions}
 use Rattle.machine.specs.declared.variables.Variable.{Variable}
 use Rattle.machine.specs.declared.storage.Storage.{Storage}
@@ -39,5 +39,5 @@ Finds ds (Err f) (Ok k) = ⊥
 -- the values of all elements of an array, or of a scalar
 abbrev pub all_values : List ℕ → Store → Result (List Value) Fault
 all_values x s = do
-  bs ← bounds_of x s
+  bs ← stored_bounds x s
   Ok (map s.held (cells_of x bs))

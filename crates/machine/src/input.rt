@@ -3,13 +3,14 @@ ghost use Rattle.std.specs.Prelude.{◌≡◌, ◌≢◌, ◌<◌, ◌≤◌, �
 ghost use Rattle.std.specs.Prelude.{IfSome, IfOk, MatchOption, MatchResult, Ok, Err};
 ghost use Rattle.meaning.specs.Texts.{is_gap, without_cr, from_value, after_line, after_word, first_word};
 ghost use Rattle.meaning.specs.Texts.{unsigned_number, signed_number, truth_letter, truth_word, read_value};
-ghost use Rattle.machine.specs.Moments.{integer_bits};
+ghost use Rattle.tree.specs.Widths.{bits_of};
+ghost use Rattle.tree.specs.declared.width.Width.TheVariants.{Wide};
 ghost use Rattle.machine.specs.Reading.{Spells, SpellsNumber};
 
 use tree::{Fault, Value};
 
-// One more than the largest number of an INTEGER variable has in size.
-const BEYOND: u32 = 2147483649;
+// One more than the largest number of an INTEGER variable of 64 bits has in size.
+const BEYOND: u64 = 9223372036854775809;
 
 /// The byte at a place of the input, and the place of the next one. A CR just before an LF is dropped.
 #[tactic(auto, using(crate::proofs::InputLaws::byte_laws))]
@@ -93,10 +94,10 @@ pub fn line_end(input: &[u8], start: usize) -> usize
     at
 }
 
-// The number that digits spell, or a number beyond the range of INTEGER.
-fn digits(word: &[u8]) -> Result<u32, Fault>
+// The number that digits spell, or a number beyond the range of INTEGER at each width.
+fn digits(word: &[u8]) -> Result<u64, Fault>
     ensures { MatchResult result (λ number. (n : ℕ) × (unsigned_number word.now ≡ Ok (pos n))
-        × (number ≡ min n 2147483649)) (λ fault. unsigned_number word.now ≡ Err fault) }
+        × (number ≡ min n 9223372036854775809)) (λ fault. unsigned_number word.now ≡ Err fault) }
 {
     if word.is_empty() {
         return Err(Fault::InputForm);
@@ -106,13 +107,14 @@ fn digits(word: &[u8]) -> Result<u32, Fault>
         if !byte.is_ascii_digit() {
             return Err(Fault::InputForm);
         }
-        number = (number * 10 + u64::from(byte - b'0')).min(u64::from(BEYOND));
+        let longer = u128::from(number) * 10 + u128::from(byte - b'0');
+        number = longer.min(u128::from(BEYOND)) as u64;
     }
-    Ok(number as u32)
+    Ok(number)
 }
 
 fn number(word: &[u8]) -> Result<i128, Fault>
-    ensures { MatchResult result (λ number. SpellsNumber integer_bits word.now number)
+    ensures { MatchResult result (λ number. SpellsNumber (bits_of Wide) word.now number)
         (λ fault. signed_number word.now ≡ Err fault) }
 {
     let Some((first, more)) = word.split_first() else {
@@ -153,10 +155,10 @@ fn truth(word: &[u8]) -> Result<bool, Fault>
     }
 }
 
-/// The value that a word spells for a variable that holds `old`: one of its kind. A number outside the range of INTEGER
-/// is one next to that range.
+/// The value that a word spells for a variable that holds `old`: one of its kind. A number outside 64 bits is one next
+/// to their range, and so outside the range of INTEGER at each width.
 pub fn read_value(old: Value, word: &[u8]) -> Result<Value, Fault>
-    ensures { MatchResult result (λ value. Spells integer_bits old word.now value)
+    ensures { MatchResult result (λ value. Spells (bits_of Wide) old word.now value)
         (λ fault. read_value old word.now ≡ Err fault) }
 {
     match old {

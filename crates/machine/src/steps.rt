@@ -1,11 +1,12 @@
 //! Faults at lines, numbers that are stored, and how often loops turn.
 ghost use Rattle.std.specs.Prelude.{◌≡◌, ◌<◌, ◌-ℤ◌, ◌+ℤ◌, int_div, Ok, Err, MatchResult, pos, ℕ, ℤ, IfOk};
 ghost use Rattle.meaning.specs.Value.{exact, is_in_range, trip_count, as_count};
-ghost use Rattle.machine.specs.Moments.{integer_bits, located, checked};
+ghost use Rattle.tree.specs.Widths.{bits_of};
+ghost use Rattle.machine.specs.Moments.{located, checked};
 ghost use Rattle.machine.specs.Loops.{nonzero};
 
 use crate::progress::Halt;
-use tree::{Fault, Value};
+use tree::{Fault, Value, Width};
 
 /// The answer with its fault at the line.
 pub fn at<T: Drop>(line: u32, answer: Result<T, Fault>) -> Result<T, Halt>
@@ -17,20 +18,20 @@ pub fn at<T: Drop>(line: u32, answer: Result<T, Fault>) -> Result<T, Halt>
     }
 }
 
-fn fits_integer(value: Value) -> bool
-    ensures { result ≡ is_in_range integer_bits value }
+fn fits_integer(width: Width, value: Value) -> bool
+    ensures { result ≡ is_in_range (bits_of width) value }
 {
     match value {
-        Value::Int(number) => i32::try_from(number).is_ok(),
+        Value::Int(number) => width.holds(number),
         Value::Truth(_) => true,
     }
 }
 
 /// A number outside the range of INTEGER can't be stored.
-pub fn check_range(value: Value) -> Result<(), Fault>
-    ensures { result ≡ checked integer_bits value }
+pub fn check_range(width: Width, value: Value) -> Result<(), Fault>
+    ensures { result ≡ checked (bits_of width) value }
 {
-    if !fits_integer(value) {
+    if !fits_integer(width, value) {
         return Err(Fault::Overflow);
     }
     Ok(())

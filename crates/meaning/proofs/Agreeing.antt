@@ -12,14 +12,14 @@ use Rattle.tree.specs.declared.ops.Fault.TheVariants.{InputEnd, Overflow, ZeroSt
 use Rattle.tree.specs.declared.ops.Value.{Value}
 use Rattle.tree.specs.declared.ops.Value.TheVariants.{Int}
 use Rattle.tree.specs.Plain.{Expression, Number, Logic, Named, Unary, Binary, Apply, Constructor, Spread, Transpose, Reshape, Reduce, Subscripts, no_subscripts, subscript, Reference, Item, Single, Constant, ImpliedDo, Items, no_items, item, Statement, Assignment, Where, If, Do, Label, GoTo, Stop, Read, Print, Allocate, Deallocate, Arms, no_arms, arm, Block, no_statements, statement, Program}
-use Rattle.meaning.specs.Store.{Store, Cell, put, nought_like, bounds_of, allocated, with_bounds, same_cell, cell_at, cell_in, bounds_in, cells_of, is_within, Agree, IsCell, names_of}
+use Rattle.meaning.specs.Store.{Store, Cell, put, nought_like, stored_bounds, allocated, with_bounds, same_cell, cell_at, cell_in, bounds_in, cells_of, is_within, Agree, IsCell, names_of}
 use Rattle.meaning.specs.Texts.{from_value, first_word, after_word, output_text, read_value}
 use Rattle.meaning.specs.Value.{value_of, number_of, truth_of, subscript_values, cell_named, item_cells, item_values, all_elements, is_array, is_scalar, named, array_of, values_of, selectors, is_in_range, increment_of, exact}
 use Rattle.meaning.specs.Reads.{names_in, names_in_each, names_in_subscripts}
 use Rattle.meaning.specs.Agreement.{MomentsAgree}
 use Rattle.meaning.specs.Reads.{names_in_item, names_in_items, names_in_statement, names_in_arms, names_in_block}
 use Rattle.meaning.specs.Run.{State, Way, Going, Jumping, Stopped, Failed, Cut, Act, nothing, then, either, repeated, for_each, goes, on_way, while_going, answered, evaluates, writes, stores, is_empty, begins_line, takes_word, skips_line, is_allowed, first_blank, arrives, counts_step, checks_range, assigns, array_assigns, stores_element, allocates, deallocates, sets_variable, increases, turn, loops, reads_into, reads_item, reads_items, prints_item, prints_items, does, chooses, does_all}
-use Rattle.meaning.proofs.CellFrame.{first_part, second_part, scalar-same}
+use Rattle.meaning.proofs.CellFrame.{first_part, second_part, scalar_array-same}
 use Rattle.meaning.proofs.AgreeingValues.{value_of-agree, subscript_values-agree, array_of-agree, values_of-agree, selectors-agree, kind-put}
 use Rattle.meaning.specs.ArrayValues.{Elements, Array, in_whole, conform, each, positions}
 use Rattle.meaning.specs.Sections.{Axis, axes_selected, extents_of, cells_along}
@@ -245,7 +245,7 @@ module _ (p : Program) (has : List ℕ → Option (List (ℤ × ℤ))) where
         by (Err f) e = refl
 
     scalars-agree : (e : Expression) → AllByRecursion Declared (names_in e) → (s u : Store) → StoresAlike s u → is_scalar e s.bounds ≡ is_scalar e u.bounds
-    scalars-agree e d s u a = scalar-same lang s u e (bounded (names_in e) d)
+    scalars-agree e d s u a = scalar_array-same lang s u e (bounded (names_in e) d)
       where
         bounded : (xs : List (List ℕ)) → AllByRecursion Declared xs → AllByRecursion (λ x. s.bounds x ≡ u.bounds x) xs
         bounded [] d = tt

@@ -14,11 +14,11 @@ use Rattle.tree.specs.declared.ops.Fault.{Fault}
 use Rattle.tree.specs.declared.ops.Fault.TheVariants.{Overflow, Bounds, ZeroStep}
 use Rattle.meaning.specs.Store.{Store, Cell, put, nought_like, same_cell, cell_at, cell_in, bounds_in, is_within, column_major, numbers_from, cells_of, Agree, IsCell, names_of}
 use Rattle.meaning.specs.Dialect.{Dialect}
-use Rattle.meaning.specs.ArrayValues.{Elements, each, settled, scalar, in_whole, conform, mapped, paired, spread, transposed, reshaped}
-use Rattle.meaning.specs.Sections.{Selector, Index, Triplet, Vector, Axis, Fixed, Along, stands_in, all_stand_in, along, axis_on, axes_on, whole_axes, axes_selected, numbers_of, extents_of, cells_along, not_negative, triplet_numbers}
-use Rattle.meaning.specs.Value.{value_of, values_of, number_of, subscript_value, subscript_values, array_of, arguments_of, selectors, selector, under, is_scalar, with_arrays, numbered, evaluated, selector_of, bound_to, joined, for_numbers, together}
+use Rattle.meaning.specs.ArrayValues.{Elements, each, settled, scalar_array, in_whole, conform, mapped, paired, spread, transposed, reshaped}
+use Rattle.meaning.specs.Sections.{Selector, Index, Triplet, Vector, Axis, Fixed, Along, is_within_bounds, all_stand_in, along, axis_on, axes_on, whole_axes, axes_selected, numbers_of, extents_of, cells_along, not_negative, triplet_numbers}
+use Rattle.meaning.specs.Value.{value_of, values_of, number_of, subscript_value, subscript_values, array_of, arguments_of, selectors, selector, under, is_scalar, with_arrays, numbered, evaluated, selector_of, bound_to, joined_values, for_numbers, together}
 use Rattle.meaning.specs.Reads.{names_in, names_in_each, names_in_subscripts, names_in_subscript, names_in_loops}
-use Rattle.meaning.proofs.CellFrame.{first_part, second_part, scalar-same}
+use Rattle.meaning.proofs.CellFrame.{first_part, second_part, scalar_array-same}
 use Rattle.meaning.proofs.ArrayLaws.{cells-whole}
 use Rattle.meaning.proofs.Columns.{join, cells-within}
 
@@ -29,31 +29,31 @@ both true true e = (refl, refl)
 both true false e = cc
 both false q e = cc
 
-all-stand : (b : ℤ × ℤ) (zs : List ℤ) → all_stand_in b zs ≡ true → AllByRecursion (λ z. stands_in b z ≡ true) zs
+all-stand : (b : ℤ × ℤ) (zs : List ℤ) → all_stand_in b zs ≡ true → AllByRecursion (λ z. is_within_bounds b z ≡ true) zs
 all-stand b [] e = tt
-all-stand b (z ∷ zs) e = let h = both (stands_in b z) (all_stand_in b zs) e in (h.0, all-stand b zs h.1)
+all-stand b (z ∷ zs) e = let h = both (is_within_bounds b z) (all_stand_in b zs) e in (h.0, all-stand b zs h.1)
 
 abbrev AxesStand : List (ℤ × ℤ) → List Axis → Type 0
 AxesStand [] [] = Unit {0}
-AxesStand (b ∷ bs) (a ∷ axes) = AllByRecursion (λ z. stands_in b z ≡ true) (numbers_of a) × AxesStand bs axes
+AxesStand (b ∷ bs) (a ∷ axes) = AllByRecursion (λ z. is_within_bounds b z ≡ true) (numbers_of a) × AxesStand bs axes
 AxesStand _ _ = ⊥
 
-along-stands : (b : ℤ × ℤ) (zs : List ℤ) (a : Axis) → along b zs ≡ Ok a → AllByRecursion (λ z. stands_in b z ≡ true) (numbers_of a)
+along-stands : (b : ℤ × ℤ) (zs : List ℤ) (a : Axis) → along b zs ≡ Ok a → AllByRecursion (λ z. is_within_bounds b z ≡ true) (numbers_of a)
 along-stands b zs a e = by (all_stand_in b zs) refl e
   where
-    by : (t : Bool) → all_stand_in b zs ≡ t → ◌≡◌ {A = Result Axis Fault} (cond t (Ok (Along zs)) (Err Bounds)) (Ok a) → AllByRecursion (λ z. stands_in b z ≡ true) (numbers_of a)
-    by true p q = let same : Along zs ≡ a = cc in subst (λ (c : Axis). AllByRecursion (λ z. stands_in b z ≡ true) (numbers_of c)) same (all-stand b zs p)
+    by : (t : Bool) → all_stand_in b zs ≡ t → ◌≡◌ {A = Result Axis Fault} (cond t (Ok (Along zs)) (Err Bounds)) (Ok a) → AllByRecursion (λ z. is_within_bounds b z ≡ true) (numbers_of a)
+    by true p q = let same : Along zs ≡ a = cc in subst (λ (c : Axis). AllByRecursion (λ z. is_within_bounds b z ≡ true) (numbers_of c)) same (all-stand b zs p)
     by false p q = cc
 
-axis-stands : (b : ℤ × ℤ) (s : Selector) (a : Axis) → axis_on b s ≡ Ok a → AllByRecursion (λ z. stands_in b z ≡ true) (numbers_of a)
-axis-stands b (Index z) a e = by (stands_in b z) refl e
+axis-stands : (b : ℤ × ℤ) (s : Selector) (a : Axis) → axis_on b s ≡ Ok a → AllByRecursion (λ z. is_within_bounds b z ≡ true) (numbers_of a)
+axis-stands b (Index z) a e = by (is_within_bounds b z) refl e
   where
-    by : (t : Bool) → stands_in b z ≡ t → ◌≡◌ {A = Result Axis Fault} (cond t (Ok (Fixed z)) (Err Bounds)) (Ok a) → AllByRecursion (λ z. stands_in b z ≡ true) (numbers_of a)
-    by true p q = let same : Fixed z ≡ a = cc in subst (λ (c : Axis). AllByRecursion (λ z. stands_in b z ≡ true) (numbers_of c)) same (p, tt)
+    by : (t : Bool) → is_within_bounds b z ≡ t → ◌≡◌ {A = Result Axis Fault} (cond t (Ok (Fixed z)) (Err Bounds)) (Ok a) → AllByRecursion (λ z. is_within_bounds b z ≡ true) (numbers_of a)
+    by true p q = let same : Fixed z ≡ a = cc in subst (λ (c : Axis). AllByRecursion (λ z. is_within_bounds b z ≡ true) (numbers_of c)) same (p, tt)
     by false p q = cc
 axis-stands b (Triplet l u k) a e = by (int_eq k (pos 0)) e
   where
-    by : (t : Bool) → ◌≡◌ {A = Result Axis Fault} (cond t (Err ZeroStep) (along b (triplet_numbers l u k))) (Ok a) → AllByRecursion (λ z. stands_in b z ≡ true) (numbers_of a)
+    by : (t : Bool) → ◌≡◌ {A = Result Axis Fault} (cond t (Err ZeroStep) (along b (triplet_numbers l u k))) (Ok a) → AllByRecursion (λ z. is_within_bounds b z ≡ true) (numbers_of a)
     by true q = cc
     by false q = along-stands b (triplet_numbers l u k) a q
 axis-stands b (Vector zs) a e = along-stands b zs a e
@@ -76,12 +76,12 @@ inside true true false e f = cc
 inside true false z e f = cc
 inside false y z e f = cc
 
-placed : (b : ℤ × ℤ) (bs : List (ℤ × ℤ)) (rest : List ℤ) (xs : List ℤ) → is_within bs rest ≡ true → AllByRecursion (λ z. stands_in b z ≡ true) xs
+placed : (b : ℤ × ℤ) (bs : List (ℤ × ℤ)) (rest : List ℤ) (xs : List ℤ) → is_within bs rest ≡ true → AllByRecursion (λ z. is_within_bounds b z ≡ true) xs
     → AllByRecursion (λ is. is_within (b ∷ bs) is ≡ true) (map (λ x. x ∷ rest) xs)
 placed b bs rest [] h k = tt
 placed b bs rest (x ∷ xs) h k = (inside (int_le b.0 x) (int_le x b.1) (is_within bs rest) k.0 h, placed b bs rest xs h k.1)
 
-rows-within : (b : ℤ × ℤ) (bs : List (ℤ × ℤ)) (xs : List ℤ) (ys : List (List ℤ)) → AllByRecursion (λ z. stands_in b z ≡ true) xs → AllByRecursion (λ is. is_within bs is ≡ true) ys
+rows-within : (b : ℤ × ℤ) (bs : List (ℤ × ℤ)) (xs : List ℤ) (ys : List (List ℤ)) → AllByRecursion (λ z. is_within_bounds b z ≡ true) xs → AllByRecursion (λ is. is_within bs is ≡ true) ys
     → AllByRecursion (λ is. is_within (b ∷ bs) is ≡ true) (flat_map (λ rest. map (λ x. x ∷ rest) xs) ys)
 rows-within b bs xs [] h k = tt
 rows-within b bs xs (rest ∷ ys) h k = join _ (map (λ x. x ∷ rest) xs) _ (placed b bs rest xs k.0 h) (rows-within b bs xs ys h k.1)
@@ -171,7 +171,7 @@ module _ (d : Dialect) (p : Program) where
 
   whole-agree : (e : Expression) → AllDeclared (names_in e) → {s t : Store} → value_of d e s ≡ value_of d e t → array_of d e s ≡ array_of d e t → (u v : Store) → Agree p s t
       → evaluated (is_scalar e s.bounds) (value_of d e s) (array_of d e s) ≡ evaluated (is_scalar e t.bounds) (value_of d e t) (array_of d e t)
-  whole-agree e n {s} {t} f g u v a = evaluated-agree _ _ _ _ _ _ (scalar-same d s t e (same_bounds s t a (names_in e) n)) f g
+  whole-agree e n {s} {t} f g u v a = evaluated-agree _ _ _ _ _ _ (scalar_array-same d s t e (same_bounds s t a (names_in e) n)) f g
 
   abbrev Agrees : {A : Type 0} → (Store → Result A Fault) → Type 0
   Agrees f = (s t : Store) → Agree p s t → f s ≡ f t
@@ -182,7 +182,7 @@ module _ (d : Dialect) (p : Program) where
   turns-agree bits x f h s t a (z ∷ zs) = ap₂ (λ r q. do y ← cond (fits bits z) r (Err Overflow); ys ← q; Ok (y ∷ ys)) (h (bound_to x z s) (bound_to x z t) (bound-agree s t a x z)) (turns-agree bits x f h s t a zs)
 
   for_numbers-agree : (bits : ℕ) (x : List ℕ) (l u : ℤ) (f : Store → Result (List Value) Fault) → Agrees f → Agrees (for_numbers bits x l u f)
-  for_numbers-agree bits x l u f h s t a = ap (λ r. do vss ← r; Ok (joined vss)) (turns-agree bits x f h s t a (numbers_from l (not_negative (u -ℤ l +ℤ pos 1))))
+  for_numbers-agree bits x l u f h s t a = ap (λ r. do vss ← r; Ok (joined_values vss)) (turns-agree bits x f h s t a (numbers_from l (not_negative (u -ℤ l +ℤ pos 1))))
 
   one_loop : (x : List ℕ) (e c : Expression) (f : Store → Result (List Value) Fault) → Agrees (value_of d e) → Agrees (value_of d c) → Agrees f
       → Agrees (λ t. (do l ← numbered (value_of d e t); u ← numbered (value_of d c t); for_numbers d.bits x l u f t))
@@ -254,7 +254,7 @@ module _ (d : Dialect) (p : Program) where
     array_of-agree (Spread e k f) n s t a = ap₂ (λ r q. do v ← r; z ← numbered q; Ok (spread k (not_negative z) v)) (whole-agree e (front (names_in e) (names_in f) n) (value_of-agree e (front (names_in e) (names_in f) n) s t a) (array_of-agree e (front (names_in e) (names_in f) n) s t a) s t a) (value_of-agree f (back (names_in e) (names_in f) n) s t a)
     array_of-agree (Transpose e) n s t a = ap (λ r. do g ← r; v ← in_whole g; Ok (transposed v)) (array_of-agree e n s t a)
     array_of-agree (Reshape e es) n s t a = ap₂ (λ r q. do g ← r; v ← in_whole g; xs ← q; zs ← as_numbers xs; reshaped (map not_negative zs) v) (array_of-agree e (front (names_in e) (names_in_each es) n) s t a) (values_of-agree es (back (names_in e) (names_in_each es) n) s t a)
-    array_of-agree (Reduce r e) n s t a = ap (λ q. do g ← q; v ← in_whole g; zs ← as_numbers v.values; x ← reduced d.bits r zs; Ok (settled (scalar x))) (array_of-agree e n s t a)
+    array_of-agree (Reduce r e) n s t a = ap (λ q. do g ← q; v ← in_whole g; zs ← as_numbers v.values; x ← reduced d.bits r zs; Ok (settled (scalar_array x))) (array_of-agree e n s t a)
 
     arguments-agree : (es : Expressions) (ns : List ℕ) → AllDeclared (names_in_each es) → Agrees (arguments_of d es ns)
     arguments-agree no_expressions ns n s t a = refl

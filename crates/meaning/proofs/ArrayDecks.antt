@@ -7,6 +7,7 @@ use Rattle.tree.specs.declared.ops.Kind.TheVariants.{Integer, Logical}
 use Rattle.tree.specs.declared.ops.Fault.TheVariants.{Overflow, ZeroDivide, Bounds, ZeroStep, Shape, Allocated}
 use Rattle.meaning.specs.declared.End.TheVariants.{Done, Fault}
 use Rattle.meaning.specs.Array.{array_run}
+use Rattle.tree.specs.declared.width.Width.TheVariants.{Plain}
 use Rattle.meaning.specs.Sequential.{ending}
 use Rattle.meaning.proofs.DeckWords.{computed, n, v, at, to, to_element, integer, integers, logicals, later, name, part, to_part, program, lines}
 
@@ -31,11 +32,11 @@ overlapping = program (integers "A" ((pos 1, pos 4) ∷ []) ∷ [])
     ∷ print (v "A")
     ∷ [])
 
-overlapping_written : (array_run overlapping []).written ≡ lines (" 1 1 2 3" ∷ [])
+overlapping_written : (array_run Plain overlapping []).written ≡ lines (" 1 1 2 3" ∷ [])
 unfolding computed
 overlapping_written = refl
 
-overlapping_steps : (array_run overlapping []).steps ≡ 10
+overlapping_steps : (array_run Plain overlapping []).steps ≡ 10
 unfolding computed
 overlapping_steps = refl
 
@@ -45,7 +46,7 @@ abbrev unequal_extents : Program
 unequal_extents = program (integers "A" ((pos 1, pos 4) ∷ []) ∷ [])
     (Assignment 2 None (to_part "A" (span 2 4 ∷ [])) (part "A" (span 1 2 ∷ [])) ∷ [])
 
-unequal_extents_ending : ending (array_run unequal_extents []) ≡ Some (Fault Shape 2)
+unequal_extents_ending : ending (array_run Plain unequal_extents []) ≡ Some (Fault Shape 2)
 unfolding computed
 unequal_extents_ending = refl
 
@@ -62,12 +63,12 @@ negative_stride = program (integers "A" ((pos 1, pos 5) ∷ []) ∷ [])
     ∷ print (part "A" (Section (n 4) (n 1) (Unary Neg (n 1)) ∷ []))
     ∷ [])
 
-negative_stride_written : (array_run negative_stride []).written ≡ lines (" 3 2 2 4 1" ∷ " 4 2 2 3" ∷ [])
+negative_stride_written : (array_run Plain negative_stride []).written ≡ lines (" 3 2 2 4 1" ∷ " 4 2 2 3" ∷ [])
 unfolding computed
 negative_stride_written = refl
 
 -- ---- a stride of 0
-stride_of_zero : ending (array_run (program (integers "A" ((pos 1, pos 5) ∷ []) ∷ []) (print (part "A" (Section (n 5) (n 1) (n 0) ∷ [])) ∷ [])) []) ≡ Some (Fault ZeroStep 9)
+stride_of_zero : ending (array_run Plain (program (integers "A" ((pos 1, pos 5) ∷ []) ∷ []) (print (part "A" (Section (n 5) (n 1) (n 0) ∷ [])) ∷ [])) []) ≡ Some (Fault ZeroStep 9)
 unfolding computed
 stride_of_zero = refl
 
@@ -84,11 +85,11 @@ guarded_division = program (integers "A" ((pos 1, pos 5) ∷ []) ∷ integers "B
     ∷ Assignment 5 None (to "A") (Binary Div (v "C") (v "B"))
     ∷ [])
 
-guarded_division_written : (array_run guarded_division (lines ("2 0 -3 0 5" ∷ "9 9 9 9 9" ∷ []))).written ≡ lines (" 4 0 -3 0 1" ∷ [])
+guarded_division_written : (array_run Plain guarded_division (lines ("2 0 -3 0 5" ∷ "9 9 9 9 9" ∷ []))).written ≡ lines (" 4 0 -3 0 1" ∷ [])
 unfolding computed
 guarded_division_written = refl
 
-guarded_division_ending : ending (array_run guarded_division (lines ("2 0 -3 0 5" ∷ "9 9 9 9 9" ∷ []))) ≡ Some (Fault ZeroDivide 5)
+guarded_division_ending : ending (array_run Plain guarded_division (lines ("2 0 -3 0 5" ∷ "9 9 9 9 9" ∷ []))) ≡ Some (Fault ZeroDivide 5)
 unfolding computed
 guarded_division_ending = refl
 
@@ -101,18 +102,18 @@ empty_sections = program (integers "A" ((pos 1, pos 5) ∷ []) ∷ integer "N" �
     ∷ Print 3 (items (Single (Reduce Sum (Binary Add (part "A" (span 4 3 ∷ [])) (Binary Div (n 1) (v "N")))) ∷ Single (Reduce MaxVal (part "A" (span 4 3 ∷ []))) ∷ Single (Reduce MinVal (part "A" (span 4 3 ∷ []))) ∷ Single (part "A" (span 7 6 ∷ [])) ∷ []))
     ∷ [])
 
-empty_sections_written : (array_run empty_sections []).written ≡ lines (" 0 -2147483648 2147483647" ∷ [])
+empty_sections_written : (array_run Plain empty_sections []).written ≡ lines (" 0 -2147483648 2147483647" ∷ [])
 unfolding computed
 empty_sections_written = refl
 
 -- A(3:2) = A(1 / N)
-empty_section_subscript : ending (array_run (program (integers "A" ((pos 1, pos 5) ∷ []) ∷ integer "N" ∷ []) (Assignment 2 None (to_part "A" (span 3 2 ∷ [])) (at "A" (Binary Div (n 1) (v "N") ∷ [])) ∷ [])) []) ≡ Some (Fault ZeroDivide 2)
+empty_section_subscript : ending (array_run Plain (program (integers "A" ((pos 1, pos 5) ∷ []) ∷ integer "N" ∷ []) (Assignment 2 None (to_part "A" (span 3 2 ∷ [])) (at "A" (Binary Div (n 1) (v "N") ∷ [])) ∷ [])) []) ≡ Some (Fault ZeroDivide 2)
 unfolding computed
 empty_section_subscript = refl
 
 -- INTEGER :: M(2, 3)
 -- M(3, 2:1) = 0
-empty_section_beside : ending (array_run (program (integers "M" ((pos 1, pos 2) ∷ (pos 1, pos 3) ∷ []) ∷ []) (Assignment 2 None (to_part "M" (Only (n 3) ∷ span 2 1 ∷ [])) (n 0) ∷ [])) []) ≡ Some (Fault Bounds 2)
+empty_section_beside : ending (array_run Plain (program (integers "M" ((pos 1, pos 2) ∷ (pos 1, pos 3) ∷ []) ∷ []) (Assignment 2 None (to_part "M" (Only (n 3) ∷ span 2 1 ∷ [])) (n 0) ∷ [])) []) ≡ Some (Fault Bounds 2)
 unfolding computed
 empty_section_beside = refl
 
@@ -122,44 +123,44 @@ empty_section_beside = refl
 abbrev shown : Expression → Program
 shown e = program (integers "C" ((pos 1, pos 3) ∷ []) ∷ []) (Assignment 2 None (to "C") (list (n 1 ∷ n 2 ∷ n 3 ∷ [])) ∷ print e ∷ [])
 
-spread_first : (array_run (shown (Spread (v "C") 1 (n 2))) []).written ≡ lines (" 1 1 2 2 3 3" ∷ [])
+spread_first : (array_run Plain (shown (Spread (v "C") 1 (n 2))) []).written ≡ lines (" 1 1 2 2 3 3" ∷ [])
 unfolding computed
 spread_first = refl
 
-spread_last : (array_run (shown (Spread (v "C") 2 (n 2))) []).written ≡ lines (" 1 2 3 1 2 3" ∷ [])
+spread_last : (array_run Plain (shown (Spread (v "C") 2 (n 2))) []).written ≡ lines (" 1 2 3 1 2 3" ∷ [])
 unfolding computed
 spread_last = refl
 
 -- of extents 2, 3, 2: each of C twice along the first dimension, and all of it twice along the last one
-spread_of_spread : (array_run (shown (Spread (Spread (v "C") 1 (n 2)) 3 (n 2))) []).written ≡ lines (" 1 1 2 2 3 3 1 1 2 2 3 3" ∷ [])
+spread_of_spread : (array_run Plain (shown (Spread (Spread (v "C") 1 (n 2)) 3 (n 2))) []).written ≡ lines (" 1 1 2 2 3 3 1 1 2 2 3 3" ∷ [])
 unfolding computed
 spread_of_spread = refl
 
-spread_of_scalar : (array_run (shown (Spread (n 7) 1 (n 3))) []).written ≡ lines (" 7 7 7" ∷ [])
+spread_of_scalar : (array_run Plain (shown (Spread (n 7) 1 (n 3))) []).written ≡ lines (" 7 7 7" ∷ [])
 unfolding computed
 spread_of_scalar = refl
 
 abbrev six : Expression
 six = Reshape (list (n 1 ∷ n 2 ∷ n 3 ∷ n 4 ∷ n 5 ∷ n 6 ∷ [])) (expressions (n 2 ∷ n 3 ∷ []))
 
-transposed_rows : (array_run (shown (Transpose six)) []).written ≡ lines (" 1 3 5 2 4 6" ∷ [])
+transposed_rows : (array_run Plain (shown (Transpose six)) []).written ≡ lines (" 1 3 5 2 4 6" ∷ [])
 unfolding computed
 transposed_rows = refl
 
-reshaped_with_too_few : ending (array_run (shown (Reshape (v "C") (expressions (n 2 ∷ n 2 ∷ [])))) []) ≡ Some (Fault Shape 9)
+reshaped_with_too_few : ending (array_run Plain (shown (Reshape (v "C") (expressions (n 2 ∷ n 2 ∷ [])))) []) ≡ Some (Fault Shape 9)
 unfolding computed
 reshaped_with_too_few = refl
 
-reshaped_with_more : (array_run (shown (Reshape (v "C") (expressions (n 2 ∷ [])))) []).written ≡ lines (" 1 2" ∷ [])
+reshaped_with_more : (array_run Plain (shown (Reshape (v "C") (expressions (n 2 ∷ [])))) []).written ≡ lines (" 1 2" ∷ [])
 unfolding computed
 reshaped_with_more = refl
 
-sum_and_operator : (array_run (shown (Binary Add (Reduce Sum (v "C")) (n 1))) []).written ≡ lines (" 7" ∷ [])
+sum_and_operator : (array_run Plain (shown (Binary Add (Reduce Sum (v "C")) (n 1))) []).written ≡ lines (" 7" ∷ [])
 unfolding computed
 sum_and_operator = refl
 
 -- SUM(SPREAD(C, 2, 2) * 2) + C: an array function within an array
-sum_within_array : (array_run (shown (Binary Add (Reduce Sum (Binary Mul (Spread (v "C") 2 (n 2)) (n 2))) (v "C"))) []).written ≡ lines (" 25 26 27" ∷ [])
+sum_within_array : (array_run Plain (shown (Binary Add (Reduce Sum (Binary Mul (Spread (v "C") 2 (n 2)) (n 2))) (v "C"))) []).written ≡ lines (" 25 26 27" ∷ [])
 unfolding computed
 sum_within_array = refl
 
@@ -172,17 +173,17 @@ two_loops = program (integer "I" ∷ integer "J" ∷ [])
     ∷ print (v "I")
     ∷ [])
 
-two_loops_written : (array_run two_loops []).written ≡ lines (" 11 12 22 13 23 33" ∷ " 9" ∷ [])
+two_loops_written : (array_run Plain two_loops []).written ≡ lines (" 11 12 22 13 23 33" ∷ " 9" ∷ [])
 unfolding computed
 two_loops_written = refl
 
 -- (/ (I, I = 2147483646, 2147483648) /)
-loop_leaves_range : ending (array_run (program (integer "I" ∷ []) (print (Constructor (expressions (v "I" ∷ [])) (loop (name "I") (n 2147483646) (n 2147483648) no_loops)) ∷ [])) []) ≡ Some (Fault Overflow 9)
+loop_leaves_range : ending (array_run Plain (program (integer "I" ∷ []) (print (Constructor (expressions (v "I" ∷ [])) (loop (name "I") (n 2147483646) (n 2147483648) no_loops)) ∷ [])) []) ≡ Some (Fault Overflow 9)
 unfolding computed
 loop_leaves_range = refl
 
 -- (/ (I, I = 2147483646, 2147483647) /)
-loop_to_the_end : (array_run (program (integer "I" ∷ []) (print (Constructor (expressions (v "I" ∷ [])) (loop (name "I") (n 2147483646) (n 2147483647) no_loops)) ∷ [])) []).written ≡ lines (" 2147483646 2147483647" ∷ [])
+loop_to_the_end : (array_run Plain (program (integer "I" ∷ []) (print (Constructor (expressions (v "I" ∷ [])) (loop (name "I") (n 2147483646) (n 2147483647) no_loops)) ∷ [])) []).written ≡ lines (" 2147483646 2147483647" ∷ [])
 unfolding computed
 loop_to_the_end = refl
 
@@ -203,19 +204,19 @@ allocations cs = program (later "A" Integer 1 ∷ [])
     ∷ Deallocate 5 (name "A")
     ∷ cs)
 
-allocated_twice : ending (array_run (allocations (Allocate 6 (name "A") (expressions (n 3 ∷ [])) ∷ print (v "A") ∷ Allocate 8 (name "A") (expressions (n 2 ∷ [])) ∷ [])) []) ≡ Some (Fault Allocated 8)
+allocated_twice : ending (array_run Plain (allocations (Allocate 6 (name "A") (expressions (n 3 ∷ [])) ∷ print (v "A") ∷ Allocate 8 (name "A") (expressions (n 2 ∷ [])) ∷ [])) []) ≡ Some (Fault Allocated 8)
 unfolding computed
 allocated_twice = refl
 
-allocated_again : (array_run (allocations (Allocate 6 (name "A") (expressions (n 3 ∷ [])) ∷ print (v "A") ∷ [])) []).written ≡ lines (" 5 5" ∷ " 0 0 0" ∷ [])
+allocated_again : (array_run Plain (allocations (Allocate 6 (name "A") (expressions (n 3 ∷ [])) ∷ print (v "A") ∷ [])) []).written ≡ lines (" 5 5" ∷ " 0 0 0" ∷ [])
 unfolding computed
 allocated_again = refl
 
-used_after_deallocate : ending (array_run (allocations (print (at "A" (n 1 ∷ [])) ∷ [])) []) ≡ Some (Fault Allocated 9)
+used_after_deallocate : ending (array_run Plain (allocations (print (at "A" (n 1 ∷ [])) ∷ [])) []) ≡ Some (Fault Allocated 9)
 unfolding computed
 used_after_deallocate = refl
 
-deallocated_twice : ending (array_run (allocations (Deallocate 6 (name "A") ∷ [])) []) ≡ Some (Fault Allocated 6)
+deallocated_twice : ending (array_run Plain (allocations (Deallocate 6 (name "A") ∷ [])) []) ≡ Some (Fault Allocated 6)
 unfolding computed
 deallocated_twice = refl
 
@@ -230,11 +231,11 @@ repeated_element = program (integers "A" ((pos 1, pos 3) ∷ []) ∷ integers "K
     ∷ Print 4 (items (Single (v "A") ∷ Single (part "A" (Only (v "K") ∷ [])) ∷ []))
     ∷ [])
 
-repeated_element_written : (array_run repeated_element []).written ≡ lines (" 9 8 0 8 8 9" ∷ [])
+repeated_element_written : (array_run Plain repeated_element []).written ≡ lines (" 9 8 0 8 8 9" ∷ [])
 unfolding computed
 repeated_element_written = refl
 
-repeated_element_steps : (array_run repeated_element []).steps ≡ 9
+repeated_element_steps : (array_run Plain repeated_element []).steps ≡ 9
 unfolding computed
 repeated_element_steps = refl
 
@@ -243,22 +244,22 @@ repeated_element_steps = refl
 abbrev range_before_stores : Program
 range_before_stores = program (integers "A" ((pos 1, pos 2) ∷ []) ∷ []) (Assignment 2 None (to "A") (Binary Add (list (n 1 ∷ n 2147483647 ∷ [])) (n 1)) ∷ [])
 
-range_before_stores_ending : ending (array_run range_before_stores []) ≡ Some (Fault Overflow 2)
+range_before_stores_ending : ending (array_run Plain range_before_stores []) ≡ Some (Fault Overflow 2)
 unfolding computed
 range_before_stores_ending = refl
 
-range_before_stores_steps : (array_run range_before_stores []).steps ≡ 1
+range_before_stores_steps : (array_run Plain range_before_stores []).steps ≡ 1
 unfolding computed
 range_before_stores_steps = refl
 
 -- ---- subscripts of all parts come before the operations of any
 -- INTEGER :: A(2), N
 -- A = A / N + A(3)
-subscripts_before_operations : ending (array_run (program (integers "A" ((pos 1, pos 2) ∷ []) ∷ integer "N" ∷ []) (Assignment 2 None (to "A") (Binary Add (Binary Div (v "A") (v "N")) (at "A" (n 3 ∷ []))) ∷ [])) []) ≡ Some (Fault Bounds 2)
+subscripts_before_operations : ending (array_run Plain (program (integers "A" ((pos 1, pos 2) ∷ []) ∷ integer "N" ∷ []) (Assignment 2 None (to "A") (Binary Add (Binary Div (v "A") (v "N")) (at "A" (n 3 ∷ []))) ∷ [])) []) ≡ Some (Fault Bounds 2)
 unfolding computed
 subscripts_before_operations = refl
 
 -- A(1) = A(1) / N + A(3), whose left side is a scalar
-operators_in_order : ending (array_run (program (integers "A" ((pos 1, pos 2) ∷ []) ∷ integer "N" ∷ []) (Assignment 2 None (to_element "A" (n 1 ∷ [])) (Binary Add (Binary Div (at "A" (n 1 ∷ [])) (v "N")) (at "A" (n 3 ∷ []))) ∷ [])) []) ≡ Some (Fault ZeroDivide 2)
+operators_in_order : ending (array_run Plain (program (integers "A" ((pos 1, pos 2) ∷ []) ∷ integer "N" ∷ []) (Assignment 2 None (to_element "A" (n 1 ∷ [])) (Binary Add (Binary Div (at "A" (n 1 ∷ [])) (v "N")) (at "A" (n 3 ∷ []))) ∷ [])) []) ≡ Some (Fault ZeroDivide 2)
 unfolding computed
 operators_in_order = refl

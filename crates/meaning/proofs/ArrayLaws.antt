@@ -9,7 +9,7 @@ use Rattle.tree.specs.declared.ops.Value.{Value}
 use Rattle.tree.specs.declared.ops.Fault.{Fault}
 use Rattle.meaning.specs.Store.{Store, Cell, column_major, numbers_from, size_of, bounds_in, cells_of}
 use Rattle.meaning.specs.Dialect.{Dialect}
-use Rattle.meaning.specs.ArrayValues.{Array, Elements, each, counted, positions, place_of, size, value_at, settled, in_whole}
+use Rattle.meaning.specs.ArrayValues.{Array, Elements, each, counted, positions, place_of, size, value_at_index, settled, in_whole}
 use Rattle.meaning.specs.Sections.{Axis, Along, whole_axes, numbers_of, extents_of, cells_along}
 use Rattle.meaning.specs.Value.{all_elements, item_cells, array_of}
 
@@ -87,21 +87,21 @@ places (n ∷ ns) = places-of-rows n ns (positions ns) ∙ (ap (flat_map (λ k. 
 
 -- ---- the values at all places
 
-value_behind : (xs : List Value) (v : Value) (vs : List Value) → value_at (xs ++ v ∷ vs) (length xs) ≡ Ok v
+value_behind : (xs : List Value) (v : Value) (vs : List Value) → value_at_index (xs ++ v ∷ vs) (length xs) ≡ Ok v
 value_behind [] v vs = refl
 value_behind (x ∷ xs) v vs = value_behind xs v vs
 
-values_from : (xs vs : List Value) → each (value_at (xs ++ vs)) (counted (length xs) (length vs)) ≡ Ok vs
+values_from : (xs vs : List Value) → each (value_at_index (xs ++ vs)) (counted (length xs) (length vs)) ≡ Ok vs
 values_from xs [] = refl
 values_from xs (v ∷ vs) =
     ap₂ (λ (r : Result Value Fault) (q : Result (List Value) Fault). do y ← r; ys ← q; Ok (y ∷ ys)) (value_behind xs v vs)
-    (ap₂ (λ ws k. each (value_at ws) (counted k (length vs))) (sym (append_assoc xs (v ∷ []) vs)) (sym (length-append xs (v ∷ [])))
+    (ap₂ (λ ws k. each (value_at_index ws) (counted k (length vs))) (sym (append_assoc xs (v ∷ []) vs)) (sym (length-append xs (v ∷ [])))
     ∙ values_from (xs ++ v ∷ []) vs)
 
 -- an array whose values are as many as its positions
 pub settled-whole : (ns : List ℕ) (vs : List Value) → length vs ≡ size ns → in_whole (settled (record { extents = ns; values = vs })) ≡ Ok (record { extents = ns; values = vs })
 settled-whole ns vs e = ap (λ (r : Result (List Value) Fault). do ws ← r; Ok (record { extents = ns; values = ws }))
-    (sym (each-map (value_at vs) (place_of ns) (positions ns)) ∙ (ap (each (value_at vs)) (places ns ∙ ap (counted 0) (sym e)) ∙ values_from [] vs))
+    (sym (each-map (value_at_index vs) (place_of ns) (positions ns)) ∙ (ap (each (value_at_index vs)) (places ns ∙ ap (counted 0) (sym e)) ∙ values_from [] vs))
 
 -- ---- a whole array by its name
 

@@ -12,9 +12,9 @@ use Rattle.tree.specs.declared.ops.Fault.{Fault}
 use Rattle.tree.specs.declared.ops.Fault.TheVariants.{Overflow}
 use Rattle.meaning.specs.Store.{Store, Cell, put, same_cell, cell_at, cell_in, bounds_in, numbers_from}
 use Rattle.meaning.specs.Dialect.{Dialect}
-use Rattle.meaning.specs.ArrayValues.{Elements, each, settled, scalar, in_whole, conform, mapped, paired, spread, transposed, reshaped}
+use Rattle.meaning.specs.ArrayValues.{Elements, each, settled, scalar_array, in_whole, conform, mapped, paired, spread, transposed, reshaped}
 use Rattle.meaning.specs.Sections.{Selector, Triplet, Axis, axes_selected, extents_of, cells_along, not_negative}
-use Rattle.meaning.specs.Value.{value_of, values_of, number_of, subscript_value, subscript_values, cell_named, array_of, arguments_of, selectors, selector, under, is_scalar, are_scalar, are_indices, is_index, name_is_scalar, with_arrays, numbered, evaluated, selector_of, bound_to, joined, for_numbers, together}
+use Rattle.meaning.specs.Value.{value_of, values_of, number_of, subscript_value, subscript_values, cell_named, array_of, arguments_of, selectors, selector, under, is_scalar, are_scalar, are_indices, is_index, name_is_scalar, with_arrays, numbered, evaluated, selector_of, bound_to, joined_values, for_numbers, together}
 use Rattle.meaning.specs.Reads.{names_in, names_in_each, names_in_subscripts, names_in_subscript, names_in_loops}
 use Rattle.meaning.specs.CellsRead.{found, found_along, same_name, others, in_each, for_numbers_read, between}
 use Rattle.meaning.specs.CellsRead.{read_by_one_way, cells_read, cells_read_by_each, cells_read_by}
@@ -153,13 +153,13 @@ module _ (bs bt : List ℕ → Option (List (ℤ × ℤ))) where
   for_numbers-same : (bits : ℕ) (x : List ℕ) (f : Store → Result (List Value) Fault) (fc : Store → List Cell) → AnswersAlike f fc
       → (h k : Cell → Value) (l u : Result ℤ Fault) → AllByRecursion (SameValue h k) (between l u (λ a b. for_numbers_read x a b fc (left h)))
       → ◌≡◌ {A = Result (List Value) Fault} (do a ← l; b ← u; for_numbers bits x a b f (left h)) (do a ← l; b ← u; for_numbers bits x a b f (right k))
-  for_numbers-same bits x f fc alike h k (Ok a) (Ok b) m = ap (λ r. do vss ← r; Ok (joined vss)) (numbers-same bits x f fc alike h k (numbers_from a (not_negative (b -ℤ a +ℤ pos 1))) m)
+  for_numbers-same bits x f fc alike h k (Ok a) (Ok b) m = ap (λ r. do vss ← r; Ok (joined_values vss)) (numbers-same bits x f fc alike h k (numbers_from a (not_negative (b -ℤ a +ℤ pos 1))) m)
   for_numbers-same bits x f fc alike h k (Ok a) (Err g) m = refl
   for_numbers-same bits x f fc alike h k (Err g) u m = refl
 
   evaluated-same : (p q : Bool) (r r2 : Result Value Fault) (g g2 : Result (Elements Value) Fault) (P : Cell → Type 0) (cs ds : List Cell)
       → p ≡ q → (AllByRecursion P cs → r ≡ r2) → (AllByRecursion P ds → g ≡ g2) → AllByRecursion P (read_by_one_way p cs ds) → evaluated p r g ≡ evaluated q r2 g2
-  evaluated-same true q r r2 g g2 P cs ds e f o m = ap (λ w. do x ← w; Ok (scalar x)) (f m) ∙ ap (λ b. evaluated b r2 g2) e
+  evaluated-same true q r r2 g g2 P cs ds e f o m = ap (λ w. do x ← w; Ok (scalar_array x)) (f m) ∙ ap (λ b. evaluated b r2 g2) e
   evaluated-same false q r r2 g g2 P cs ds e f o m = ap (λ w. do x ← w; in_whole x) (o m) ∙ ap (λ b. evaluated b r2 g2) e
 
   module _ (d : Dialect) where
@@ -249,7 +249,7 @@ module _ (bs bt : List ℕ → Option (List (ℤ × ℤ))) where
       array-same (Reshape a es) b h k m = ap₂ (λ r q. do g ← r; v ← in_whole g; xs ← q; zs ← as_numbers xs; reshaped (map not_negative zs) v)
           (array-same a (front (names_in a) (names_in_each es) b) h k (first_part (SameValue h k) (array_cells_read d a (left h)) (cells_read_by_each d es (left h)) m))
           (values-same es (back (names_in a) (names_in_each es) b) h k (second_part (SameValue h k) (array_cells_read d a (left h)) (cells_read_by_each d es (left h)) m))
-      array-same (Reduce r a) b h k m = ap (λ q. do g ← q; v ← in_whole g; zs ← as_numbers v.values; x ← reduced d.bits r zs; Ok (settled (scalar x))) (array-same a b h k m)
+      array-same (Reduce r a) b h k m = ap (λ q. do g ← q; v ← in_whole g; zs ← as_numbers v.values; x ← reduced d.bits r zs; Ok (settled (scalar_array x))) (array-same a b h k m)
 
       arguments-same : (es : Expressions) (ns : List ℕ) → Bounded (names_in_each es) → (h k : Cell → Value) → AllByRecursion (SameValue h k) (array_cells_read_by_each d es (left h)) → arguments_of d es ns (left h) ≡ arguments_of d es ns (right k)
       arguments-same no_expressions ns b h k m = refl
@@ -305,5 +305,5 @@ module _ (d : Dialect) (s t : Store) where
   pub cell_named-same : (r : Reference) → s.bounds r.name ≡ t.bounds r.name → AllByRecursion (λ x. s.bounds x ≡ t.bounds x) (names_in_subscripts r.subscripts) → AllByRecursion (λ c. s.held c ≡ t.held c) (cells_read_by d r.subscripts s) → cell_named d r s ≡ cell_named d r t
   cell_named-same r e b h = ap₂ (λ q o. do is ← q; cell_in o r.name is) (subscript_values-same s.bounds t.bounds d r.subscripts b s.held t.held h) e
 
-  pub scalar-same : (e : Expression) → AllByRecursion (λ x. s.bounds x ≡ t.bounds x) (names_in e) → is_scalar e s.bounds ≡ is_scalar e t.bounds
-  scalar-same e b = is_scalar-same s.bounds t.bounds e b
+  pub scalar_array-same : (e : Expression) → AllByRecursion (λ x. s.bounds x ≡ t.bounds x) (names_in e) → is_scalar e s.bounds ≡ is_scalar e t.bounds
+  scalar_array-same e b = is_scalar-same s.bounds t.bounds e b

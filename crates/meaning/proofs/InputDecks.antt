@@ -8,6 +8,7 @@ use Rattle.tree.specs.declared.ops.Fault.TheVariants.{Overflow, ZeroDivide, Inpu
 use Rattle.meaning.specs.declared.End.TheVariants.{Done, Fault, StepLimit}
 use Rattle.meaning.specs.Sequential.{sequential_run, ending}
 use Rattle.meaning.specs.Steps.{cut_at, final_lines, is_source_name}
+use Rattle.tree.specs.declared.width.Width.TheVariants.{Plain}
 use Rattle.meaning.proofs.DeckWords.{computed, n, v, at, to, to_element, integer, logical, integers, logicals, program, lines, cell}
 
 -- ---- a PRINT without items writes one blank, a READ without items takes one line
@@ -27,11 +28,11 @@ empty_lists = program (integer "I" ∷ [])
     ∷ Print 4 (items (Single (v "I") ∷ []))
     ∷ [])
 
-empty_lists_written : (sequential_run empty_lists (lines ("1" ∷ "2" ∷ []))).written ≡ lines (" " ∷ " 2" ∷ [])
+empty_lists_written : (sequential_run Plain empty_lists (lines ("1" ∷ "2" ∷ []))).written ≡ lines (" " ∷ " 2" ∷ [])
 unfolding computed
 empty_lists_written = refl
 
-empty_lists_ending : ending (sequential_run empty_lists (lines ("1" ∷ "2" ∷ []))) ≡ Some Done
+empty_lists_ending : ending (sequential_run Plain empty_lists (lines ("1" ∷ "2" ∷ []))) ≡ Some Done
 unfolding computed
 empty_lists_ending = refl
 
@@ -45,11 +46,11 @@ line_broken_by_a_fault = program (integer "N" ∷ [])
     ∷ Print 2 (items (Single (n 2) ∷ Constant (codes "X") ∷ Single (Binary Div (n 1) (v "N")) ∷ Single (n 3) ∷ []))
     ∷ [])
 
-line_broken_by_a_fault_written : (sequential_run line_broken_by_a_fault []).written ≡ (lines (" 1" ∷ [])) ++ codes " 2X"
+line_broken_by_a_fault_written : (sequential_run Plain line_broken_by_a_fault []).written ≡ (lines (" 1" ∷ [])) ++ codes " 2X"
 unfolding computed
 line_broken_by_a_fault_written = refl
 
-line_broken_by_a_fault_ending : ending (sequential_run line_broken_by_a_fault []) ≡ Some (Fault ZeroDivide 2)
+line_broken_by_a_fault_ending : ending (sequential_run Plain line_broken_by_a_fault []) ≡ Some (Fault ZeroDivide 2)
 unfolding computed
 line_broken_by_a_fault_ending = refl
 
@@ -61,19 +62,19 @@ line_broken_by_the_limit = program (integer "I" ∷ [])
     (Print 1 (items (ImpliedDo (items (Single (v "I") ∷ [])) (codes "I") (n 1) (n 9) (n 1) ∷ []))
     ∷ [])
 
-line_broken_by_the_limit_cut_3_written : (cut_at 3 line_broken_by_the_limit []).written ≡ codes " 1 2"
+line_broken_by_the_limit_cut_3_written : (cut_at Plain 3 line_broken_by_the_limit []).written ≡ codes " 1 2"
 unfolding computed
 line_broken_by_the_limit_cut_3_written = refl
 
-line_broken_by_the_limit_cut_3_ending : ending (cut_at 3 line_broken_by_the_limit []) ≡ Some StepLimit
+line_broken_by_the_limit_cut_3_ending : ending (cut_at Plain 3 line_broken_by_the_limit []) ≡ Some StepLimit
 unfolding computed
 line_broken_by_the_limit_cut_3_ending = refl
 
-line_broken_by_the_limit_cut_3_steps : (cut_at 3 line_broken_by_the_limit []).steps ≡ 3
+line_broken_by_the_limit_cut_3_steps : (cut_at Plain 3 line_broken_by_the_limit []).steps ≡ 3
 unfolding computed
 line_broken_by_the_limit_cut_3_steps = refl
 
-line_broken_by_the_limit_cut_3_holds_i : (cut_at 3 line_broken_by_the_limit []).store.held (cell "I" []) ≡ Int (pos 3)
+line_broken_by_the_limit_cut_3_holds_i : (cut_at Plain 3 line_broken_by_the_limit []).store.held (cell "I" []) ≡ Int (pos 3)
 unfolding computed
 line_broken_by_the_limit_cut_3_holds_i = refl
 
@@ -87,11 +88,11 @@ constant_first = program []
     ∷ Print 2 (items (Single (n 1) ∷ Constant (codes "A") ∷ []))
     ∷ [])
 
-constant_first_written : (sequential_run constant_first []).written ≡ lines (" A 1B" ∷ " 1A" ∷ [])
+constant_first_written : (sequential_run Plain constant_first []).written ≡ lines (" A 1B" ∷ " 1A" ∷ [])
 unfolding computed
 constant_first_written = refl
 
-constant_first_cut_0_written : (cut_at 0 constant_first []).written ≡ []
+constant_first_cut_0_written : (cut_at Plain 0 constant_first []).written ≡ []
 unfolding computed
 constant_first_cut_0_written = refl
 
@@ -105,7 +106,7 @@ constant_in_an_implied_do = program (integer "I" ∷ [])
     ∷ Print 2 (items (ImpliedDo (items (Single (v "I") ∷ [])) (codes "I") (n 1) (n 0) (n 1) ∷ Constant (codes "B") ∷ []))
     ∷ [])
 
-constant_in_an_implied_do_written : (sequential_run constant_in_an_implied_do []).written ≡ lines ("AA" ∷ "B" ∷ [])
+constant_in_an_implied_do_written : (sequential_run Plain constant_in_an_implied_do []).written ≡ lines ("AA" ∷ "B" ∷ [])
 unfolding computed
 constant_in_an_implied_do_written = refl
 
@@ -125,11 +126,11 @@ implied_do_lists = program (integers "A" ((pos 1, pos 3) ∷ []) ∷ integers "B
     ∷ Print 4 (items (Single (v "B") ∷ Single (v "I") ∷ Single (v "J") ∷ []))
     ∷ [])
 
-implied_do_lists_written : (sequential_run implied_do_lists (lines ("3 7 8 9" ∷ "1 2 3 4" ∷ []))).written ≡ lines (" 9 8 7 2 8 3 9" ∷ " 1 3 2 4 4 3" ∷ [])
+implied_do_lists_written : (sequential_run Plain implied_do_lists (lines ("3 7 8 9" ∷ "1 2 3 4" ∷ []))).written ≡ lines (" 9 8 7 2 8 3 9" ∷ " 1 3 2 4 4 3" ∷ [])
 unfolding computed
 implied_do_lists_written = refl
 
-implied_do_lists_steps : (sequential_run implied_do_lists (lines ("3 7 8 9" ∷ "1 2 3 4" ∷ []))).steps ≡ 25
+implied_do_lists_steps : (sequential_run Plain implied_do_lists (lines ("3 7 8 9" ∷ "1 2 3 4" ∷ []))).steps ≡ 25
 unfolding computed
 implied_do_lists_steps = refl
 
@@ -150,11 +151,11 @@ arrays_in_lists = program (integers "A" ((pos 1, pos 2) ∷ (pos 1, pos 3) ∷ [
     ∷ Print 4 (items (Single (at "A" (n 1 ∷ n 1 ∷ [])) ∷ Single (at "A" (n 2 ∷ n 1 ∷ [])) ∷ Single (at "A" (n 1 ∷ n 2 ∷ [])) ∷ Single (at "A" (n 2 ∷ n 3 ∷ [])) ∷ Single (v "N") ∷ []))
     ∷ [])
 
-arrays_in_lists_written : (sequential_run arrays_in_lists (lines ("1 2 3" ∷ "4 5 6 99" ∷ "7" ∷ []))).written ≡ lines (" 1 2 3 6 7" ∷ [])
+arrays_in_lists_written : (sequential_run Plain arrays_in_lists (lines ("1 2 3" ∷ "4 5 6 99" ∷ "7" ∷ []))).written ≡ lines (" 1 2 3 6 7" ∷ [])
 unfolding computed
 arrays_in_lists_written = refl
 
-arrays_in_lists_steps : (sequential_run arrays_in_lists (lines ("1 2 3" ∷ "4 5 6 99" ∷ "7" ∷ []))).steps ≡ 10
+arrays_in_lists_steps : (sequential_run Plain arrays_in_lists (lines ("1 2 3" ∷ "4 5 6 99" ∷ "7" ∷ []))).steps ≡ 10
 unfolding computed
 arrays_in_lists_steps = refl
 
@@ -173,11 +174,11 @@ rest_of_the_line = program (integer "I" ∷ integer "J" ∷ [])
     ∷ Print 3 (items (Single (v "I") ∷ Single (v "J") ∷ []))
     ∷ [])
 
-rest_of_the_line_written : (sequential_run rest_of_the_line (lines ("1 2 ,, X" ∷ "3" ∷ []))).written ≡ lines (" 1 3" ∷ [])
+rest_of_the_line_written : (sequential_run Plain rest_of_the_line (lines ("1 2 ,, X" ∷ "3" ∷ []))).written ≡ lines (" 1 3" ∷ [])
 unfolding computed
 rest_of_the_line_written = refl
 
-rest_of_the_line_ending : ending (sequential_run rest_of_the_line (lines ("1 2 ,, X" ∷ "3" ∷ []))) ≡ Some Done
+rest_of_the_line_ending : ending (sequential_run Plain rest_of_the_line (lines ("1 2 ,, X" ∷ "3" ∷ []))) ≡ Some Done
 unfolding computed
 rest_of_the_line_ending = refl
 
@@ -196,7 +197,7 @@ values_on_further_lines = program (integer "I" ∷ integer "J" ∷ integer "K" �
     ∷ Print 2 (items (Single (v "I") ∷ Single (v "J") ∷ Single (v "K") ∷ []))
     ∷ [])
 
-values_on_further_lines_written : (sequential_run values_on_further_lines (codes "  +1 ," ++ (10 ∷ []) ++ (10 ∷ []) ++ (9 ∷ []) ++ codes "-2" ++ (10 ∷ []) ++ codes " ,3")).written ≡ lines (" 1 -2 3" ∷ [])
+values_on_further_lines_written : (sequential_run Plain values_on_further_lines (codes "  +1 ," ++ (10 ∷ []) ++ (10 ∷ []) ++ (9 ∷ []) ++ codes "-2" ++ (10 ∷ []) ++ codes " ,3")).written ≡ lines (" 1 -2 3" ∷ [])
 unfolding computed
 values_on_further_lines_written = refl
 
@@ -211,7 +212,7 @@ comma_over_lines = program (integer "I" ∷ integer "J" ∷ [])
     (Read 1 (items (Single (v "I") ∷ Single (v "J") ∷ []))
     ∷ [])
 
-comma_over_lines_ending : ending (sequential_run comma_over_lines (lines ("1," ∷ ",2" ∷ []))) ≡ Some (Fault InputForm 1)
+comma_over_lines_ending : ending (sequential_run Plain comma_over_lines (lines ("1," ∷ ",2" ∷ []))) ≡ Some (Fault InputForm 1)
 unfolding computed
 comma_over_lines_ending = refl
 
@@ -228,7 +229,7 @@ comma_before_the_first_value = program (integer "I" ∷ integer "J" ∷ [])
     ∷ Read 2 (items (Single (v "I") ∷ []))
     ∷ [])
 
-comma_before_the_first_value_ending : ending (sequential_run comma_before_the_first_value (lines ("1,2" ∷ ",3" ∷ []))) ≡ Some (Fault InputForm 2)
+comma_before_the_first_value_ending : ending (sequential_run Plain comma_before_the_first_value (lines ("1,2" ∷ ",3" ∷ []))) ≡ Some (Fault InputForm 2)
 unfolding computed
 comma_before_the_first_value_ending = refl
 
@@ -241,11 +242,11 @@ needed_line = program (integers "A" ((pos 1, pos 3) ∷ []) ∷ integer "N" ∷ 
     (Read 2 (items (Single (at "A" (Binary Div (n 1) (v "N") ∷ [])) ∷ []))
     ∷ [])
 
-needed_line_ending : ending (sequential_run needed_line []) ≡ Some (Fault InputEnd 2)
+needed_line_ending : ending (sequential_run Plain needed_line []) ≡ Some (Fault InputEnd 2)
 unfolding computed
 needed_line_ending = refl
 
-needed_line_cut_0_ending : ending (cut_at 0 needed_line []) ≡ Some StepLimit
+needed_line_cut_0_ending : ending (cut_at Plain 0 needed_line []) ≡ Some StepLimit
 unfolding computed
 needed_line_cut_0_ending = refl
 
@@ -260,7 +261,7 @@ subscripts_before_value = program (integers "A" ((pos 1, pos 3) ∷ []) ∷ inte
     (Read 2 (items (Single (at "A" (Binary Div (n 1) (v "N") ∷ [])) ∷ []))
     ∷ [])
 
-subscripts_before_value_ending : ending (sequential_run subscripts_before_value (lines ("X" ∷ []))) ≡ Some (Fault ZeroDivide 2)
+subscripts_before_value_ending : ending (sequential_run Plain subscripts_before_value (lines ("X" ∷ []))) ≡ Some (Fault ZeroDivide 2)
 unfolding computed
 subscripts_before_value_ending = refl
 
@@ -274,7 +275,7 @@ number_out_of_range = program (integer "I" ∷ [])
     (Read 1 (items (Single (v "I") ∷ []))
     ∷ [])
 
-number_out_of_range_ending : ending (sequential_run number_out_of_range (lines ("-2147483649" ∷ []))) ≡ Some (Fault Overflow 1)
+number_out_of_range_ending : ending (sequential_run Plain number_out_of_range (lines ("-2147483649" ∷ []))) ≡ Some (Fault Overflow 1)
 unfolding computed
 number_out_of_range_ending = refl
 
@@ -290,7 +291,7 @@ least_number = program (integer "I" ∷ [])
     ∷ Print 2 (items (Single (v "I") ∷ []))
     ∷ [])
 
-least_number_written : (sequential_run least_number (lines ("-2147483648" ∷ []))).written ≡ lines (" -2147483648" ∷ [])
+least_number_written : (sequential_run Plain least_number (lines ("-2147483648" ∷ []))).written ≡ lines (" -2147483648" ∷ [])
 unfolding computed
 least_number_written = refl
 
@@ -304,7 +305,7 @@ form_before_range = program (integer "I" ∷ [])
     (Read 1 (items (Single (v "I") ∷ []))
     ∷ [])
 
-form_before_range_ending : ending (sequential_run form_before_range (lines ("99999999999X" ∷ []))) ≡ Some (Fault InputForm 1)
+form_before_range_ending : ending (sequential_run Plain form_before_range (lines ("99999999999X" ∷ []))) ≡ Some (Fault InputForm 1)
 unfolding computed
 form_before_range_ending = refl
 
@@ -318,7 +319,7 @@ sign_alone = program (integer "I" ∷ [])
     (Read 1 (items (Single (v "I") ∷ []))
     ∷ [])
 
-sign_alone_ending : ending (sequential_run sign_alone (lines ("-" ∷ []))) ≡ Some (Fault InputForm 1)
+sign_alone_ending : ending (sequential_run Plain sign_alone (lines ("-" ∷ []))) ≡ Some (Fault InputForm 1)
 unfolding computed
 sign_alone_ending = refl
 
@@ -333,11 +334,11 @@ item_stored_before_the_next = program (integers "A" ((pos 1, pos 3) ∷ []) ∷ 
     (Read 2 (items (Single (v "I") ∷ Single (at "A" (v "I" ∷ [])) ∷ Single (v "J") ∷ []))
     ∷ [])
 
-item_stored_before_the_next_ending : ending (sequential_run item_stored_before_the_next (lines ("2 5 X" ∷ []))) ≡ Some (Fault InputForm 2)
+item_stored_before_the_next_ending : ending (sequential_run Plain item_stored_before_the_next (lines ("2 5 X" ∷ []))) ≡ Some (Fault InputForm 2)
 unfolding computed
 item_stored_before_the_next_ending = refl
 
-item_stored_before_the_next_holds_a_2 : (sequential_run item_stored_before_the_next (lines ("2 5 X" ∷ []))).store.held (cell "A" (pos 2 ∷ [])) ≡ Int (pos 5)
+item_stored_before_the_next_holds_a_2 : (sequential_run Plain item_stored_before_the_next (lines ("2 5 X" ∷ []))).store.held (cell "A" (pos 2 ∷ [])) ≡ Int (pos 5)
 unfolding computed
 item_stored_before_the_next_holds_a_2 = refl
 
@@ -354,7 +355,7 @@ logical_input = program (logicals "L" ((pos 1, pos 6) ∷ []) ∷ [])
     ∷ Print 3 (items (Single (v "L") ∷ []))
     ∷ [])
 
-logical_input_written : (sequential_run logical_input (lines ("T .f tRUE .FALSE. Fx1 .t." ∷ []))).written ≡ lines (" T F T F F T" ∷ [])
+logical_input_written : (sequential_run Plain logical_input (lines ("T .f tRUE .FALSE. Fx1 .t." ∷ []))).written ≡ lines (" T F T F F T" ∷ [])
 unfolding computed
 logical_input_written = refl
 
@@ -369,7 +370,7 @@ slash_in_a_logical = program (logical "L" ∷ [])
     (Read 2 (items (Single (v "L") ∷ []))
     ∷ [])
 
-slash_in_a_logical_ending : ending (sequential_run slash_in_a_logical (lines ("T/" ∷ []))) ≡ Some (Fault InputForm 2)
+slash_in_a_logical_ending : ending (sequential_run Plain slash_in_a_logical (lines ("T/" ∷ []))) ≡ Some (Fault InputForm 2)
 unfolding computed
 slash_in_a_logical_ending = refl
 
@@ -388,7 +389,7 @@ line_ends = program (integer "I" ∷ integer "J" ∷ [])
     ∷ Print 3 (items (Single (v "I") ∷ Single (v "J") ∷ []))
     ∷ [])
 
-line_ends_written : (sequential_run line_ends (codes "1" ++ (13 ∷ []) ++ (10 ∷ []) ++ codes "2" ++ (13 ∷ []) ++ (10 ∷ []))).written ≡ lines (" 1 2" ∷ [])
+line_ends_written : (sequential_run Plain line_ends (codes "1" ++ (13 ∷ []) ++ (10 ∷ []) ++ codes "2" ++ (13 ∷ []) ++ (10 ∷ []))).written ≡ lines (" 1 2" ∷ [])
 unfolding computed
 line_ends_written = refl
 
@@ -402,7 +403,7 @@ carriage_return_within_a_line = program (integer "I" ∷ [])
     (Read 1 (items (Single (v "I") ∷ []))
     ∷ [])
 
-carriage_return_within_a_line_ending : ending (sequential_run carriage_return_within_a_line (codes "1" ++ (13 ∷ []) ++ codes " 2" ++ (10 ∷ []))) ≡ Some (Fault InputForm 1)
+carriage_return_within_a_line_ending : ending (sequential_run Plain carriage_return_within_a_line (codes "1" ++ (13 ∷ []) ++ codes " 2" ++ (10 ∷ []))) ≡ Some (Fault InputForm 1)
 unfolding computed
 carriage_return_within_a_line_ending = refl
 
@@ -419,19 +420,19 @@ steps_of_stores = program (integers "A" ((pos 1, pos 3) ∷ []) ∷ [])
     ∷ Assignment 3 None (to_element "A" (n 2 ∷ [])) (n 9)
     ∷ [])
 
-steps_of_stores_steps : (sequential_run steps_of_stores (lines ("1 2 3" ∷ []))).steps ≡ 6
+steps_of_stores_steps : (sequential_run Plain steps_of_stores (lines ("1 2 3" ∷ []))).steps ≡ 6
 unfolding computed
 steps_of_stores_steps = refl
 
-steps_of_stores_cut_3_holds_a_2 : (cut_at 3 steps_of_stores (lines ("1 2 3" ∷ []))).store.held (cell "A" (pos 2 ∷ [])) ≡ Int (pos 2)
+steps_of_stores_cut_3_holds_a_2 : (cut_at Plain 3 steps_of_stores (lines ("1 2 3" ∷ []))).store.held (cell "A" (pos 2 ∷ [])) ≡ Int (pos 2)
 unfolding computed
 steps_of_stores_cut_3_holds_a_2 = refl
 
-steps_of_stores_cut_3_holds_a_3 : (cut_at 3 steps_of_stores (lines ("1 2 3" ∷ []))).store.held (cell "A" (pos 3 ∷ [])) ≡ Int (pos 0)
+steps_of_stores_cut_3_holds_a_3 : (cut_at Plain 3 steps_of_stores (lines ("1 2 3" ∷ []))).store.held (cell "A" (pos 3 ∷ [])) ≡ Int (pos 0)
 unfolding computed
 steps_of_stores_cut_3_holds_a_3 = refl
 
-steps_of_stores_cut_5_holds_a_2 : (cut_at 5 steps_of_stores (lines ("1 2 3" ∷ []))).store.held (cell "A" (pos 2 ∷ [])) ≡ Int (pos 2)
+steps_of_stores_cut_5_holds_a_2 : (cut_at Plain 5 steps_of_stores (lines ("1 2 3" ∷ []))).store.held (cell "A" (pos 2 ∷ [])) ≡ Int (pos 2)
 unfolding computed
 steps_of_stores_cut_5_holds_a_2 = refl
 
@@ -446,11 +447,11 @@ growth_in_an_output_list = program (integer "I" ∷ integer "N" ∷ [])
     ∷ Print 3 (items (ImpliedDo (items (Single (v "I") ∷ [])) (codes "I") (n 1) (n 2) (v "N") ∷ []))
     ∷ [])
 
-growth_in_an_output_list_ending : ending (sequential_run growth_in_an_output_list []) ≡ Some (Fault Overflow 1)
+growth_in_an_output_list_ending : ending (sequential_run Plain growth_in_an_output_list []) ≡ Some (Fault Overflow 1)
 unfolding computed
 growth_in_an_output_list_ending = refl
 
-growth_in_an_output_list_written : (sequential_run growth_in_an_output_list []).written ≡ codes " 2147483647"
+growth_in_an_output_list_written : (sequential_run Plain growth_in_an_output_list []).written ≡ codes " 2147483647"
 unfolding computed
 growth_in_an_output_list_written = refl
 
@@ -468,7 +469,7 @@ final_store = program (integers "A" ((pos 0, pos 1) ∷ (pos 1, pos 2) ∷ []) �
     ∷ Assignment 5 None (to "K") (n 3)
     ∷ [])
 
-final_store_final : final_lines final_store (sequential_run final_store []).store ≡ lines ("A(0,1) = 0" ∷ "A(1,1) = 0" ∷ "A(0,2) = 0" ∷ "A(1,2) = -7" ∷ "K = 3" ∷ "L = T" ∷ [])
+final_store_final : final_lines final_store (sequential_run Plain final_store []).store ≡ lines ("A(0,1) = 0" ∷ "A(1,1) = 0" ∷ "A(0,2) = 0" ∷ "A(1,2) = -7" ∷ "K = 3" ∷ "L = T" ∷ [])
 unfolding computed
 final_store_final = refl
 
@@ -507,19 +508,19 @@ realistic_sweep = program (integer "I" ∷ integer "ITER" ∷ integer "J" ∷ in
     ∷ Print 13 (items (ImpliedDo (items (Single (at "U" (v "I" ∷ n 1 ∷ [])) ∷ [])) (codes "I") (n 0) (n 4) (n 1) ∷ []))
     ∷ [])
 
-realistic_sweep_written : (sequential_run realistic_sweep []).written ≡ lines (" 0 20 24 20 0" ∷ [])
+realistic_sweep_written : (sequential_run Plain realistic_sweep []).written ≡ lines (" 0 20 24 20 0" ∷ [])
 unfolding computed
 realistic_sweep_written = refl
 
-realistic_sweep_holds_u_0_0 : (sequential_run realistic_sweep []).store.held (cell "U" (pos 0 ∷ pos 0 ∷ [])) ≡ Int (pos 64)
+realistic_sweep_holds_u_0_0 : (sequential_run Plain realistic_sweep []).store.held (cell "U" (pos 0 ∷ pos 0 ∷ [])) ≡ Int (pos 64)
 unfolding computed
 realistic_sweep_holds_u_0_0 = refl
 
-realistic_sweep_holds_v_4_4 : (sequential_run realistic_sweep []).store.held (cell "V" (pos 4 ∷ pos 4 ∷ [])) ≡ Int (pos 0)
+realistic_sweep_holds_v_4_4 : (sequential_run Plain realistic_sweep []).store.held (cell "V" (pos 4 ∷ pos 4 ∷ [])) ≡ Int (pos 0)
 unfolding computed
 realistic_sweep_holds_v_4_4 = refl
 
-realistic_sweep_holds_iter : (sequential_run realistic_sweep []).store.held (cell "ITER" []) ≡ Int (pos 3)
+realistic_sweep_holds_iter : (sequential_run Plain realistic_sweep []).store.held (cell "ITER" []) ≡ Int (pos 3)
 unfolding computed
 realistic_sweep_holds_iter = refl
 
@@ -537,7 +538,7 @@ made_name = refl
 abbrev made_names : Program
 made_names = program (integer "FV_I" ∷ integer "I" ∷ []) []
 
-made_names_final : final_lines made_names (sequential_run made_names []).store ≡ lines ("I = 0" ∷ [])
+made_names_final : final_lines made_names (sequential_run Plain made_names []).store ≡ lines ("I = 0" ∷ [])
 unfolding computed
 made_names_final = refl
 
@@ -551,10 +552,10 @@ jump_backwards = program (integer "I" ∷ integer "K" ∷ [])
     ∷ []))
     ∷ [])
 
-jump_backwards_ending : ending (sequential_run jump_backwards []) ≡ None
+jump_backwards_ending : ending (sequential_run Plain jump_backwards []) ≡ None
 unfolding computed
 jump_backwards_ending = refl
 
-jump_backwards_holds_k : (sequential_run jump_backwards []).store.held (cell "K" []) ≡ Int (pos 1)
+jump_backwards_holds_k : (sequential_run Plain jump_backwards []).store.held (cell "K" []) ≡ Int (pos 1)
 unfolding computed
 jump_backwards_holds_k = refl

@@ -11,10 +11,10 @@ pub mod Limit
 pub mod Numerals
 pub mod Relines
 pub mod ValueDecks
+pub mod Widths
+pub mod WidthDecks
 pub mod WorkedDecks
 pub mod AgreeingValues
 pub mod ArrayDecks
 pub mod ArrayLaws
-pub mod Dialects
-pub mod SameRuns
 pub mod Writes

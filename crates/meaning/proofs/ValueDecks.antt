@@ -9,6 +9,7 @@ use Rattle.tree.specs.declared.ops.Fault.TheVariants.{Overflow, ZeroDivide, Boun
 use Rattle.meaning.specs.declared.End.TheVariants.{Done, Fault}
 use Rattle.meaning.specs.Sequential.{sequential_run, ending}
 use Rattle.meaning.specs.Steps.{cut_at}
+use Rattle.tree.specs.declared.width.Width.TheVariants.{Plain}
 use Rattle.meaning.proofs.DeckWords.{computed, n, v, at, to, to_element, integer, logical, integers, program, lines, cell}
 
 -- ---- division truncates towards zero, and MOD has the sign of its first argument
@@ -19,7 +20,7 @@ division_truncates = program []
     (Print 1 (items (Single (Unary Neg (Binary Div (n 7) (n 2))) ∷ Single (Binary Div (Unary Neg (n 7)) (n 2)) ∷ Single (Binary Div (n 7) (Unary Neg (n 2))) ∷ Single (Apply Mod (expressions (Unary Neg (n 7) ∷ n 3 ∷ []))) ∷ Single (Apply Mod (expressions (n 7 ∷ Unary Neg (n 3) ∷ []))) ∷ []))
     ∷ [])
 
-division_truncates_written : (sequential_run division_truncates []).written ≡ lines (" -3 -3 -3 -1 1" ∷ [])
+division_truncates_written : (sequential_run Plain division_truncates []).written ≡ lines (" -3 -3 -3 -1 1" ∷ [])
 unfolding computed
 division_truncates_written = refl
 
@@ -33,11 +34,11 @@ powers = program []
     ∷ Print 2 (items (Single (Binary Pow (n 0) (Unary Neg (n 1))) ∷ []))
     ∷ [])
 
-powers_written : (sequential_run powers []).written ≡ lines (" 1024 0 -1 1 1" ∷ [])
+powers_written : (sequential_run Plain powers []).written ≡ lines (" 1024 0 -1 1 1" ∷ [])
 unfolding computed
 powers_written = refl
 
-powers_ending : ending (sequential_run powers []) ≡ Some (Fault ZeroDivide 2)
+powers_ending : ending (sequential_run Plain powers []) ≡ Some (Fault ZeroDivide 2)
 unfolding computed
 powers_ending = refl
 
@@ -49,11 +50,11 @@ remainder_of_the_least = program []
     (Print 1 (items (Single (Apply Mod (expressions (Binary Sub (Unary Neg (n 170141183460469231731687303715884105727)) (n 1) ∷ Unary Neg (n 1) ∷ []))) ∷ []))
     ∷ [])
 
-remainder_of_the_least_written : (sequential_run remainder_of_the_least []).written ≡ lines (" 0" ∷ [])
+remainder_of_the_least_written : (sequential_run Plain remainder_of_the_least []).written ≡ lines (" 0" ∷ [])
 unfolding computed
 remainder_of_the_least_written = refl
 
-remainder_of_the_least_ending : ending (sequential_run remainder_of_the_least []) ≡ Some Done
+remainder_of_the_least_ending : ending (sequential_run Plain remainder_of_the_least []) ≡ Some Done
 unfolding computed
 remainder_of_the_least_ending = refl
 
@@ -65,7 +66,7 @@ left_operand_first = program (integer "N" ∷ [])
     (Print 1 (items (Single (Binary Add (Binary Div (n 1) (v "N")) (Binary Pow (n 2) (n 127))) ∷ []))
     ∷ [])
 
-left_operand_first_ending : ending (sequential_run left_operand_first []) ≡ Some (Fault ZeroDivide 1)
+left_operand_first_ending : ending (sequential_run Plain left_operand_first []) ≡ Some (Fault ZeroDivide 1)
 unfolding computed
 left_operand_first_ending = refl
 
@@ -77,7 +78,7 @@ right_operand_second = program (integer "N" ∷ [])
     (Print 1 (items (Single (Binary Add (Binary Pow (n 2) (n 127)) (Binary Div (n 1) (v "N"))) ∷ []))
     ∷ [])
 
-right_operand_second_ending : ending (sequential_run right_operand_second []) ≡ Some (Fault Overflow 1)
+right_operand_second_ending : ending (sequential_run Plain right_operand_second []) ≡ Some (Fault Overflow 1)
 unfolding computed
 right_operand_second_ending = refl
 
@@ -90,7 +91,7 @@ both_operands = program (logical "L" ∷ integer "N" ∷ [])
     (Assignment 2 None (to "L") (Binary And (Logic false) (Binary Eq (Binary Div (n 1) (v "N")) (n 1)))
     ∷ [])
 
-both_operands_ending : ending (sequential_run both_operands []) ≡ Some (Fault ZeroDivide 2)
+both_operands_ending : ending (sequential_run Plain both_operands []) ≡ Some (Fault ZeroDivide 2)
 unfolding computed
 both_operands_ending = refl
 
@@ -103,7 +104,7 @@ subscripts_before_bounds = program (integers "A" ((pos 1, pos 3) ∷ (pos 1, pos
     (Print 2 (items (Single (at "A" (n 4 ∷ Binary Div (n 1) (v "N") ∷ [])) ∷ []))
     ∷ [])
 
-subscripts_before_bounds_ending : ending (sequential_run subscripts_before_bounds []) ≡ Some (Fault ZeroDivide 2)
+subscripts_before_bounds_ending : ending (sequential_run Plain subscripts_before_bounds []) ≡ Some (Fault ZeroDivide 2)
 unfolding computed
 subscripts_before_bounds_ending = refl
 
@@ -116,7 +117,7 @@ subscripts_in_order = program (integers "A" ((pos 1, pos 3) ∷ (pos 1, pos 3) �
     (Print 2 (items (Single (at "A" (Binary Div (n 1) (v "N") ∷ Binary Pow (n 2) (n 127) ∷ [])) ∷ []))
     ∷ [])
 
-subscripts_in_order_ending : ending (sequential_run subscripts_in_order []) ≡ Some (Fault ZeroDivide 2)
+subscripts_in_order_ending : ending (sequential_run Plain subscripts_in_order []) ≡ Some (Fault ZeroDivide 2)
 unfolding computed
 subscripts_in_order_ending = refl
 
@@ -128,7 +129,7 @@ arguments_in_order = program (integer "N" ∷ [])
     (Print 1 (items (Single (Apply Max (expressions (n 1 ∷ Binary Div (n 1) (v "N") ∷ Binary Pow (n 2) (n 127) ∷ []))) ∷ []))
     ∷ [])
 
-arguments_in_order_ending : ending (sequential_run arguments_in_order []) ≡ Some (Fault ZeroDivide 1)
+arguments_in_order_ending : ending (sequential_run Plain arguments_in_order []) ≡ Some (Fault ZeroDivide 1)
 unfolding computed
 arguments_in_order_ending = refl
 
@@ -141,7 +142,7 @@ right_side_first = program (integers "A" ((pos 1, pos 3) ∷ []) ∷ integer "N"
     (Assignment 2 None (to_element "A" (Binary Div (n 1) (v "N") ∷ [])) (Binary Pow (n 2) (n 127))
     ∷ [])
 
-right_side_first_ending : ending (sequential_run right_side_first []) ≡ Some (Fault Overflow 2)
+right_side_first_ending : ending (sequential_run Plain right_side_first []) ≡ Some (Fault Overflow 2)
 unfolding computed
 right_side_first_ending = refl
 
@@ -154,7 +155,7 @@ bounds_before_range = program (integers "A" ((pos 1, pos 3) ∷ []) ∷ [])
     (Assignment 2 None (to_element "A" (n 4 ∷ [])) (n 2147483648)
     ∷ [])
 
-bounds_before_range_ending : ending (sequential_run bounds_before_range []) ≡ Some (Fault Bounds 2)
+bounds_before_range_ending : ending (sequential_run Plain bounds_before_range []) ≡ Some (Fault Bounds 2)
 unfolding computed
 bounds_before_range_ending = refl
 
@@ -166,11 +167,11 @@ range_before_step = program (integer "I" ∷ [])
     (Assignment 1 None (to "I") (n 2147483648)
     ∷ [])
 
-range_before_step_steps : (sequential_run range_before_step []).steps ≡ 1
+range_before_step_steps : (sequential_run Plain range_before_step []).steps ≡ 1
 unfolding computed
 range_before_step_steps = refl
 
-range_before_step_cut_1_ending : ending (cut_at 1 range_before_step []) ≡ Some (Fault Overflow 1)
+range_before_step_cut_1_ending : ending (cut_at Plain 1 range_before_step []) ≡ Some (Fault Overflow 1)
 unfolding computed
 range_before_step_cut_1_ending = refl
 
@@ -187,11 +188,11 @@ bounds_of_each_dimension = program (integers "A" ((negsuc 0, pos 1) ∷ (pos 1, 
     ∷ Assignment 4 None (to_element "A" (n 1 ∷ n 0 ∷ [])) (n 5)
     ∷ [])
 
-bounds_of_each_dimension_written : (sequential_run bounds_of_each_dimension []).written ≡ lines (" 0 0 0 5 0 0" ∷ [])
+bounds_of_each_dimension_written : (sequential_run Plain bounds_of_each_dimension []).written ≡ lines (" 0 0 0 5 0 0" ∷ [])
 unfolding computed
 bounds_of_each_dimension_written = refl
 
-bounds_of_each_dimension_ending : ending (sequential_run bounds_of_each_dimension []) ≡ Some (Fault Bounds 4)
+bounds_of_each_dimension_ending : ending (sequential_run Plain bounds_of_each_dimension []) ≡ Some (Fault Bounds 4)
 unfolding computed
 bounds_of_each_dimension_ending = refl
 
@@ -208,11 +209,11 @@ logical_assignment = program (logical "L" ∷ logical "M" ∷ [])
     ∷ Print 4 (items (Single (v "L") ∷ Single (v "M") ∷ Single (Binary Eqv (v "L") (v "M")) ∷ []))
     ∷ [])
 
-logical_assignment_written : (sequential_run logical_assignment []).written ≡ lines (" T F F" ∷ [])
+logical_assignment_written : (sequential_run Plain logical_assignment []).written ≡ lines (" T F F" ∷ [])
 unfolding computed
 logical_assignment_written = refl
 
-logical_assignment_holds_m : (sequential_run logical_assignment []).store.held (cell "M" []) ≡ Truth false
+logical_assignment_holds_m : (sequential_run Plain logical_assignment []).store.held (cell "M" []) ≡ Truth false
 unfolding computed
 logical_assignment_holds_m = refl
 
@@ -236,11 +237,11 @@ last_values = program (integer "I" ∷ integer "J" ∷ integer "K" ∷ integer "
     ∷ Print 9 (items (Single (v "I") ∷ Single (v "J") ∷ Single (v "K") ∷ Single (v "L") ∷ []))
     ∷ [])
 
-last_values_written : (sequential_run last_values []).written ≡ lines (" 6 7 -1 5" ∷ [])
+last_values_written : (sequential_run Plain last_values []).written ≡ lines (" 6 7 -1 5" ∷ [])
 unfolding computed
 last_values_written = refl
 
-last_values_steps : (sequential_run last_values []).steps ≡ 11
+last_values_steps : (sequential_run Plain last_values []).steps ≡ 11
 unfolding computed
 last_values_steps = refl
 
@@ -255,15 +256,15 @@ last_value_too_great = program (integer "I" ∷ integer "K" ∷ [])
     ∷ []))
     ∷ [])
 
-last_value_too_great_ending : ending (sequential_run last_value_too_great []) ≡ Some (Fault Overflow 1)
+last_value_too_great_ending : ending (sequential_run Plain last_value_too_great []) ≡ Some (Fault Overflow 1)
 unfolding computed
 last_value_too_great_ending = refl
 
-last_value_too_great_holds_k : (sequential_run last_value_too_great []).store.held (cell "K" []) ≡ Int (pos 1)
+last_value_too_great_holds_k : (sequential_run Plain last_value_too_great []).store.held (cell "K" []) ≡ Int (pos 1)
 unfolding computed
 last_value_too_great_holds_k = refl
 
-last_value_too_great_holds_i : (sequential_run last_value_too_great []).store.held (cell "I" []) ≡ Int (pos 2147483647)
+last_value_too_great_holds_i : (sequential_run Plain last_value_too_great []).store.held (cell "I" []) ≡ Int (pos 2147483647)
 unfolding computed
 last_value_too_great_holds_i = refl
 
@@ -276,7 +277,7 @@ increment_before_first_value = program (integer "I" ∷ integer "J" ∷ [])
     (Do 1 (codes "I") (n 2147483648) (n 1) (v "J") no_statements
     ∷ [])
 
-increment_before_first_value_ending : ending (sequential_run increment_before_first_value []) ≡ Some (Fault ZeroStep 1)
+increment_before_first_value_ending : ending (sequential_run Plain increment_before_first_value []) ≡ Some (Fault ZeroStep 1)
 unfolding computed
 increment_before_first_value_ending = refl
 
@@ -291,11 +292,11 @@ trip_count_overflows = program (integer "I" ∷ [])
     ∷ Do 2 (codes "I") (n 0) (Unary Neg (n 170141183460469231731687303715884105727)) (Unary Neg (n 1)) no_statements
     ∷ [])
 
-trip_count_overflows_ending : ending (sequential_run trip_count_overflows []) ≡ Some (Fault Overflow 2)
+trip_count_overflows_ending : ending (sequential_run Plain trip_count_overflows []) ≡ Some (Fault Overflow 2)
 unfolding computed
 trip_count_overflows_ending = refl
 
-trip_count_overflows_holds_i : (sequential_run trip_count_overflows []).store.held (cell "I" []) ≡ Int (pos 0)
+trip_count_overflows_holds_i : (sequential_run Plain trip_count_overflows []).store.held (cell "I" []) ≡ Int (pos 0)
 unfolding computed
 trip_count_overflows_holds_i = refl
 
@@ -308,7 +309,7 @@ first_parameter_first = program (integer "I" ∷ integer "N" ∷ [])
     (Do 1 (codes "I") (Binary Div (n 1) (v "N")) (Binary Pow (n 2) (n 127)) (n 1) no_statements
     ∷ [])
 
-first_parameter_first_ending : ending (sequential_run first_parameter_first []) ≡ Some (Fault ZeroDivide 1)
+first_parameter_first_ending : ending (sequential_run Plain first_parameter_first []) ≡ Some (Fault ZeroDivide 1)
 unfolding computed
 first_parameter_first_ending = refl
 
@@ -321,7 +322,7 @@ increment_last = program (integer "I" ∷ integer "N" ∷ [])
     (Do 1 (codes "I") (n 1) (Binary Div (n 1) (v "N")) (v "N") no_statements
     ∷ [])
 
-increment_last_ending : ending (sequential_run increment_last []) ≡ Some (Fault ZeroDivide 1)
+increment_last_ending : ending (sequential_run Plain increment_last []) ≡ Some (Fault ZeroDivide 1)
 unfolding computed
 increment_last_ending = refl
 
@@ -342,7 +343,7 @@ trip_count_is_fixed = program (integer "I" ∷ integer "K" ∷ integer "N" ∷ [
     ∷ Print 5 (items (Single (v "K") ∷ Single (v "N") ∷ []))
     ∷ [])
 
-trip_count_is_fixed_written : (sequential_run trip_count_is_fixed []).written ≡ lines (" 6 1" ∷ [])
+trip_count_is_fixed_written : (sequential_run Plain trip_count_is_fixed []).written ≡ lines (" 6 1" ∷ [])
 unfolding computed
 trip_count_is_fixed_written = refl
 
@@ -362,7 +363,7 @@ nested_loops = program (integer "I" ∷ integer "J" ∷ integer "K" ∷ [])
     ∷ Print 4 (items (Single (v "K") ∷ Single (v "I") ∷ Single (v "J") ∷ []))
     ∷ [])
 
-nested_loops_written : (sequential_run nested_loops []).written ≡ lines (" 114 4 4" ∷ [])
+nested_loops_written : (sequential_run Plain nested_loops []).written ≡ lines (" 114 4 4" ∷ [])
 unfolding computed
 nested_loops_written = refl
 
@@ -392,11 +393,11 @@ else_if_and_else = program (integer "I" ∷ integer "K" ∷ [])
     ∷ Print 9 (items (Single (v "K") ∷ []))
     ∷ [])
 
-else_if_and_else_written : (sequential_run else_if_and_else (lines ("5" ∷ []))).written ≡ lines (" 2" ∷ [])
+else_if_and_else_written : (sequential_run Plain else_if_and_else (lines ("5" ∷ []))).written ≡ lines (" 2" ∷ [])
 unfolding computed
 else_if_and_else_written = refl
 
-else_if_and_else_steps : (sequential_run else_if_and_else (lines ("5" ∷ []))).steps ≡ 7
+else_if_and_else_steps : (sequential_run Plain else_if_and_else (lines ("5" ∷ []))).steps ≡ 7
 unfolding computed
 else_if_and_else_steps = refl
 
@@ -416,11 +417,11 @@ fault_in_else_if = program (integer "K" ∷ integer "N" ∷ [])
     ∷ [])) no_arms)) no_statements
     ∷ [])
 
-fault_in_else_if_ending : ending (sequential_run fault_in_else_if []) ≡ Some (Fault ZeroDivide 1)
+fault_in_else_if_ending : ending (sequential_run Plain fault_in_else_if []) ≡ Some (Fault ZeroDivide 1)
 unfolding computed
 fault_in_else_if_ending = refl
 
-fault_in_else_if_steps : (sequential_run fault_in_else_if []).steps ≡ 2
+fault_in_else_if_steps : (sequential_run Plain fault_in_else_if []).steps ≡ 2
 unfolding computed
 fault_in_else_if_steps = refl
 
@@ -444,15 +445,15 @@ jump_over_statements = program (integer "I" ∷ integer "N" ∷ [])
     ∷ Print 7 (items (Single (v "I") ∷ []))
     ∷ [])
 
-jump_over_statements_written : (sequential_run jump_over_statements []).written ≡ lines (" 1" ∷ [])
+jump_over_statements_written : (sequential_run Plain jump_over_statements []).written ≡ lines (" 1" ∷ [])
 unfolding computed
 jump_over_statements_written = refl
 
-jump_over_statements_ending : ending (sequential_run jump_over_statements []) ≡ Some Done
+jump_over_statements_ending : ending (sequential_run Plain jump_over_statements []) ≡ Some Done
 unfolding computed
 jump_over_statements_ending = refl
 
-jump_over_statements_steps : (sequential_run jump_over_statements []).steps ≡ 4
+jump_over_statements_steps : (sequential_run Plain jump_over_statements []).steps ≡ 4
 unfolding computed
 jump_over_statements_steps = refl
 
@@ -474,7 +475,7 @@ jump_past_another_label = program (integer "K" ∷ [])
     ∷ Print 4 (items (Single (v "K") ∷ []))
     ∷ [])
 
-jump_past_another_label_written : (sequential_run jump_past_another_label []).written ≡ lines (" 0" ∷ [])
+jump_past_another_label_written : (sequential_run Plain jump_past_another_label []).written ≡ lines (" 0" ∷ [])
 unfolding computed
 jump_past_another_label_written = refl
 
@@ -495,11 +496,11 @@ stop_before_a_label = program (integer "K" ∷ [])
     ∷ Print 4 (items (Single (n 2) ∷ []))
     ∷ [])
 
-stop_before_a_label_written : (sequential_run stop_before_a_label []).written ≡ lines (" 1" ∷ [])
+stop_before_a_label_written : (sequential_run Plain stop_before_a_label []).written ≡ lines (" 1" ∷ [])
 unfolding computed
 stop_before_a_label_written = refl
 
-stop_before_a_label_ending : ending (sequential_run stop_before_a_label []) ≡ Some Done
+stop_before_a_label_ending : ending (sequential_run Plain stop_before_a_label []) ≡ Some Done
 unfolding computed
 stop_before_a_label_ending = refl
 
@@ -518,11 +519,11 @@ fault_before_a_label = program (integer "K" ∷ [])
     ∷ Print 3 (items (Single (n 2) ∷ []))
     ∷ [])
 
-fault_before_a_label_written : (sequential_run fault_before_a_label []).written ≡ []
+fault_before_a_label_written : (sequential_run Plain fault_before_a_label []).written ≡ []
 unfolding computed
 fault_before_a_label_written = refl
 
-fault_before_a_label_ending : ending (sequential_run fault_before_a_label []) ≡ Some (Fault ZeroDivide 2)
+fault_before_a_label_ending : ending (sequential_run Plain fault_before_a_label []) ≡ Some (Fault ZeroDivide 2)
 unfolding computed
 fault_before_a_label_ending = refl
 
@@ -545,7 +546,7 @@ jump_within_a_turn = program (integer "I" ∷ integer "K" ∷ [])
     ∷ Print 5 (items (Single (v "K") ∷ Single (v "I") ∷ []))
     ∷ [])
 
-jump_within_a_turn_written : (sequential_run jump_within_a_turn []).written ≡ lines (" 4 5" ∷ [])
+jump_within_a_turn_written : (sequential_run Plain jump_within_a_turn []).written ≡ lines (" 4 5" ∷ [])
 unfolding computed
 jump_within_a_turn_written = refl
 
@@ -571,7 +572,7 @@ jump_out_of_two_loops = program (integer "I" ∷ integer "J" ∷ [])
     ∷ Print 6 (items (Single (v "I") ∷ Single (v "J") ∷ []))
     ∷ [])
 
-jump_out_of_two_loops_written : (sequential_run jump_out_of_two_loops []).written ≡ lines (" 2 3" ∷ [])
+jump_out_of_two_loops_written : (sequential_run Plain jump_out_of_two_loops []).written ≡ lines (" 2 3" ∷ [])
 unfolding computed
 jump_out_of_two_loops_written = refl
 
@@ -591,18 +592,18 @@ stop_in_a_loop = program (integer "I" ∷ [])
     ∷ Print 4 (items (Single (n 0) ∷ []))
     ∷ [])
 
-stop_in_a_loop_written : (sequential_run stop_in_a_loop []).written ≡ []
+stop_in_a_loop_written : (sequential_run Plain stop_in_a_loop []).written ≡ []
 unfolding computed
 stop_in_a_loop_written = refl
 
-stop_in_a_loop_ending : ending (sequential_run stop_in_a_loop []) ≡ Some Done
+stop_in_a_loop_ending : ending (sequential_run Plain stop_in_a_loop []) ≡ Some Done
 unfolding computed
 stop_in_a_loop_ending = refl
 
-stop_in_a_loop_holds_i : (sequential_run stop_in_a_loop []).store.held (cell "I" []) ≡ Int (pos 3)
+stop_in_a_loop_holds_i : (sequential_run Plain stop_in_a_loop []).store.held (cell "I" []) ≡ Int (pos 3)
 unfolding computed
 stop_in_a_loop_holds_i = refl
 
-stop_in_a_loop_steps : (sequential_run stop_in_a_loop []).steps ≡ 7
+stop_in_a_loop_steps : (sequential_run Plain stop_in_a_loop []).steps ≡ 7
 unfolding computed
 stop_in_a_loop_steps = refl

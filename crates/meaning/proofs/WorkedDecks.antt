@@ -9,6 +9,7 @@ use Rattle.tree.specs.declared.ops.Fault.TheVariants.{Overflow, Bounds, ZeroStep
 use Rattle.meaning.specs.declared.End.TheVariants.{Done, Fault, StepLimit}
 use Rattle.meaning.specs.Sequential.{sequential_run, ending}
 use Rattle.meaning.specs.Steps.{cut_at}
+use Rattle.tree.specs.declared.width.Width.TheVariants.{Plain}
 use Rattle.meaning.proofs.DeckWords.{computed, n, v, at, to, to_element, integer, logical, integers, program, lines, cell}
 
 -- ---- a step limit of none, and of one
@@ -19,23 +20,23 @@ prints_seven = program []
     (Print 1 (items (Single (n 7) ∷ []))
     ∷ [])
 
-prints_seven_written : (sequential_run prints_seven []).written ≡ lines (" 7" ∷ [])
+prints_seven_written : (sequential_run Plain prints_seven []).written ≡ lines (" 7" ∷ [])
 unfolding computed
 prints_seven_written = refl
 
-prints_seven_cut_0_written : (cut_at 0 prints_seven []).written ≡ []
+prints_seven_cut_0_written : (cut_at Plain 0 prints_seven []).written ≡ []
 unfolding computed
 prints_seven_cut_0_written = refl
 
-prints_seven_cut_0_ending : ending (cut_at 0 prints_seven []) ≡ Some StepLimit
+prints_seven_cut_0_ending : ending (cut_at Plain 0 prints_seven []) ≡ Some StepLimit
 unfolding computed
 prints_seven_cut_0_ending = refl
 
-prints_seven_cut_1_written : (cut_at 1 prints_seven []).written ≡ lines (" 7" ∷ [])
+prints_seven_cut_1_written : (cut_at Plain 1 prints_seven []).written ≡ lines (" 7" ∷ [])
 unfolding computed
 prints_seven_cut_1_written = refl
 
-prints_seven_cut_1_ending : ending (cut_at 1 prints_seven []) ≡ Some Done
+prints_seven_cut_1_ending : ending (cut_at Plain 1 prints_seven []) ≡ Some Done
 unfolding computed
 prints_seven_cut_1_ending = refl
 
@@ -55,15 +56,15 @@ blanks_have_no_meaning = program (integer "DO10I" ∷ integer "I" ∷ [])
     ∷ Print 5 (items (Single (v "DO10I") ∷ Single (v "I") ∷ []))
     ∷ [])
 
-blanks_have_no_meaning_written : (sequential_run blanks_have_no_meaning []).written ≡ lines (" 7 4" ∷ [])
+blanks_have_no_meaning_written : (sequential_run Plain blanks_have_no_meaning []).written ≡ lines (" 7 4" ∷ [])
 unfolding computed
 blanks_have_no_meaning_written = refl
 
-blanks_have_no_meaning_ending : ending (sequential_run blanks_have_no_meaning []) ≡ Some Done
+blanks_have_no_meaning_ending : ending (sequential_run Plain blanks_have_no_meaning []) ≡ Some Done
 unfolding computed
 blanks_have_no_meaning_ending = refl
 
-blanks_have_no_meaning_steps : (sequential_run blanks_have_no_meaning []).steps ≡ 12
+blanks_have_no_meaning_steps : (sequential_run Plain blanks_have_no_meaning []).steps ≡ 12
 unfolding computed
 blanks_have_no_meaning_steps = refl
 
@@ -89,11 +90,11 @@ guarded_division = program (integers "A" ((pos 1, pos 5) ∷ []) ∷ integers "B
     ∷ Print 6 (items (Single (v "A") ∷ []))
     ∷ [])
 
-guarded_division_written : (sequential_run guarded_division (lines ("2 0 -3 0 5" ∷ "9 9 9 9 9" ∷ []))).written ≡ lines (" 4 0 -3 0 1" ∷ [])
+guarded_division_written : (sequential_run Plain guarded_division (lines ("2 0 -3 0 5" ∷ "9 9 9 9 9" ∷ []))).written ≡ lines (" 4 0 -3 0 1" ∷ [])
 unfolding computed
 guarded_division_written = refl
 
-guarded_division_ending : ending (sequential_run guarded_division (lines ("2 0 -3 0 5" ∷ "9 9 9 9 9" ∷ []))) ≡ Some Done
+guarded_division_ending : ending (sequential_run Plain guarded_division (lines ("2 0 -3 0 5" ∷ "9 9 9 9 9" ∷ []))) ≡ Some Done
 unfolding computed
 guarded_division_ending = refl
 
@@ -115,11 +116,11 @@ zero_trips = program (integers "A" ((pos 1, pos 3) ∷ []) ∷ integers "B" ((po
     ∷ Print 5 (items (Single (v "I") ∷ Single (v "A") ∷ []))
     ∷ [])
 
-zero_trips_written : (sequential_run zero_trips (lines ("0" ∷ []))).written ≡ lines (" 1 0 0 0" ∷ [])
+zero_trips_written : (sequential_run Plain zero_trips (lines ("0" ∷ []))).written ≡ lines (" 1 0 0 0" ∷ [])
 unfolding computed
 zero_trips_written = refl
 
-zero_trips_ending : ending (sequential_run zero_trips (lines ("0" ∷ []))) ≡ Some Done
+zero_trips_ending : ending (sequential_run Plain zero_trips (lines ("0" ∷ []))) ≡ Some Done
 unfolding computed
 zero_trips_ending = refl
 
@@ -143,11 +144,11 @@ loop_left_by_go_to = program (integers "A" ((pos 1, pos 5) ∷ []) ∷ integer "
     ∷ Print 6 (items (Single (v "I") ∷ []))
     ∷ [])
 
-loop_left_by_go_to_written : (sequential_run loop_left_by_go_to []).written ≡ lines (" 3" ∷ [])
+loop_left_by_go_to_written : (sequential_run Plain loop_left_by_go_to []).written ≡ lines (" 3" ∷ [])
 unfolding computed
 loop_left_by_go_to_written = refl
 
-loop_left_by_go_to_ending : ending (sequential_run loop_left_by_go_to []) ≡ Some Done
+loop_left_by_go_to_ending : ending (sequential_run Plain loop_left_by_go_to []) ≡ Some Done
 unfolding computed
 loop_left_by_go_to_ending = refl
 
@@ -165,11 +166,11 @@ overflow_at_a_store = program (integer "I" ∷ integer "J" ∷ [])
     ∷ Assignment 4 None (to "I") (Binary Add (v "I") (n 1))
     ∷ [])
 
-overflow_at_a_store_written : (sequential_run overflow_at_a_store []).written ≡ lines (" 2147483646" ∷ [])
+overflow_at_a_store_written : (sequential_run Plain overflow_at_a_store []).written ≡ lines (" 2147483646" ∷ [])
 unfolding computed
 overflow_at_a_store_written = refl
 
-overflow_at_a_store_ending : ending (sequential_run overflow_at_a_store []) ≡ Some (Fault Overflow 4)
+overflow_at_a_store_ending : ending (sequential_run Plain overflow_at_a_store []) ≡ Some (Fault Overflow 4)
 unfolding computed
 overflow_at_a_store_ending = refl
 
@@ -184,11 +185,11 @@ subscript_out_of_bounds = program (integers "A" ((pos 1, pos 10) ∷ []) ∷ [])
     ∷ Assignment 3 None (to_element "A" (n 11 ∷ [])) (n 1)
     ∷ [])
 
-subscript_out_of_bounds_written : (sequential_run subscript_out_of_bounds []).written ≡ lines (" 1" ∷ [])
+subscript_out_of_bounds_written : (sequential_run Plain subscript_out_of_bounds []).written ≡ lines (" 1" ∷ [])
 unfolding computed
 subscript_out_of_bounds_written = refl
 
-subscript_out_of_bounds_ending : ending (sequential_run subscript_out_of_bounds []) ≡ Some (Fault Bounds 3)
+subscript_out_of_bounds_ending : ending (sequential_run Plain subscript_out_of_bounds []) ≡ Some (Fault Bounds 3)
 unfolding computed
 subscript_out_of_bounds_ending = refl
 
@@ -201,7 +202,7 @@ increment_of_zero = program (integer "I" ∷ integer "J" ∷ [])
     (Do 1 (codes "I") (n 1) (n 5) (v "J") no_statements
     ∷ [])
 
-increment_of_zero_ending : ending (sequential_run increment_of_zero []) ≡ Some (Fault ZeroStep 1)
+increment_of_zero_ending : ending (sequential_run Plain increment_of_zero []) ≡ Some (Fault ZeroStep 1)
 unfolding computed
 increment_of_zero_ending = refl
 
@@ -215,7 +216,7 @@ input_runs_out = program (integer "I" ∷ integer "J" ∷ [])
     (Read 1 (items (Single (v "I") ∷ Single (v "J") ∷ []))
     ∷ [])
 
-input_runs_out_ending : ending (sequential_run input_runs_out (lines ("5" ∷ []))) ≡ Some (Fault InputEnd 1)
+input_runs_out_ending : ending (sequential_run Plain input_runs_out (lines ("5" ∷ []))) ≡ Some (Fault InputEnd 1)
 unfolding computed
 input_runs_out_ending = refl
 
@@ -229,7 +230,7 @@ two_commas = program (integer "I" ∷ integer "J" ∷ [])
     (Read 1 (items (Single (v "I") ∷ Single (v "J") ∷ []))
     ∷ [])
 
-two_commas_ending : ending (sequential_run two_commas (lines ("1,,2" ∷ []))) ≡ Some (Fault InputForm 1)
+two_commas_ending : ending (sequential_run Plain two_commas (lines ("1,,2" ∷ []))) ≡ Some (Fault InputForm 1)
 unfolding computed
 two_commas_ending = refl
 
@@ -242,11 +243,11 @@ too_many_trips = program (integer "I" ∷ [])
     (Do 1 (codes "I") (n 1) (n 2147483647) (n 1) no_statements
     ∷ [])
 
-too_many_trips_ending : ending (sequential_run too_many_trips []) ≡ Some (Fault TripCount 1)
+too_many_trips_ending : ending (sequential_run Plain too_many_trips []) ≡ Some (Fault TripCount 1)
 unfolding computed
 too_many_trips_ending = refl
 
-too_many_trips_holds_i : (sequential_run too_many_trips []).store.held (cell "I" []) ≡ Int (pos 1)
+too_many_trips_holds_i : (sequential_run Plain too_many_trips []).store.held (cell "I" []) ≡ Int (pos 1)
 unfolding computed
 too_many_trips_holds_i = refl
 
@@ -263,11 +264,11 @@ logical_output = program (integer "I" ∷ logical "L" ∷ [])
     ∷ Print 3 (items (Constant (codes "L =") ∷ Single (v "L") ∷ Single (Unary Neg (Binary Div (v "I") (Binary Pow (n 2) (n 2)))) ∷ Single (Apply Mod (expressions (Unary Neg (n 7) ∷ n 3 ∷ []))) ∷ []))
     ∷ [])
 
-logical_output_written : (sequential_run logical_output (lines (".TRUE., 9" ∷ []))).written ≡ lines (" L = T -2 -1" ∷ [])
+logical_output_written : (sequential_run Plain logical_output (lines (".TRUE., 9" ∷ []))).written ≡ lines (" L = T -2 -1" ∷ [])
 unfolding computed
 logical_output_written = refl
 
-logical_output_ending : ending (sequential_run logical_output (lines (".TRUE., 9" ∷ []))) ≡ Some Done
+logical_output_ending : ending (sequential_run Plain logical_output (lines (".TRUE., 9" ∷ []))) ≡ Some Done
 unfolding computed
 logical_output_ending = refl
 
@@ -284,23 +285,23 @@ counting_loop = program (integer "I" ∷ integer "K" ∷ [])
     ∷ Print 3 (items (Single (v "K") ∷ []))
     ∷ [])
 
-counting_loop_cut_3_ending : ending (cut_at 3 counting_loop []) ≡ Some StepLimit
+counting_loop_cut_3_ending : ending (cut_at Plain 3 counting_loop []) ≡ Some StepLimit
 unfolding computed
 counting_loop_cut_3_ending = refl
 
-counting_loop_cut_3_holds_k : (cut_at 3 counting_loop []).store.held (cell "K" []) ≡ Int (pos 1)
+counting_loop_cut_3_holds_k : (cut_at Plain 3 counting_loop []).store.held (cell "K" []) ≡ Int (pos 1)
 unfolding computed
 counting_loop_cut_3_holds_k = refl
 
-counting_loop_cut_7_written : (cut_at 7 counting_loop []).written ≡ lines (" 2" ∷ [])
+counting_loop_cut_7_written : (cut_at Plain 7 counting_loop []).written ≡ lines (" 2" ∷ [])
 unfolding computed
 counting_loop_cut_7_written = refl
 
-counting_loop_cut_7_ending : ending (cut_at 7 counting_loop []) ≡ Some Done
+counting_loop_cut_7_ending : ending (cut_at Plain 7 counting_loop []) ≡ Some Done
 unfolding computed
 counting_loop_cut_7_ending = refl
 
-counting_loop_steps : (sequential_run counting_loop []).steps ≡ 7
+counting_loop_steps : (sequential_run Plain counting_loop []).steps ≡ 7
 unfolding computed
 counting_loop_steps = refl
 
@@ -324,6 +325,6 @@ induction = program (integers "A" ((pos 1, pos 40) ∷ []) ∷ integers "B" ((po
     ∷ Print 7 (items (Single (v "K") ∷ Single (v "T") ∷ Single (at "A" (n 40 ∷ [])) ∷ []))
     ∷ [])
 
-induction_written : (sequential_run induction []).written ≡ lines (" 2147483647 20 400" ∷ [])
+induction_written : (sequential_run Plain induction []).written ≡ lines (" 2147483647 20 400" ∷ [])
 unfolding computed
 induction_written = refl

@@ -1,6 +1,5 @@
 -- What the statements on whole arrays and sections store (ISO/IEC 1539:1991, sections 6.3 and 7.5).
-use Rattle.std.specs.Prelude.{Result, Ok, Err, Option, Some, None, ℕ, ℤ, pos, if◌then◌else◌, List}
-use Rattle.std.specs.Prelude.{[], ◌∷◌, map}
+use Rattle.std.specs.Prelude.{Result, Ok, Err, Option, Some, None, ℕ, ℤ, pos, if◌then◌else◌, List, [], ◌∷◌, map}
 use Rattle.std.specs.List.{zip}
 use Rattle.tree.specs.Steps.{◌>>=◌}
 use Rattle.tree.specs.Operators.{as_numbers, as_truth}
@@ -8,7 +7,7 @@ use Rattle.tree.specs.Plain.{Expression, Expressions, Reference}
 use Rattle.tree.specs.declared.ops.Value.{Value}
 use Rattle.tree.specs.declared.ops.Fault.{Fault}
 use Rattle.tree.specs.declared.ops.Fault.TheVariants.{Overflow, Allocated}
-use Rattle.meaning.specs.Store.{Store, Cell, bounds_of}
+use Rattle.meaning.specs.Store.{Store, Cell, stored_bounds}
 use Rattle.meaning.specs.Dialect.{Dialect}
 use Rattle.meaning.specs.ArrayValues.{Elements, each, positions, conform}
 use Rattle.meaning.specs.Sections.{Axis, axes_selected, extents_of, cells_along}
@@ -35,7 +34,7 @@ module _ (d : Dialect) where
   abbrev pub axes_named : Reference → Store → Result (List Axis) Fault
   axes_named r s = do
     zs ← selectors d r.subscripts s
-    bs ← bounds_of r.name s
+    bs ← stored_bounds r.name s
     axes_selected r.subscripts bs zs
 
   abbrev pub storable : Value → Result Value Fault

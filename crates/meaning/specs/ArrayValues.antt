@@ -49,16 +49,16 @@ abbrev pub size : List ℕ → ℕ
 size [] = 1
 size (n ∷ ns) = n * size ns
 
-abbrev pub value_at : List Value → ℕ → Result Value Fault
-value_at [] n = Err Shape
-value_at (v ∷ vs) zero = Ok v
-value_at (v ∷ vs) (suc n) = value_at vs n
+abbrev pub value_at_index : List Value → ℕ → Result Value Fault
+value_at_index [] n = Err Shape
+value_at_index (v ∷ vs) zero = Ok v
+value_at_index (v ∷ vs) (suc n) = value_at_index vs n
 
 abbrev pub settled : Array → Elements Value
-settled a = record { extents = a.extents; at = λ is. value_at a.values (place_of a.extents is) }
+settled a = record { extents = a.extents; at = λ is. value_at_index a.values (place_of a.extents is) }
 
-abbrev pub scalar : Value → Array
-scalar v = record { extents = []; values = v ∷ [] }
+abbrev pub scalar_array : Value → Array
+scalar_array v = record { extents = []; values = v ∷ [] }
 
 -- all elements, in column-major order
 abbrev pub in_whole : Elements Value → Result Array Fault

@@ -42,26 +42,26 @@ abbrev mutual
 
 abbrev mutual
   -- how many statements there are, those in blocks too
-  pub statements_of : Statement → ℕ
-  statements_of (If line arms other) = 1 + (statements_in_arms arms + statements_in other)
-  statements_of (Do line x a b c body) = 1 + statements_in body
-  statements_of (Assignment line mark left right) = 1
-  statements_of (Where line mark m left right) = 1
-  statements_of (Label n) = 1
-  statements_of (GoTo line n) = 1
-  statements_of (Stop line) = 1
-  statements_of (Read line is) = 1
-  statements_of (Print line is) = 1
-  statements_of (Allocate line x es) = 1
-  statements_of (Deallocate line x) = 1
+  pub statement_count_of : Statement → ℕ
+  statement_count_of (If line arms other) = 1 + (statement_count_in_arms arms + statement_count_in other)
+  statement_count_of (Do line x a b c body) = 1 + statement_count_in body
+  statement_count_of (Assignment line mark left right) = 1
+  statement_count_of (Where line mark m left right) = 1
+  statement_count_of (Label n) = 1
+  statement_count_of (GoTo line n) = 1
+  statement_count_of (Stop line) = 1
+  statement_count_of (Read line is) = 1
+  statement_count_of (Print line is) = 1
+  statement_count_of (Allocate line x es) = 1
+  statement_count_of (Deallocate line x) = 1
 
-  pub statements_in_arms : Arms → ℕ
-  statements_in_arms no_arms = 0
-  statements_in_arms (arm test body more) = statements_in body + statements_in_arms more
+  pub statement_count_in_arms : Arms → ℕ
+  statement_count_in_arms no_arms = 0
+  statement_count_in_arms (arm test body more) = statement_count_in body + statement_count_in_arms more
 
-  pub statements_in : Block → ℕ
-  statements_in no_statements = 0
-  statements_in (statement c cs) = statements_of c + statements_in cs
+  pub statement_count_in : Block → ℕ
+  statement_count_in no_statements = 0
+  statement_count_in (statement c cs) = statement_count_of c + statement_count_in cs
 
 -- ---- what stands round a statement
 

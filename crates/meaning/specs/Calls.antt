@@ -4,10 +4,8 @@ use Rattle.tree.specs.Plain.{Expression, Number, Logic, Named, Unary, Binary, Ap
 use Rattle.tree.specs.Plain.{Reshape, Reduce}
 use Rattle.tree.specs.Plain.{Expressions, no_expressions, expression, Subscript, Only, Section, Subscripts}
 use Rattle.tree.specs.Plain.{no_subscripts, subscript}
-use Rattle.tree.specs.Plain.{Loops, no_loops, loop, Item, Single, Constant, ImpliedDo, Items, no_items, item}
-use Rattle.tree.specs.Plain.{Program}
-use Rattle.tree.specs.Plain.{Statement, Assignment, Where, If, Do, Label, GoTo, Stop, Read, Print, Allocate}
-use Rattle.tree.specs.Plain.{Deallocate}
+use Rattle.tree.specs.Plain.{Loops, no_loops, loop, Item, Single, Constant, ImpliedDo, Items, no_items, item, Program}
+use Rattle.tree.specs.Plain.{Statement, Assignment, Where, If, Do, Label, GoTo, Stop, Read, Print, Allocate, Deallocate}
 use Rattle.tree.specs.Plain.{Arms, no_arms, arm, Block, no_statements, statement}
 use Rattle.tree.specs.Functions.{name_of_function}
 

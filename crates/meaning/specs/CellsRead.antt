@@ -5,7 +5,7 @@ use Rattle.tree.specs.Plain.{Expression, Number, Logic, Named, Unary, Binary, Ap
 use Rattle.tree.specs.Plain.{Reshape, Reduce, Expressions, no_expressions, expression, Subscript, Only, Section}
 use Rattle.tree.specs.Plain.{Subscripts, no_subscripts, subscript, Loops, no_loops, loop, Program}
 use Rattle.tree.specs.declared.ops.Fault.{Fault}
-use Rattle.meaning.specs.Store.{Store, Cell, same_cell, bounds_of, numbers_from, Agree, names_of}
+use Rattle.meaning.specs.Store.{Store, Cell, same_cell, stored_bounds, numbers_from, Agree, names_of}
 use Rattle.meaning.specs.Value.{value_of, array_of, number_of, cell_named, is_scalar, selectors, bound_to}
 use Rattle.meaning.specs.Dialect.{Dialect}
 use Rattle.meaning.specs.Sections.{Axis, axes_selected, cells_along, not_negative}
@@ -79,7 +79,7 @@ module _ (d : Dialect) where
     array_cells_read (Logic b) s = []
     array_cells_read (Named x ps) s = cells_read_to_select ps s ++ found_along x (do
       zs ← selectors d ps s
-      bs ← bounds_of x s
+      bs ← stored_bounds x s
       axes_selected ps bs zs)
     array_cells_read (Unary o a) s = array_cells_read a s
     array_cells_read (Binary o a b) s = array_cells_read a s ++ array_cells_read b s

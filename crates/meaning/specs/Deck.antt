@@ -30,9 +30,9 @@ data_line77 = codes "*DATA"
 abbrev pub data_line90 : List ℕ
 data_line90 = codes "!DATA"
 
-abbrev pub joined : List (List ℕ) → List ℕ
-joined [] = []
-joined (line ∷ more) = line ++ joined more
+abbrev pub text_of_lines : List (List ℕ) → List ℕ
+text_of_lines [] = []
+text_of_lines (line ∷ more) = line ++ text_of_lines more
 
 abbrev pub lines_before : List ℕ → List (List ℕ) → List (List ℕ)
 lines_before mark [] = []
@@ -48,11 +48,11 @@ has_line mark (line ∷ more) = if is_line mark line then true else has_line mar
 
 -- what stands before the first data line, or all
 abbrev pub source_of : List ℕ → List ℕ → List ℕ
-source_of mark bytes = joined (lines_before mark (whole_lines bytes))
+source_of mark bytes = text_of_lines (lines_before mark (whole_lines bytes))
 
 -- what stands after it, or nothing
 abbrev pub input_of : List ℕ → List ℕ → List ℕ
-input_of mark bytes = joined (lines_after mark (whole_lines bytes))
+input_of mark bytes = text_of_lines (lines_after mark (whole_lines bytes))
 
 abbrev pub has_data : List ℕ → List ℕ → Bool
 has_data mark bytes = has_line mark (whole_lines bytes)

@@ -35,5 +35,6 @@ pub mod Typed77
 pub mod Typed90
 pub mod Items90
 pub mod Value
+pub mod Widths
 pub mod decks
 pub mod element_counts

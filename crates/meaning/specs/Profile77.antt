@@ -16,8 +16,8 @@ use Rattle.meaning.specs.SymbolicNames.{IsSymbolicName}
 use Rattle.meaning.specs.Calls.{names_called}
 use Rattle.meaning.specs.Depths.{depth_of_items}
 use Rattle.meaning.specs.Typed77.{dimensions, declared, deepest, IsWhole, IsDoVariable, AreOutputItems, AreInputItems}
-pub use Rattle.meaning.specs.Blocks.{label_of, labels_of, blocks_of, blocks_in_arms, blocks_in, statements_of}
-pub use Rattle.meaning.specs.Blocks.{statements_in_arms, statements_in, Surroundings, outermost, within_loop}
+pub use Rattle.meaning.specs.Blocks.{label_of, labels_of, blocks_of, blocks_in_arms, blocks_in, statement_count_of}
+pub use Rattle.meaning.specs.Blocks.{statement_count_in_arms, statement_count_in, Surroundings, outermost, within_loop}
 pub use Rattle.meaning.specs.Blocks.{before_labels}
 pub use Rattle.meaning.specs.Labels.{all_labels_of, all_labels_in_arms, all_labels_in, targets_of, targets_in_arms}
 pub use Rattle.meaning.specs.Labels.{targets_in, IsWithoutRepeats, IsLine, IsLabel, has_arm}
@@ -46,7 +46,7 @@ pub record AreDeclarations (d : Dialect) (ds : List Declaration) : Type 0 where
   pub each : AllByRecursion (IsDeclaration d) ds
   pub ordered : IsInByteOrder (map (λ (e : Declaration). e.name) ds)
   pub few : length ds ≤ limits.program_names77
-  pub elements : sum (map (λ (e : Declaration). array_elements (dimensions e.extent)) ds) ≤ limits.array_elements
+  pub elements : sum (map (λ (e : Declaration). array_elements (dimensions e.extent)) ds) ≤ limits.most_array_elements
 
 -- ---- statements (sections 10, 11 and 12)
 
@@ -95,4 +95,4 @@ pub record IsProgram77 (d : Dialect) (p : Program) : Type 0 where
   pub blocks : blocks_in p.body ≤ limits.block_depth77
   pub labels : IsWithoutRepeats (all_labels_in p.body)
   pub named : AllByRecursion (Contains (targets_in p.body)) (all_labels_in p.body)
-  pub few : statements_in p.body < 2 ^ 31
+  pub few : statement_count_in p.body < 2 ^ 31

@@ -18,7 +18,7 @@ use Rattle.meaning.specs.Typed90.{rank_of, HasKind, IsScalar, AreScalars, IsDoVa
 use Rattle.meaning.specs.Items90.{AreOutputItems, AreInputItems}
 use Rattle.meaning.specs.Extents.{array_elements}
 use Rattle.meaning.specs.Value.{named}
-use Rattle.meaning.specs.Blocks.{labels_of, blocks_in, statements_in}
+use Rattle.meaning.specs.Blocks.{labels_of, blocks_in, statement_count_in}
 use Rattle.meaning.specs.Labels.{all_labels_in, targets_in, IsWithoutRepeats, IsLine, IsLabel, has_arm}
 use Rattle.meaning.specs.Blocks.{Surroundings, outermost, within_loop, before_labels}
 use Rattle.meaning.specs.Extents.{IsAllocatable, IsDimension}
@@ -38,7 +38,7 @@ pub record IsDeclaration (e : Declaration) : Type 0 where
 pub record AreDeclarations (ds : List Declaration) : Type 0 where
   pub each : AllByRecursion IsDeclaration ds
   pub ordered : IsInByteOrder (map (λ (e : Declaration). e.name) ds)
-  pub elements : sum (map (λ (e : Declaration). array_elements (dimensions e.extent)) ds) ≤ limits.array_elements
+  pub elements : sum (map (λ (e : Declaration). array_elements (dimensions e.extent)) ds) ≤ limits.most_array_elements
 
 -- ---- statements (sections 6.3, 7.5, 8.1, 8.2 and 9.4)
 
@@ -120,4 +120,4 @@ pub record IsProgram90 (p : Program) : Type 0 where
   pub blocks : blocks_in p.body ≤ limits.block_depth90
   pub labels : IsWithoutRepeats (all_labels_in p.body)
   pub named : AllByRecursion (Contains (targets_in p.body)) (all_labels_in p.body)
-  pub few : statements_in p.body < 2 ^ 31
+  pub few : statement_count_in p.body < 2 ^ 31

@@ -6,13 +6,12 @@ use Rattle.tree.specs.Operators.{as_number}
 use Rattle.tree.specs.Steps as results
 use Rattle.tree.specs.Plain.{Expression, Logic, Named, Reference, Item, Single, Constant, ImpliedDo}
 use Rattle.tree.specs.Plain.{Items, no_items, item, Statement, Assignment, Where, If, Do, Label, GoTo, Stop, Read}
-use Rattle.tree.specs.Plain.{Print, Allocate, Deallocate, Arms, no_arms, arm, Block, no_statements, statement}
-use Rattle.tree.specs.Plain.{Program}
+use Rattle.tree.specs.Plain.{Print, Allocate, Deallocate, Arms, no_arms, arm, Block, no_statements, statement, Program}
 use Rattle.tree.specs.declared.ops.Value.{Value}
 use Rattle.tree.specs.declared.ops.Value.TheVariants.{Int}
 use Rattle.tree.specs.declared.ops.Fault.{Fault}
 use Rattle.tree.specs.declared.ops.Fault.TheVariants.{Overflow, InputEnd}
-use Rattle.meaning.specs.Store.{Store, Cell, put, cell_at, bounds_of, with_bounds, allocated, opening_store}
+use Rattle.meaning.specs.Store.{Store, Cell, put, cell_at, stored_bounds, with_bounds, allocated, opening_store}
 use Rattle.meaning.specs.Value.{value_of, number_of, truth_of, cell_named, item_cells, item_values, is_array, named}
 use Rattle.meaning.specs.Value.{is_in_range, increment_of, exact, trip_count}
 use Rattle.meaning.specs.Dialect.{Dialect}
@@ -292,7 +291,7 @@ module _ (d : Dialect) (limit : Option ℕ) where
       allocates x bs) nothing
     does (Deallocate line x) = either d.arrays (do
       counts_step
-      _ ← evaluates line (bounds_of x)
+      _ ← evaluates line (stored_bounds x)
       deallocates x) nothing
 
     -- the first arm whose condition is true, else the ELSE part (section 11.6)

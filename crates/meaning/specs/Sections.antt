@@ -32,19 +32,19 @@ steps_from z stride (suc n) = z ∷ steps_from (z +ℤ stride) stride n
 abbrev pub triplet_numbers : ℤ → ℤ → ℤ → List ℤ
 triplet_numbers l u stride = steps_from l stride (not_negative (int_div (u -ℤ l +ℤ stride) stride))
 
-abbrev pub stands_in : ℤ × ℤ → ℤ → Bool
-stands_in b z = int_le b.0 z && int_le z b.1
+abbrev pub is_within_bounds : ℤ × ℤ → ℤ → Bool
+is_within_bounds b z = int_le b.0 z && int_le z b.1
 
 abbrev pub all_stand_in : ℤ × ℤ → List ℤ → Bool
 all_stand_in b [] = true
-all_stand_in b (z ∷ zs) = stands_in b z && all_stand_in b zs
+all_stand_in b (z ∷ zs) = is_within_bounds b z && all_stand_in b zs
 
 abbrev pub along : ℤ × ℤ → List ℤ → Result Axis Fault
 along b zs = if all_stand_in b zs then Ok (Along zs) else Err Bounds
 
 -- only what is selected has to stand within the bounds
 abbrev pub axis_on : ℤ × ℤ → Selector → Result Axis Fault
-axis_on b (Index z) = if stands_in b z then Ok (Fixed z) else Err Bounds
+axis_on b (Index z) = if is_within_bounds b z then Ok (Fixed z) else Err Bounds
 axis_on b (Triplet l u stride) = if int_eq stride (pos 0) then Err ZeroStep else along b (triplet_numbers l u stride)
 axis_on b (Vector zs) = along b zs
 

@@ -2,18 +2,19 @@
 use Rattle.std.specs.Prelude.{Option, Some, None, ℕ, ℤ, ◌==◌, Bool, ◌&&◌, not, nat_le, if◌then◌else◌, List, [], length}
 use Rattle.std.specs.List.{list_any, flat_map}
 use Rattle.tree.specs.Plain.{Program, Declaration}
+use Rattle.tree.specs.declared.width.Width.{Width}
 use Rattle.meaning.specs.Store.{Store, cells_of}
 use Rattle.meaning.specs.Texts.{final_line}
 use Rattle.meaning.specs.Run.{State, run}
 use Rattle.meaning.specs.Sequential.{sequential_run}
 use Rattle.meaning.specs.Dialect.{fortran77}
 
-abbrev pub steps_of : Program → List ℕ → ℕ
-steps_of p input = (sequential_run p input).steps
+abbrev pub steps_of : Width → Program → List ℕ → ℕ
+steps_of w p input = (sequential_run w p input).steps
 
 -- the run cut before step n + 1
-abbrev pub cut_at : ℕ → Program → List ℕ → State
-cut_at n p input = run fortran77 (Some n) p input
+abbrev pub cut_at : Width → ℕ → Program → List ℕ → State
+cut_at w n p input = run (fortran77 w) (Some n) p input
 
 -- ---- the final store
 

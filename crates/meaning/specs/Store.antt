@@ -43,8 +43,8 @@ abbrev pub bounds_in : Option (List (ℤ × ℤ)) → Result (List (ℤ × ℤ))
 bounds_in (Some bs) = Ok bs
 bounds_in None = Err Allocated
 
-abbrev pub bounds_of : List ℕ → Store → Result (List (ℤ × ℤ)) Fault
-bounds_of x s = bounds_in (s.bounds x)
+abbrev pub stored_bounds : List ℕ → Store → Result (List (ℤ × ℤ)) Fault
+stored_bounds x s = bounds_in (s.bounds x)
 
 abbrev pub cell_in : Option (List (ℤ × ℤ)) → List ℕ → List ℤ → Result Cell Fault
 cell_in (Some bs) x is = if is_within bs is then Ok (record { name = x; subscripts = is }) else Err Bounds

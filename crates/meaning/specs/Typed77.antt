@@ -12,8 +12,7 @@ use Rattle.tree.specs.Functions.{name_of_function, suits_number}
 use Rattle.meaning.specs.Depths.{depth_of}
 pub use Rattle.meaning.specs.Typed.{number_of_arguments}
 pub use Rattle.tree.specs.OperatorTable.{operand_kind, is_relation, result_kind_of, is_unary}
-pub use Rattle.meaning.specs.Typed.{number_of_subscripts}
-pub use Rattle.meaning.specs.Typed.{dimensions, declared, IsLiteral, has_item, IsText}
+pub use Rattle.meaning.specs.Typed.{number_of_subscripts, dimensions, declared, IsLiteral, has_item, IsText}
 
 -- How deep an expression is in its text is limited in a source. A symbolic constant with a negative value stands in the
 -- tree as the negative of a literal, which may add an operator and a parenthesis

@@ -13,9 +13,9 @@ use Rattle.tree.specs.declared.ops.Value.{Value}
 use Rattle.tree.specs.declared.ops.Value.TheVariants.{Int, Truth}
 use Rattle.tree.specs.declared.ops.Fault.{Fault}
 use Rattle.tree.specs.declared.ops.Fault.TheVariants.{Overflow, ZeroStep, TripCount, Shape}
-use Rattle.meaning.specs.Store.{Store, Cell, put, cell_at, bounds_of, cells_of, numbers_from}
+use Rattle.meaning.specs.Store.{Store, Cell, put, cell_at, stored_bounds, cells_of, numbers_from}
 use Rattle.meaning.specs.Dialect.{Dialect}
-use Rattle.meaning.specs.ArrayValues.{Array, Elements, each, settled, scalar, in_whole, conform, mapped, paired}
+use Rattle.meaning.specs.ArrayValues.{Array, Elements, each, settled, scalar_array, in_whole, conform, mapped, paired}
 use Rattle.meaning.specs.ArrayValues.{spread, transposed, reshaped}
 use Rattle.tree.specs.Operators.{reduced}
 use Rattle.meaning.specs.Sections.{Selector, Index, Triplet, Vector, not_negative, axes_selected, extents_of}
@@ -79,7 +79,7 @@ numbered r = do
 abbrev pub evaluated : Bool → Result Value Fault → Result (Elements Value) Fault → Result Array Fault
 evaluated true r q = do
   x ← r
-  Ok (scalar x)
+  Ok (scalar_array x)
 evaluated false r q = do
   g ← q
   in_whole g
@@ -92,16 +92,16 @@ selector_of ns zs = Vector zs
 abbrev pub bound_to : List ℕ → ℤ → Store → Store
 bound_to x z s = put (record { name = x; subscripts = [] }) (Int z) s
 
-abbrev pub joined : List (List Value) → List Value
-joined [] = []
-joined (vs ∷ more) = vs ++ joined more
+abbrev pub joined_values : List (List Value) → List Value
+joined_values [] = []
+joined_values (vs ∷ more) = vs ++ joined_values more
 
 -- f for x from l to u; a number that x can't have is a fault when it is reached
 abbrev pub for_numbers : ℕ → List ℕ → ℤ → ℤ → (Store → Result (List Value) Fault) → Store → Result (List Value) Fault
 for_numbers bits x l u f s = do
   vss ← each (λ z. if fits bits z then f (bound_to x z s) else Err Overflow)
       (numbers_from l (not_negative (u -ℤ l +ℤ pos 1)))
-  Ok (joined vss)
+  Ok (joined_values vss)
 
 -- of a function's arguments, from the extents of those before
 abbrev pub together : Elements Value → Elements (List Value) → Elements (List Value)
@@ -160,11 +160,11 @@ module _ (d : Dialect) where
     -- whole, in
     -- the order of the text. Operators and the other functions are left to each position
     pub array_of : Expression → Store → Result (Elements Value) Fault
-    array_of (Number n) s = Ok (settled (scalar (Int n)))
-    array_of (Logic b) s = Ok (settled (scalar (Truth b)))
+    array_of (Number n) s = Ok (settled (scalar_array (Int n)))
+    array_of (Logic b) s = Ok (settled (scalar_array (Truth b)))
     array_of (Named x ps) s = do
       zs ← selectors ps s
-      bs ← bounds_of x s
+      bs ← stored_bounds x s
       axes ← axes_selected ps bs zs
       Ok (settled (record { extents = extents_of axes; values = map s.held (cells_along x axes) }))
     array_of (Unary o a) s = do
@@ -199,7 +199,7 @@ module _ (d : Dialect) where
       v ← in_whole g
       zs ← as_numbers v.values
       x ← reduced d.bits r zs
-      Ok (settled (scalar x))
+      Ok (settled (scalar_array x))
 
     -- `ns`: the extents of the arguments before
     pub arguments_of : Expressions → List ℕ → Store → Result (Elements (List Value)) Fault
@@ -255,7 +255,7 @@ module _ (d : Dialect) where
   -- in a list an array's name stands for all its elements, in column-major order
   abbrev pub item_cells : List ℕ → Subscripts → Store → Result (List Cell) Fault
   item_cells x no_subscripts s = do
-    bs ← bounds_of x s
+    bs ← stored_bounds x s
     Ok (cells_of x bs)
   item_cells x (subscript p ps) s = do
     is ← subscript_values (subscript p ps) s

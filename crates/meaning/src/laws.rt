@@ -8,6 +8,7 @@ ghost use Rattle.meaning.specs.Numerals.{InputNumberIsNumeral, PrintedNumberIsRe
 ghost use Rattle.meaning.specs.Ranges.{RunKeepsCells, RunKeepsRange, ValuesFit};
 ghost use Rattle.meaning.specs.CellsRead.{ArrayComesFromCellsRead, ValueComesFromCellsRead, ValueComesFromNames};
 ghost use Rattle.meaning.specs.Relined.{Relined, RelinedEndsWell};
+ghost use Rattle.meaning.specs.Widths.{ProgramWidens, ValueHasNoWidth};
 
 /// The cells of a name are those within its bounds, and two cells are the same where they are equal.
 pub fn cells_of_a_name()
@@ -41,6 +42,13 @@ pub fn numbers_in_range()
     ensures values { ValuesFit }
     ensures store { RunKeepsRange }
     ensures cells { RunKeepsCells }
+{}
+
+/// A program of FORTRAN 77 is one with a wider range of INTEGER too, and the range has no part in the values of its
+/// expressions.
+pub fn wider_integers()
+    ensures program { ProgramWidens }
+    ensures value { ValueHasNoWidth }
 {}
 
 /// Two assignments that touch different cells may be exchanged.

@@ -3,7 +3,8 @@
 //!
 //! Proved (laws of values and runs, for the programs of both dialects): cells of names, numbers in texts, what the
 //! value of an expression and of an array expression depends on (`value_from_cells`), agreement of stores, ranges,
-//! exchange of assignments, ends of runs, cut runs, and programs that differ in their lines alone (`relined_run`).
+//! exchange of assignments, ends of runs, cut runs, programs that differ in their lines alone (`relined_run`), and what
+//! a wider range of INTEGER leaves as it is (`wider_integers`).
 //!
 //! **Arrays are known, or still to be computed.** Operators are left to each position, so that an operation under a
 //! mask that is false there is never performed; what is evaluated in whole is a list. A name's elements are put in a
@@ -19,7 +20,7 @@ mod laws;
 
 pub use laws::{
     cells_of_a_name, cut_run, exchanged_assignments, kept_agreement, numbers_in_range,
-    numbers_in_texts, relined_run, run_ends, value_from_cells,
+    numbers_in_texts, relined_run, run_ends, value_from_cells, wider_integers,
 };
 use tree::Fault;
 

@@ -17,8 +17,7 @@ ghost use Rattle.meaning_laws.specs.arrays.Assignments.{EffectsAreWrites, Elemen
 ghost use Rattle.meaning_laws.specs.arrays.Assignments.{WritesAreEffects};
 ghost use Rattle.meaning_laws.specs.arrays.Elements.{CellsByPosition, ElementComesFromCellsRead, ElementOfCall};
 ghost use Rattle.meaning_laws.specs.arrays.Elements.{ElementOfOperation, ElementOfSection, ElementOfUnary};
-ghost use Rattle.meaning_laws.specs.arrays.Elements.{NumberOfTriplet};
-ghost use Rattle.meaning_laws.specs.arrays.Elements.{ScalarIsItsElement};
+ghost use Rattle.meaning_laws.specs.arrays.Elements.{NumberOfTriplet, ScalarIsItsElement};
 ghost use Rattle.meaning_laws.specs.arrays.Forms.{ArrayFormIsInstances};
 ghost use Rattle.meaning_laws.specs.arrays.Instances.{ApartIsAtOnce, InTurnIsAtOnce, WritesInAnyOrder};
 ghost use Rattle.meaning_laws.specs.arrays.OneToOne.{DimensionSelectsOnce, NoCellTwice, PositionsAreOneToOne};

@@ -9,8 +9,7 @@
 //! one statement, of which the one of the earlier stage ends the run (`worked_stages`). The expected values are those
 //! of another program's runs of the texts that stand above the trees.
 ghost use Rattle.std.specs.Prelude.{[], ◌∷◌};
-ghost use Rattle.tree.specs.declared.ops.Fault.TheVariants.{Allocated, Bounds, Overflow, Shape};
-ghost use Rattle.tree.specs.declared.ops.Fault.TheVariants.{ZeroDivide, ZeroStep};
+ghost use Rattle.tree.specs.declared.ops.Fault.TheVariants.{Allocated, Bounds, Overflow, Shape, ZeroDivide, ZeroStep};
 ghost use Rattle.meaning.specs.declared.End.TheVariants.{Done, Fault};
 ghost use Rattle.meaning_laws.specs.worked_programs.Words.{lines};
 ghost use Rattle.meaning_laws.specs.worked_programs.Comes.{Comes};

@@ -4,21 +4,21 @@ use Rattle.std.specs.List.{list_any}
 use Rattle.nest_reasons.specs.declared.marks.Mark.{Mark}
 use Rattle.nest_reasons.specs.declared.marks.Mark.TheVariants.{Halts, Jumps, Arrives, Turns}
 
-abbrev pub arrives : ℕ → Mark → Bool
-arrives n Halts = false
-arrives n (Jumps m) = false
-arrives n (Arrives m) = n == m
-arrives n (Turns b) = false
+abbrev pub is_arrival : ℕ → Mark → Bool
+is_arrival n Halts = false
+is_arrival n (Jumps m) = false
+is_arrival n (Arrives m) = n == m
+is_arrival n (Turns b) = false
 
 -- it halts or does input or output, or is a GO TO whose label isn't among the loop's own marks
-abbrev pub leaves : List Mark → Mark → Bool
-leaves ms Halts = true
-leaves ms (Jumps n) = not (list_any (arrives n) ms)
-leaves ms (Arrives n) = false
-leaves ms (Turns b) = false
+abbrev pub leaves_loop : List Mark → Mark → Bool
+leaves_loop ms Halts = true
+leaves_loop ms (Jumps n) = not (list_any (is_arrival n) ms)
+leaves_loop ms (Arrives n) = false
+leaves_loop ms (Turns b) = false
 
 abbrev pub exits : List Mark → Bool
-exits ms = list_any (leaves ms) ms
+exits ms = list_any (leaves_loop ms) ms
 
 abbrev pub stands_in_if : Mark → Bool
 stands_in_if Halts = false
@@ -29,16 +29,16 @@ stands_in_if (Turns b) = b
 abbrev pub loop_in_if : List Mark → Bool
 loop_in_if ms = list_any stands_in_if ms
 
-abbrev pub is_loop : Mark → Bool
-is_loop Halts = false
-is_loop (Jumps n) = false
-is_loop (Arrives n) = false
-is_loop (Turns b) = true
+abbrev pub is_loop_mark : Mark → Bool
+is_loop_mark Halts = false
+is_loop_mark (Jumps n) = false
+is_loop_mark (Arrives n) = false
+is_loop_mark (Turns b) = true
 
 -- a loop stands there, and the label behind it
 abbrev pub loop_then_label : ℕ → List Mark → Bool
 loop_then_label n [] = false
-loop_then_label n (m ∷ ms) = if is_loop m then list_any (arrives n) ms else loop_then_label n ms
+loop_then_label n (m ∷ ms) = if is_loop_mark m then list_any (is_arrival n) ms else loop_then_label n ms
 
 abbrev pub passes_loop : Mark → List Mark → Bool
 passes_loop Halts ms = false

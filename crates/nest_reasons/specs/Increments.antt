@@ -5,11 +5,11 @@ use Rattle.tree.specs.Plain.{Expression}
 use Rattle.linear_forms.specs.Linear.{constant_of}
 
 -- other than 0, and of size up to 2^31
-abbrev pub is_suitable : ℤ → Bool
-is_suitable z = not (int_eq z (pos 0)) && nat_le (nat_abs z) (2 ^ 31)
+abbrev pub is_suitable_increment : ℤ → Bool
+is_suitable_increment z = not (int_eq z (pos 0)) && nat_le (nat_abs z) (2 ^ 31)
 
 abbrev pub suitable : ℤ → Option ℤ
-suitable z = if is_suitable z then Some z else None
+suitable z = if is_suitable_increment z then Some z else None
 
 abbrev pub suitable_or_none : Option ℤ → Option ℤ
 suitable_or_none None = None

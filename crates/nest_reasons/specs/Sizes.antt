@@ -2,7 +2,7 @@
 use Rattle.std.specs.Prelude.{ℕ, ◌+◌, nat_lt, Bool, true, false, not, ◌||◌, List, [], ◌∷◌, ◌++◌, length, map}
 use Rattle.std.specs.List.{filter, list_any}
 use Rattle.std.specs.Str.{bytes_eq}
-use Rattle.tree.specs.Limits.{nest_statements, nest_references}
+use Rattle.tree.specs.Limits.{most_nest_statements, nest_references}
 use Rattle.tree.specs.Plain.{Statement, Assignment, Where, If, Do, Label, GoTo, Stop, Read, Print, Allocate, Deallocate}
 use Rattle.tree.specs.Plain.{Arms, no_arms, arm, Block, no_statements, statement}
 use Rattle.meaning.specs.Reads.{names_in, names_in_subscripts}
@@ -47,11 +47,11 @@ is_assignment Assigns = true
 is_assignment (Turns x) = false
 is_assignment Branches = false
 
-abbrev pub is_loop : Piece → Bool
-is_loop (Occurs x) = false
-is_loop Assigns = false
-is_loop (Turns x) = true
-is_loop Branches = false
+abbrev pub is_loop_piece : Piece → Bool
+is_loop_piece (Occurs x) = false
+is_loop_piece Assigns = false
+is_loop_piece (Turns x) = true
+is_loop_piece Branches = false
 
 abbrev pub turns_with : List ℕ → Piece → Bool
 turns_with x (Occurs y) = false
@@ -60,11 +60,11 @@ turns_with x (Turns y) = bytes_eq y x
 turns_with x Branches = false
 
 -- a name that none of these loops has as its variable
-abbrev pub is_counted : List Piece → Piece → Bool
-is_counted loops (Occurs x) = not (list_any (turns_with x) loops)
-is_counted loops Assigns = false
-is_counted loops (Turns x) = false
-is_counted loops Branches = false
+abbrev pub is_counted_name : List Piece → Piece → Bool
+is_counted_name loops (Occurs x) = not (list_any (turns_with x) loops)
+is_counted_name loops Assigns = false
+is_counted_name loops (Turns x) = false
+is_counted_name loops Branches = false
 
 -- a condition, a GO TO or a loop
 abbrev pub is_branching : Piece → Bool
@@ -80,10 +80,11 @@ nest_branches = 200
 -- More assignments, occurrences or branchings than a nest may have. The loop itself is one of the loops counted
 abbrev pub is_over : ℕ → ℕ → ℕ → Bool
 is_over assignments references branchings =
-    nat_lt nest_statements assignments || (nat_lt nest_references references || nat_lt (nest_branches + 1) branchings)
+    nat_lt most_nest_statements assignments
+    || (nat_lt nest_references references || nat_lt (nest_branches + 1) branchings)
 
 -- the pieces are those of a loop; occurrences are those of variables other than those of the loops
 abbrev pub is_large : List Piece → Bool
 is_large ps =
-    is_over (length (filter is_assignment ps)) (length (filter (is_counted (filter is_loop ps)) ps))
+    is_over (length (filter is_assignment ps)) (length (filter (is_counted_name (filter is_loop_piece ps)) ps))
     (length (filter is_branching ps))

@@ -11,13 +11,13 @@ abbrev pub is_integer : Kind → Bool
 is_integer Integer = true
 is_integer Logical = false
 
-abbrev pub is_scalar : Extent → Bool
-is_scalar (Given []) = true
-is_scalar (Given (b ∷ bs)) = false
-is_scalar (Later n) = false
+abbrev pub is_scalar_extent : Extent → Bool
+is_scalar_extent (Given []) = true
+is_scalar_extent (Given (b ∷ bs)) = false
+is_scalar_extent (Later n) = false
 
 abbrev pub is_integer_scalar : Declaration → Bool
-is_integer_scalar d = is_integer d.kind && is_scalar d.extent
+is_integer_scalar d = is_integer d.kind && is_scalar_extent d.extent
 
 -- an INTEGER scalar other than the loop's variable and the names that are written
 abbrev pub is_symbol : List ℕ → List (List ℕ) → Declaration → Bool

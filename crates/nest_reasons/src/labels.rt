@@ -1,7 +1,8 @@
 //! The labels among the marks of a loop's body.
 ghost use Rattle.std.specs.Prelude.{◌≡◌, ◌||◌, ◌∷◌, [], ℕ, List, nat_eq, OnOk, IfOk};
 ghost use Rattle.std.specs.List.{list_any};
-ghost use Rattle.nest_reasons.specs.Flaws.{arrives, exits, leaves, jumps_over_loop, loop_then_label, passes_loop};
+ghost use Rattle.nest_reasons.specs.Flaws.{is_arrival, exits, leaves_loop, jumps_over_loop, loop_then_label};
+ghost use Rattle.nest_reasons.specs.Flaws.{passes_loop};
 ghost use Rattle.nest_reasons.specs.Labels.{AreLabels};
 ghost use Rattle.nest_reasons.specs.declared.marks.Mark.{Mark};
 
@@ -72,7 +73,7 @@ impl Labels {
     }
 
     fn has(&self, label: u32) -> bool
-        ensures { (ms : List Mark) → AreLabels ms self.now → result ≡ list_any (arrives label) ms }
+        ensures { (ms : List Mark) → AreLabels ms self.now → result ≡ list_any (is_arrival label) ms }
     {
         self.behind.contains(&label) || self.near.contains(&label)
     }
@@ -87,7 +88,7 @@ impl Labels {
 impl Mark {
     // Whether the loop is left here, where these are the labels of its marks.
     pub(crate) fn leaves(self, labels: &Labels) -> bool
-        ensures { (ms : List Mark) → AreLabels ms labels.now → result ≡ leaves ms self }
+        ensures { (ms : List Mark) → AreLabels ms labels.now → result ≡ leaves_loop ms self }
     {
         match self {
             Mark::Halts => true,

@@ -5,7 +5,7 @@ ghost use Rattle.tree.specs.View.{expression_of, reference_of, statement_of, tes
 ghost use Rattle.meaning.specs.Reads.{names_in, names_in_subscripts};
 ghost use Rattle.nest_reasons.specs.Sizes.{occurrences, pieces_in, pieces_in_block, is_assignment};
 ghost use Rattle.nest_reasons.specs.Arms.{pieces_in_arm};
-ghost use Rattle.nest_reasons.specs.Sizes.{turns_with, is_branching, is_loop, is_counted, is_over, is_large};
+ghost use Rattle.nest_reasons.specs.Sizes.{turns_with, is_branching, is_loop_piece, is_counted_name, is_over, is_large};
 
 use rewrite::{names_in_expr, names_in_ref};
 use std::alloc::Global;
@@ -174,7 +174,7 @@ impl Piece {
     }
 
     fn is_loop(&self) -> bool
-        ensures { result ≡ is_loop self.now }
+        ensures { result ≡ is_loop_piece self.now }
     {
         match self {
             Piece::Occurs(_) => false,
@@ -197,7 +197,7 @@ impl Piece {
 
     // Whether it is a name and none of the variables of these loops.
     fn is_counted(&self, loops: &[Piece]) -> bool
-        ensures { result ≡ is_counted loops.now self.now }
+        ensures { result ≡ is_counted_name loops.now self.now }
     {
         match self {
             Piece::Occurs(name) => !is_variable(loops, *name),
@@ -246,7 +246,7 @@ fn branchings(pieces: &[Piece]) -> usize
 }
 
 fn references(pieces: &[Piece], loops: &[Piece]) -> usize
-    ensures value { result ≡ length (filter (is_counted loops.now) pieces.now) }
+    ensures value { result ≡ length (filter (is_counted_name loops.now) pieces.now) }
 {
     let mut count = 0;
     for i in 0..pieces.len() {
@@ -258,7 +258,7 @@ fn references(pieces: &[Piece], loops: &[Piece]) -> usize
 }
 
 fn loops_among(alloc: Global, pieces: &[Piece]) -> Result<Seq<Piece>, Memory>
-    ensures { IfOk result (λ loops. loops ≡ filter is_loop pieces.now) }
+    ensures { IfOk result (λ loops. loops ≡ filter is_loop_piece pieces.now) }
 {
     let mut loops = Seq::new(alloc);
     for piece in pieces {
@@ -281,7 +281,7 @@ fn pieces_of(alloc: Global, stmt: &Stmt) -> Result<Seq<Piece>, Memory>
 
 fn is_over_among(pieces: &[Piece], loops: &Seq<Piece>) -> bool
     ensures { result ≡ is_over (length (filter is_assignment pieces.now))
-        (length (filter (is_counted loops.now) pieces.now)) (length (filter is_branching pieces.now)) }
+        (length (filter (is_counted_name loops.now) pieces.now)) (length (filter is_branching pieces.now)) }
 {
     let occurrences = references(pieces, loops.as_slice());
     is_over(assignments(pieces), occurrences, branchings(pieces))

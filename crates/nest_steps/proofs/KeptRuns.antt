@@ -2,6 +2,7 @@
 use Rattle.std.proofs.Common.{◌≡◌, sym, ap, ◌∙◌, subst, None}
 use Rattle.tree.specs.Plain.{Program}
 use Rattle.meaning.specs.Dialect.{fortran77}
+use Rattle.tree.specs.declared.width.Width.{Width}
 use Rattle.meaning.specs.Run.{State, does_all}
 use Rattle.meaning.specs.Store.{Agree, Store, cell_in}
 use Rattle.rewrite.specs.Following.{IsSound}
@@ -35,15 +36,15 @@ turned p s t a = record {
   rest = sym (ap (λ (x : State). record x { store = s.store; steps = s.steps }) a.rest);
 }
 
-pub one_after_another : OneAfterAnother
-one_after_another p v w x b c d begin f g s t starts ends alike sound =
+pub one_after_another : (width : Width) → OneAfterAnother width
+one_after_another width p v w x b c d begin f g s t starts ends alike sound =
     let m = begin s starts in
     let one = f s m.state starts m.starts m.alike sound in
-    let there : (does_all fortran77 None c m.state).way ≡ (does_all fortran77 None b s).way = ap (λ (t : State). t.way) one.rest in
+    let there : (does_all (fortran77 width) None c m.state).way ≡ (does_all (fortran77 width) None b s).way = ap (λ (t : State). t.way) one.rest in
     let two = g m.state t m.starts ends (joined p m.state s t (turned p s m.state m.alike) alike) (subst IsSound (sym there) sound) in
-    joined p (does_all fortran77 None b s) (does_all fortran77 None c m.state) (does_all fortran77 None d t) one two
+    joined p (does_all (fortran77 width) None b s) (does_all (fortran77 width) None c m.state) (does_all (fortran77 width) None d t) one two
 
-pub what_stands_keeps_agreement : WhatStandsKeepsAgreement
-what_stands_keeps_agreement p w x b c f s t u starts at bt a e sound =
-    joined p (does_all fortran77 None c t) (does_all fortran77 None b s) (does_all fortran77 None c u)
-    (turned p (does_all fortran77 None b s) (does_all fortran77 None c t) (f s t starts at a sound)) (f s u starts bt e sound)
+pub what_stands_keeps_agreement : (width : Width) → WhatStandsKeepsAgreement width
+what_stands_keeps_agreement width p w x b c f s t u starts at bt a e sound =
+    joined p (does_all (fortran77 width) None c t) (does_all (fortran77 width) None b s) (does_all (fortran77 width) None c u)
+    (turned p (does_all (fortran77 width) None b s) (does_all (fortran77 width) None c t) (f s t starts at a sound)) (f s u starts bt e sound)

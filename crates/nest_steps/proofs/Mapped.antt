@@ -10,7 +10,7 @@ use Rattle.rewrite.proofs.Acts.{Stays-does_all}
 use Rattle.nest.specs.Blocks.{block_of_parts, numeral, statement_of_part}
 use Rattle.nest.specs.Plain.{Loop, Guarded, Part, Run, Turns, Choice, Label, Jump, Parts, no_parts, part, parts}
 use Rattle.nest_steps.specs.Leading.{Led, Leads}
-use Rattle.nest_steps.specs.Mapped.{count_of, count_in, mapped, mapped_in, LoopLeads, AllLead, AllLeadIn}
+use Rattle.nest_steps.specs.Mapped.{count_of, count_in, mapped_parts_of, mapped_in, LoopLeads, AllLead, AllLeadIn}
 use Rattle.nest_steps.proofs.Acts.{Leads-nothing, Leads-then}
 use Rattle.nest_steps.proofs.Loops.{Counts, Leads-loops}
 
@@ -32,7 +32,7 @@ does_joined bits line (x ∷ xs) ys s = does_joined bits line xs ys (does (seque
 
 module _ (each : List Loop → ℕ → Guarded → List Guarded) (bits line : ℕ) (Known : List ℕ → Loop → ℕ → Type 0) (at : List Loop → List ℕ → ℕ → Store → Store → Type 0) (fit : Counts bits) where
   abbrev Run-leads : List Loop → List ℕ → ℕ → Part → Type 0
-  Run-leads ls is k p = Leads (at ls is k) (at ls is (k + count_of p)) (does (sequential bits) None (statement_of_part line p)) (does_all (sequential bits) None (block_of_parts line (parts (mapped each ls k p))))
+  Run-leads ls is k p = Leads (at ls is k) (at ls is (k + count_of p)) (does (sequential bits) None (statement_of_part line p)) (does_all (sequential bits) None (block_of_parts line (parts (mapped_parts_of each ls k p))))
 
   one-loop : (ls : List Loop) (is : List ℕ) (k : ℕ) (l : Loop) (ps : Parts) (qs : List Part) → LoopLeads each bits line Known at ls l is k (count_in ps)
       → ((n : ℕ) → Known is l n → (i : ℕ) → 1 ≤ i → i ≤ n → Leads (at (ls ++ l ∷ []) (is ++ i ∷ []) k) (at (ls ++ l ∷ []) (is ++ i ∷ []) (k + count_in ps)) (does_all (sequential bits) None (block_of_parts line ps)) (does_all (sequential bits) None (block_of_parts line (parts qs))))
@@ -67,18 +67,18 @@ module _ (each : List Loop → ℕ → Guarded → List Guarded) (bits line : �
         let both = Leads-then (at ls is k) (at ls is (k + count_of p)) (at ls is ((k + count_of p) + count_in ps)) _ _ _ _ one (Stays-does_all (sequential bits) None (block_of_parts line ps)) more in
         let sum : (k + count_of p) + count_in ps ≡ k + (count_of p + count_in ps) = omega arith in
         let joined : Leads (at ls is k) (at ls is ((k + count_of p) + count_in ps)) (does_all (sequential bits) None (block_of_parts line (part p ps)))
-        (does_all (sequential bits) None (block_of_parts line (parts (mapped each ls k p ++ mapped_in each ls (k + count_of p) ps))))
+        (does_all (sequential bits) None (block_of_parts line (parts (mapped_parts_of each ls k p ++ mapped_in each ls (k + count_of p) ps))))
         = record {
           at = λ s u n i a e. subst (λ (t : State). Led (at ls is ((k + count_of p) + count_in ps)) (does_all (sequential bits) None (block_of_parts line (part p ps)) s) t)
-              (sym (does_joined bits line (mapped each ls k p) (mapped_in each ls (k + count_of p) ps) (record s { store = u; steps = n }))) (both.at s u n i a e);
+              (sym (does_joined bits line (mapped_parts_of each ls k p) (mapped_in each ls (k + count_of p) ps) (record s { store = u; steps = n }))) (both.at s u n i a e);
         } in
         subst (λ m. Leads (at ls is k) (at ls is m) (does_all (sequential bits) None (block_of_parts line (part p ps)))
-        (does_all (sequential bits) None (block_of_parts line (parts (mapped each ls k p ++ mapped_in each ls (k + count_of p) ps))))) sum joined
+        (does_all (sequential bits) None (block_of_parts line (parts (mapped_parts_of each ls k p ++ mapped_in each ls (k + count_of p) ps))))) sum joined
 
 pub mapped_nest_leads : (each : List Loop → ℕ → Guarded → List Guarded) (bits line : ℕ) (Known : List ℕ → Loop → ℕ → Type 0)
     (at : List Loop → List ℕ → ℕ → Store → Store → Type 0) (p : Part) → 31 ≤ bits → AllLead each bits line Known at [] [] 0 p
-    → Leads (at [] [] 0) (at [] [] (count_of p)) (does (sequential bits) None (statement_of_part line p)) (does_all (sequential bits) None (block_of_parts line (parts (mapped each [] 0 p))))
+    → Leads (at [] [] 0) (at [] [] (count_of p)) (does (sequential bits) None (statement_of_part line p)) (does_all (sequential bits) None (block_of_parts line (parts (mapped_parts_of each [] 0 p))))
 mapped_nest_leads each bits line Known at p low h =
     let zero-plus : 0 + count_of p ≡ count_of p = omega arith in
-    subst (λ m. Leads (at [] [] 0) (at [] [] m) (does (sequential bits) None (statement_of_part line p)) (does_all (sequential bits) None (block_of_parts line (parts (mapped each [] 0 p))))) zero-plus
+    subst (λ m. Leads (at [] [] 0) (at [] [] m) (does (sequential bits) None (statement_of_part line p)) (does_all (sequential bits) None (block_of_parts line (parts (mapped_parts_of each [] 0 p))))) zero-plus
     (part-leads each bits line Known at (wide_enough bits low) [] [] 0 p h)

@@ -26,26 +26,26 @@ abbrev mutual
 -- by the loops round it from the outside in, and by the number of statements before it
 module _ (each : List Loop → ℕ → Guarded → List Guarded) where
   abbrev mutual
-    pub mapped : List Loop → ℕ → Part → List Part
-    mapped ls k (Run g) = map Run (each ls k g)
-    mapped ls k (Turns l ps) = Turns l (parts (mapped_in (ls ++ l ∷ []) k ps)) ∷ []
-    mapped ls k (Choice bs ps) = Choice bs ps ∷ []
-    mapped ls k (Label n) = Label n ∷ []
-    mapped ls k (Jump n) = Jump n ∷ []
+    pub mapped_parts_of : List Loop → ℕ → Part → List Part
+    mapped_parts_of ls k (Run g) = map Run (each ls k g)
+    mapped_parts_of ls k (Turns l ps) = Turns l (parts (mapped_in (ls ++ l ∷ []) k ps)) ∷ []
+    mapped_parts_of ls k (Choice bs ps) = Choice bs ps ∷ []
+    mapped_parts_of ls k (Label n) = Label n ∷ []
+    mapped_parts_of ls k (Jump n) = Jump n ∷ []
 
     pub mapped_in : List Loop → ℕ → Parts → List Part
     mapped_in ls k no_parts = []
-    mapped_in ls k (part p ps) = mapped ls k p ++ mapped_in ls (k + count_of p) ps
+    mapped_in ls k (part p ps) = mapped_parts_of ls k p ++ mapped_in ls (k + count_of p) ps
 
   -- Known: what is known of a number of turns of a loop, the loops round it being at these iterations. at: what the
   -- stores are to each other there, where so many statements stand before
   module _ (bits line : ℕ) (Known : List ℕ → Loop → ℕ → Type 0)
       (at : List Loop → List ℕ → ℕ → Store → Store → Type 0) where
-    abbrev pub variable_of : Loop → Cell
-    variable_of l = record { name = l.variable; subscripts = [] }
+    abbrev pub cell_of_variable : Loop → Cell
+    cell_of_variable l = record { name = l.variable; subscripts = [] }
 
     abbrev pub set : Loop → ℕ → Store → Store
-    set l i s = put (variable_of l) (Int (pos i)) s
+    set l i s = put (cell_of_variable l) (Int (pos i)) s
 
     -- a loop from 1 by 1 with m statements in it
     pub record LoopLeads (ls : List Loop) (l : Loop) (is : List ℕ) (k m : ℕ) : Type 0 where
@@ -60,7 +60,7 @@ module _ (each : List Loop → ℕ → Guarded → List Guarded) where
       pub scalars_in : (i : ℕ) (s u : Store) → at (ls ++ l ∷ []) (is ++ i ∷ []) (k + m) s u
           → (s.bounds l.variable ≡ Some []) × (u.bounds l.variable ≡ Some [])
       pub variable : (i : ℕ) (s u : Store) → at (ls ++ l ∷ []) (is ++ i ∷ []) (k + m) s u
-          → (s.held (variable_of l) ≡ Int (pos i)) × (u.held (variable_of l) ≡ Int (pos i))
+          → (s.held (cell_of_variable l) ≡ Int (pos i)) × (u.held (cell_of_variable l) ≡ Int (pos i))
       pub next : (i : ℕ) → suc i ≤ 2147483647 → (s u : Store) → at (ls ++ l ∷ []) (is ++ i ∷ []) (k + m) s u
           → at (ls ++ l ∷ []) (is ++ suc i ∷ []) k (set l (suc i) s) (set l (suc i) u)
       pub ends : (n : ℕ) → Known is l n → (s u : Store) → at (ls ++ l ∷ []) (is ++ suc n ∷ []) k s u

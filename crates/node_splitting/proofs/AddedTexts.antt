@@ -5,8 +5,8 @@ use Rattle.nest.proofs.Equations.{part_of-run}
 use Rattle.nest.specs.Plain.{Guarded, Made, Nest, Part, Run}
 use Rattle.dependence_graph.specs.declared.graphs.Place.{Place}
 use Rattle.tree.specs.Plain.{Reference}
-use Rattle.node_splitting.specs.Reads.{copied, copies_of}
-use Rattle.node_splitting.specs.Split.{if_copied, made_arrays, with_arrays, with_nodes_split}
+use Rattle.node_splitting.specs.Reads.{read_copied, copies_of}
+use Rattle.node_splitting.specs.Split.{if_copied, made_arrays, with_copy_arrays, with_nodes_split}
 use Rattle.nest.specs.View.{guarded_of, part_of}
 use Rattle.nest.specs.declared.parts.GuardedStmt.{GuardedStmt}
 use Rattle.nest.specs.declared.parts.Part as declared
@@ -21,7 +21,7 @@ pushed-run (Err e) made new s g same now = now
 
 -- one copy more, and then the others
 pub copies_added : {A E : Type 0} (r : Result A E) (f : Guarded → Guarded) (e : ℕ → Reference) (g copy : Guarded) (c d : ℕ) (x : Reference) (xs all : List Reference) (old between new : List Part)
-    → d ≡ 1 + c → copy ≡ copied e g c x → all ≡ x ∷ xs → between ≡ old ++ Run (f copy) ∷ []
+    → d ≡ 1 + c → copy ≡ read_copied e g c x → all ≡ x ∷ xs → between ≡ old ++ Run (f copy) ∷ []
     → OnOk r (new ≡ between ++ map Run (map f (copies_of e g d xs))) → OnOk r (new ≡ old ++ map Run (map f (copies_of e g c all)))
 copies_added (Ok y) f e g copy c d x xs all old between new h is are b k =
     let next : d ≡ suc c = omega (arith, h) in
@@ -47,11 +47,11 @@ module _ (may : Place → Bool) (n : Nest) where
   unfolding with_nodes_split
   none_split e = sym (ap (if_copied may n) e)
 
-  some_arrays : (as' : List Made) → (as' ≡ [] → ⊥) → if_copied may n as' ≡ Some (with_arrays may n as')
+  some_arrays : (as' : List Made) → (as' ≡ [] → ⊥) → if_copied may n as' ≡ Some (with_copy_arrays may n as')
   some_arrays [] h = absurd (h refl)
   some_arrays (a ∷ as') h = refl
 
-  pub some_split : (new : Nest) (as' : List Made) → as' ≡ made_arrays may n → (as' ≡ [] → ⊥) → new ≡ with_arrays may n as' → Some new ≡ with_nodes_split may n
+  pub some_split : (new : Nest) (as' : List Made) → as' ≡ made_arrays may n → (as' ≡ [] → ⊥) → new ≡ with_copy_arrays may n as' → Some new ≡ with_nodes_split may n
   unfolding with_nodes_split
   some_split new as' e h k = ap (λ (m : Nest). Some m) k ∙ (sym (some_arrays as' h) ∙ ap (if_copied may n) e)
 

@@ -5,7 +5,7 @@ use Rattle.std.specs.List.{concat, list_any}
 use Rattle.std.proofs.lemmas.Bool.Decides.{Decides-eqb}
 use Rattle.std.proofs.lemmas.List.{append-nil, map-append, take_more}
 use Rattle.std.proofs.lemmas.List.Elements.{filter-append}
-use Rattle.components.specs.Lists.{In}
+use Rattle.components.specs.Lists.{IsMember}
 use Rattle.components.specs.Orders.{IsComponent, IsOrder}
 use Rattle.components.specs.Reachability.{AreBelow, AreMutual}
 use Rattle.components.proofs.ListLaws.{Each-In, In-append}
@@ -13,7 +13,7 @@ use Rattle.dependence_graph.specs.declared.graphs.Dep.{Dep}
 use Rattle.dependence_graph.specs.declared.graphs.Dep.TheVariants as dep
 use Rattle.dependence_graph.specs.declared.graphs.Edge.{Edge}
 use Rattle.dependence_graph.specs.declared.graphs.Place.{Place}
-use Rattle.node_splitting.specs.Choice.{AreTogether, IsFed, IsOverwritten, MayBeCopied, are_together, fed_in, feeds, has, is_anti, is_flow, is_listed, is_place, overwrites, overwritten_in, pairs_of}
+use Rattle.node_splitting.specs.Choice.{AreInOneComponent, IsFed, IsOverwritten, MayBeCopied, are_together, fed_in, feeds, has, is_anti, is_flow, is_listed, is_place, overwrites, overwritten_in, pairs_of}
 
 -- ---- lists that are made edge by edge
 
@@ -74,15 +74,15 @@ by_bool false = inr refl
 false_true : (b : Bool) → b ≡ false → b ≡ true → ⊥
 false_true b f g = cc
 
-any_in : {X : Type 0} (test : X → Bool) (xs : List X) → list_any test xs ≡ true → (x : X) × In x xs × (test x ≡ true)
+any_in : {X : Type 0} (test : X → Bool) (xs : List X) → list_any test xs ≡ true → (x : X) × IsMember x xs × (test x ≡ true)
 any_in test [] h = cc
 any_in {X} test (x ∷ xs) h = by (test x) refl h (λ k. any_in test xs k)
   where
-    by : (b : Bool) → test x ≡ b → (b || list_any test xs) ≡ true → (list_any test xs ≡ true → (y : X) × In y xs × (test y ≡ true)) → (y : X) × In y (x ∷ xs) × (test y ≡ true)
+    by : (b : Bool) → test x ≡ b → (b || list_any test xs) ≡ true → (list_any test xs ≡ true → (y : X) × IsMember y xs × (test y ≡ true)) → (y : X) × IsMember y (x ∷ xs) × (test y ≡ true)
     by true e k more = (x, inl refl, e)
     by false e k more = let m = more k in (m.0, inr m.1, m.2)
 
-in_any : {X : Type 0} (test : X → Bool) (xs : List X) (x : X) → In x xs → test x ≡ true → list_any test xs ≡ true
+in_any : {X : Type 0} (test : X → Bool) (xs : List X) (x : X) → IsMember x xs → test x ≡ true → list_any test xs ≡ true
 in_any test [] x i h = absurd i
 in_any test (y ∷ xs) x (inl e) h = ap (λ b. b || list_any test xs) (sym (ap test e) ∙ h)
 in_any test (y ∷ xs) x (inr i) h = by (test y) (in_any test xs x i h)
@@ -91,30 +91,30 @@ in_any test (y ∷ xs) x (inr i) h = by (test y) (in_any test xs x i h)
     by true k = refl
     by false k = k
 
-in_filter : {X : Type 0} (test : X → Bool) (xs : List X) (x : X) → In x (filter test xs) → In x xs × (test x ≡ true)
+in_filter : {X : Type 0} (test : X → Bool) (xs : List X) (x : X) → IsMember x (filter test xs) → IsMember x xs × (test x ≡ true)
 in_filter test [] x i = absurd i
 in_filter test (y ∷ xs) x i = by (test y) refl i (λ j. in_filter test xs x j)
   where
-    by : (b : Bool) → test y ≡ b → In x (cond b (y ∷ filter test xs) (filter test xs)) → (In x (filter test xs) → In x xs × (test x ≡ true)) → In x (y ∷ xs) × (test x ≡ true)
+    by : (b : Bool) → test y ≡ b → IsMember x (cond b (y ∷ filter test xs) (filter test xs)) → (IsMember x (filter test xs) → IsMember x xs × (test x ≡ true)) → IsMember x (y ∷ xs) × (test x ≡ true)
     by true e (inl f) more = (inl f, ap test f ∙ e)
     by true e (inr j) more = let m = more j in (inr m.0, m.1)
     by false e j more = let m = more j in (inr m.0, m.1)
 
-filter_in : {X : Type 0} (test : X → Bool) (xs : List X) (x : X) → In x xs → test x ≡ true → In x (filter test xs)
+filter_in : {X : Type 0} (test : X → Bool) (xs : List X) (x : X) → IsMember x xs → test x ≡ true → IsMember x (filter test xs)
 filter_in test [] x i h = absurd i
-filter_in test (y ∷ xs) x (inl e) h = subst (λ b. In x (cond b (y ∷ filter test xs) (filter test xs))) (sym (sym (ap test e) ∙ h)) (inl e)
+filter_in test (y ∷ xs) x (inl e) h = subst (λ b. IsMember x (cond b (y ∷ filter test xs) (filter test xs))) (sym (sym (ap test e) ∙ h)) (inl e)
 filter_in test (y ∷ xs) x (inr i) h = by (test y) (filter_in test xs x i h)
   where
-    by : (b : Bool) → In x (filter test xs) → In x (cond b (y ∷ filter test xs) (filter test xs))
+    by : (b : Bool) → IsMember x (filter test xs) → IsMember x (cond b (y ∷ filter test xs) (filter test xs))
     by true j = inr j
     by false j = j
 
-in_map : {X Y : Type 0} (f : X → Y) (xs : List X) (y : Y) → In y (map f xs) → (x : X) × In x xs × (y ≡ f x)
+in_map : {X Y : Type 0} (f : X → Y) (xs : List X) (y : Y) → IsMember y (map f xs) → (x : X) × IsMember x xs × (y ≡ f x)
 in_map f [] y i = absurd i
 in_map f (x ∷ xs) y (inl e) = (x, inl refl, e)
 in_map f (x ∷ xs) y (inr i) = let m = in_map f xs y i in (m.0, inr m.1, m.2)
 
-map_in : {X Y : Type 0} (f : X → Y) (xs : List X) (x : X) → In x xs → In (f x) (map f xs)
+map_in : {X Y : Type 0} (f : X → Y) (xs : List X) (x : X) → IsMember x xs → IsMember (f x) (map f xs)
 map_in f [] x i = absurd i
 map_in f (y ∷ xs) x (inl e) = inl (ap f e)
 map_in f (y ∷ xs) x (inr i) = inr (map_in f xs x i)
@@ -125,17 +125,17 @@ same_number a b h = (Decides-eqb a b).0 h
 same_itself : (a : ℕ) → (a == a) ≡ true
 same_itself a = (Decides-eqb a a).1 refl
 
-in_has : (c : List ℕ) (a : ℕ) → In a c → has c a ≡ true
+in_has : (c : List ℕ) (a : ℕ) → IsMember a c → has c a ≡ true
 in_has c a i = in_any (λ b. b == a) c a i (same_itself a)
 
-has_in : (c : List ℕ) (a : ℕ) → has c a ≡ true → In a c
-has_in c a h = let m = any_in (λ b. b == a) c h in subst (λ z. In z c) (same_number m.0 a m.2) m.1
+has_in : (c : List ℕ) (a : ℕ) → has c a ≡ true → IsMember a c
+has_in c a h = let m = any_in (λ b. b == a) c h in subst (λ z. IsMember z c) (same_number m.0 a m.2) m.1
 
-in_concat : (cs : List (List ℕ)) (a : ℕ) → In a (concat cs) → (c : List ℕ) × In c cs × In a c
+in_concat : (cs : List (List ℕ)) (a : ℕ) → IsMember a (concat cs) → (c : List ℕ) × IsMember c cs × IsMember a c
 in_concat [] a i = absurd i
 in_concat (c ∷ cs) a i = by (In-append a c (concat cs) i) (λ j. in_concat cs a j)
   where
-    by : In a c ⊎ In a (concat cs) → (In a (concat cs) → (d : List ℕ) × In d cs × In a d) → (d : List ℕ) × In d (c ∷ cs) × In a d
+    by : IsMember a c ⊎ IsMember a (concat cs) → (IsMember a (concat cs) → (d : List ℕ) × IsMember d cs × IsMember a d) → (d : List ℕ) × IsMember d (c ∷ cs) × IsMember a d
     by (inl j) more = (c, inl refl, j)
     by (inr j) more = let m = more j in (m.0, inr m.1, m.2)
 
@@ -154,7 +154,7 @@ module _ (n : ℕ) (pairs : List (ℕ × ℕ)) (classes : List (List ℕ)) (orde
       let other = (Each-In (IsComponent pairs) classes order.components m.0 m.1 a b m.2).1 k in
       in_any (λ c. has c a && has c b) classes m.0 m.1 (both (has m.0 a) (has m.0 b) (in_has m.0 a m.2) (in_has m.0 b other))
 
-in_pairs : (es : List Edge) (e : Edge) → In e es → In (e.from.stmt, e.to.stmt) (pairs_of es)
+in_pairs : (es : List Edge) (e : Edge) → IsMember e es → IsMember (e.from.stmt, e.to.stmt) (pairs_of es)
 in_pairs es e i = map_in (λ (x : Edge). (x.from.stmt, x.to.stmt)) es e i
 
 -- ---- kinds
@@ -197,14 +197,14 @@ module _ (n : ℕ) (es : List Edge) (classes : List (List ℕ)) (below : AreBelo
         from = from;
         other = λ e. false_true (f.0.to.stmt == f.0.from.stmt) (not_true (f.0.to.stmt == f.0.from.stmt) l.0)
             (ap (λ z. f.0.to.stmt == z) (sym (e ∙ sym (ap (λ (q : Place). q.stmt) from))) ∙ same_itself f.0.to.stmt);
-        together = subst (λ (q : Place). AreTogether es q.stmt f.0.to.stmt) from (together_mutual n (pairs_of es) classes order f.0.from.stmt f.0.to.stmt l.1);
+        together = subst (λ (q : Place). AreInOneComponent es q.stmt f.0.to.stmt) from (together_mutual n (pairs_of es) classes order f.0.from.stmt f.0.to.stmt l.1);
       }
 
   overwritten_listed : IsOverwritten es p → is_listed (overwritten_in classes es) p ≡ true
   overwritten_listed o =
       let e = o.edge in
       let under = (Each-In (λ (q : ℕ × ℕ). (q.0 < n) × (q.1 < n)) (pairs_of es) below (e.from.stmt, e.to.stmt) (in_pairs es e o.is)).0 in
-      let mutual' = subst (λ (q : Place). AreTogether es q.stmt e.to.stmt) (sym o.from) o.together in
+      let mutual' = subst (λ (q : Place). AreInOneComponent es q.stmt e.to.stmt) (sym o.from) o.together in
       let together = mutual_together n (pairs_of es) classes order e.from.stmt e.to.stmt under mutual' in
       let other : not (e.to.stmt == e.from.stmt) ≡ true = by (e.to.stmt == e.from.stmt) refl in
       let test = both (is_anti e.kind) (not (e.to.stmt == e.from.stmt) && are_together classes e.from.stmt e.to.stmt) (ap is_anti o.kind)
@@ -228,14 +228,14 @@ module _ (n : ℕ) (es : List Edge) (classes : List (List ℕ)) (below : AreBelo
         is = g.0;
         kind = flow_is f.0.kind k.0;
         to = to;
-        together = subst (λ (q : Place). AreTogether es f.0.from.stmt q.stmt) to (together_mutual n (pairs_of es) classes order f.0.from.stmt f.0.to.stmt k.1);
+        together = subst (λ (q : Place). AreInOneComponent es f.0.from.stmt q.stmt) to (together_mutual n (pairs_of es) classes order f.0.from.stmt f.0.to.stmt k.1);
       }
 
   fed_listed : IsFed es p → is_listed (fed_in classes es) p ≡ true
   fed_listed o =
       let e = o.edge in
       let under = (Each-In (λ (q : ℕ × ℕ). (q.0 < n) × (q.1 < n)) (pairs_of es) below (e.from.stmt, e.to.stmt) (in_pairs es e o.is)).0 in
-      let mutual' = subst (λ (q : Place). AreTogether es e.from.stmt q.stmt) (sym o.to) o.together in
+      let mutual' = subst (λ (q : Place). AreInOneComponent es e.from.stmt q.stmt) (sym o.to) o.together in
       let together = mutual_together n (pairs_of es) classes order e.from.stmt e.to.stmt under mutual' in
       let test = both (is_flow e.kind) (are_together classes e.from.stmt e.to.stmt) (ap is_flow o.kind) together in
       in_any (is_place p) (fed_in classes es) e.to (map_in (λ (x : Edge). x.to) (filter (feeds classes) es) e (filter_in (feeds classes) es e o.is test))

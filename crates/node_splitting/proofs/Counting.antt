@@ -19,16 +19,16 @@ use Rattle.tree.specs.declared.exprs.Sub.TheVariants as subs
 use Rattle.tree.specs.declared.exprs.Turn.{Turn}
 use Rattle.tree.proofs.Equations.{expression_of-int, expression_of-truth, expression_of-item, expression_of-un, expression_of-bin, expression_of-call, reference_of-is}
 use Rattle.tree.proofs.Equations.{expression_of-list, expression_of-spread, expression_of-transpose, expression_of-reshape, expression_of-reduce, subscript_of-one, subscript_of-part}
-use Rattle.dependence_graph.specs.nest_graph.References.{has_none, is_among, own_reference, references_in, references_in_all, references_in_subscript, references_in_subscripts}
-use Rattle.node_splitting.specs.Counts.{count, count_all, count_in, count_subscript, is_counter}
-use Rattle.node_splitting.specs.Reads.{as_expression}
+use Rattle.dependence_graph.specs.nest_graph.References.{has_no_subscript, is_among, own_reference, references_in, references_in_all, references_in_subscript, references_in_subscripts}
+use Rattle.node_splitting.specs.Counts.{count, count_all, count_in_subscripts, count_subscript, is_counter}
+use Rattle.node_splitting.specs.Reads.{read_as_expression}
 
 -- ---- a reference
 
-none_of : (ss : List Sub) → ss ≡ [] → has_none (subscripts (map subscript_of ss)) ≡ true
-none_of ss e = ap (λ (s : List Sub). has_none (subscripts (map subscript_of s))) e
+none_of : (ss : List Sub) → ss ≡ [] → has_no_subscript (subscripts (map subscript_of ss)) ≡ true
+none_of ss e = ap (λ (s : List Sub). has_no_subscript (subscripts (map subscript_of s))) e
 
-some_of : (ss : List Sub) → (ss ≡ [] → ⊥) → has_none (subscripts (map subscript_of ss)) ≡ false
+some_of : (ss : List Sub) → (ss ≡ [] → ⊥) → has_no_subscript (subscripts (map subscript_of ss)) ≡ false
 some_of [] h = absurd (h refl)
 some_of (s ∷ ss) h = refl
 
@@ -36,7 +36,7 @@ among_any : (ls : List (List ℕ)) (x : List ℕ) → is_among ls x ≡ list_any
 among_any [] x = refl
 among_any (l ∷ ls) x = ap (λ b. bytes_eq l x || b) (among_any ls x)
 
-counter_by : (ls : List (List ℕ)) (r : Ref) (b : Bool) → has_none (subscripts (map subscript_of (out-Ref r).subs)) ≡ b
+counter_by : (ls : List (List ℕ)) (r : Ref) (b : Bool) → has_no_subscript (subscripts (map subscript_of (out-Ref r).subs)) ≡ b
     → is_counter ls (reference_of r).name (reference_of r).subscripts ≡ (b && list_any (λ y. bytes_eq y (out-Ref r).name) ls)
 counter_by ls r b h =
     ap (λ (q : Reference). is_counter ls q.name q.subscripts) (reference_of-is r)
@@ -52,7 +52,7 @@ counter_subscripted ls r h = counter_by ls r false (some_of (out-Ref r).subs h)
 pub ruleset counter_laws = (counter_bare, counter_subscripted)
 
 own_length : (ls : List (List ℕ)) (x : List ℕ) (ss : Subscripts) → length (own_reference ls x ss) ≡ cond (is_counter ls x ss) 0 1
-own_length ls x ss = by (has_none ss) (is_among ls x)
+own_length ls x ss = by (has_no_subscript ss) (is_among ls x)
   where
     r : Reference
     r = record { name = x; subscripts = ss }
@@ -63,16 +63,16 @@ own_length ls x ss = by (has_none ss) (is_among ls x)
     by false b = refl
 
 -- a name counts by itself, and what stands in its subscripts
-pub count-named : (ls : List (List ℕ)) (r : Reference) → count ls (as_expression r) ≡ cond (is_counter ls r.name r.subscripts) 0 1 + count_in ls r.subscripts
+pub count-named : (ls : List (List ℕ)) (r : Reference) → count ls (read_as_expression r) ≡ cond (is_counter ls r.name r.subscripts) 0 1 + count_in_subscripts ls r.subscripts
 count-named ls r =
     length-append (own_reference ls r.name r.subscripts) (references_in_subscripts ls r.subscripts)
-    ∙ ap (λ n. n + count_in ls r.subscripts) (own_length ls r.name r.subscripts)
+    ∙ ap (λ n. n + count_in_subscripts ls r.subscripts) (own_length ls r.name r.subscripts)
 
-pub count-ref : (ls : List (List ℕ)) (r : Ref) → count ls (as_expression (reference_of r))
-    ≡ cond (is_counter ls (reference_of r).name (reference_of r).subscripts) 0 1 + count_in ls (subscripts (map subscript_of (out-Ref r).subs))
+pub count-ref : (ls : List (List ℕ)) (r : Ref) → count ls (read_as_expression (reference_of r))
+    ≡ cond (is_counter ls (reference_of r).name (reference_of r).subscripts) 0 1 + count_in_subscripts ls (subscripts (map subscript_of (out-Ref r).subs))
 count-ref ls r =
     count-named ls (reference_of r)
-    ∙ ap (λ (q : Reference). cond (is_counter ls (reference_of r).name (reference_of r).subscripts) 0 1 + count_in ls q.subscripts) (reference_of-is r)
+    ∙ ap (λ (q : Reference). cond (is_counter ls (reference_of r).name (reference_of r).subscripts) 0 1 + count_in_subscripts ls q.subscripts) (reference_of-is r)
 
 -- ---- expressions
 
@@ -82,7 +82,7 @@ count-int ls n = ap (count ls) (expression_of-int n)
 pub count-truth : (ls : List (List ℕ)) (b : Bool) → count ls (expression_of (exprs.Truth b)) ≡ 0
 count-truth ls b = ap (count ls) (expression_of-truth b)
 
-pub count-item : (ls : List (List ℕ)) (r : Ref) → count ls (expression_of (exprs.Item r)) ≡ count ls (as_expression (reference_of r))
+pub count-item : (ls : List (List ℕ)) (r : Ref) → count ls (expression_of (exprs.Item r)) ≡ count ls (read_as_expression (reference_of r))
 count-item ls r = ap (count ls) (expression_of-item r)
 
 pub count-un : (ls : List (List ℕ)) (o : Op) (a : Box Expr Global) → count ls (expression_of (exprs.Un o a)) ≡ count ls (expression_of a.value)
@@ -130,14 +130,14 @@ pub ruleset count_laws = (count-int, count-truth, count-item, count-un, count-bi
 pub all-cons : (ls : List (List ℕ)) (e : Expression) (es : List Expression) → count_all ls (expressions (e ∷ es)) ≡ count ls e + count_all ls (expressions es)
 all-cons ls e es = length-append (references_in ls e) (references_in_all ls (expressions es))
 
-pub in-cons : (ls : List (List ℕ)) (s : Subscript) (ss : List Subscript) → count_in ls (subscripts (s ∷ ss)) ≡ count_subscript ls s + count_in ls (subscripts ss)
+pub in-cons : (ls : List (List ℕ)) (s : Subscript) (ss : List Subscript) → count_in_subscripts ls (subscripts (s ∷ ss)) ≡ count_subscript ls s + count_in_subscripts ls (subscripts ss)
 in-cons ls s ss = length-append (references_in_subscript ls s) (references_in_subscripts ls (subscripts ss))
 
 pub all-snoc : (ls : List (List ℕ)) (es : List Expression) (e : Expression) → count_all ls (expressions (es ++ e ∷ [])) ≡ count_all ls (expressions es) + count ls e
 all-snoc ls [] e = let k = all-cons ls e [] in omega (arith, k)
 all-snoc ls (f ∷ es) e = let a = all-cons ls f (es ++ e ∷ []) in let b = all-cons ls f es in let more = all-snoc ls es e in omega (arith, a, b, more)
 
-pub in-snoc : (ls : List (List ℕ)) (ss : List Subscript) (s : Subscript) → count_in ls (subscripts (ss ++ s ∷ [])) ≡ count_in ls (subscripts ss) + count_subscript ls s
+pub in-snoc : (ls : List (List ℕ)) (ss : List Subscript) (s : Subscript) → count_in_subscripts ls (subscripts (ss ++ s ∷ [])) ≡ count_in_subscripts ls (subscripts ss) + count_subscript ls s
 in-snoc ls [] s = let k = in-cons ls s [] in omega (arith, k)
 in-snoc ls (t ∷ ss) s = let a = in-cons ls t (ss ++ s ∷ []) in let b = in-cons ls t ss in let more = in-snoc ls ss s in omega (arith, a, b, more)
 
@@ -158,16 +158,16 @@ all_step ls list i x old here new h e f g k =
     omega (arith, f, g, k, all, more)
 
 pub in_step : (ls : List (List ℕ)) (list : List Sub) (i : ℕ) (x : Sub) (old here new : ℕ) → i < length list → x ≡ get_or list i x
-    → old ≡ count_in ls (subscripts (map subscript_of (take i list))) → here ≡ count_subscript ls (subscript_of x) → new ≡ old + here
-    → new ≡ count_in ls (subscripts (map subscript_of (take (i + 1) list)))
+    → old ≡ count_in_subscripts ls (subscripts (map subscript_of (take i list))) → here ≡ count_subscript ls (subscript_of x) → new ≡ old + here
+    → new ≡ count_in_subscripts ls (subscripts (map subscript_of (take (i + 1) list)))
 in_step ls list i x old here new h e f g k =
-    let all = ap (λ ss. count_in ls (subscripts ss)) (one_more_sub list i x h e) in
+    let all = ap (λ ss. count_in_subscripts ls (subscripts ss)) (one_more_sub list i x h e) in
     let more = in-snoc ls (map subscript_of (take i list)) (subscript_of x) in
     omega (arith, f, g, k, all, more)
 
 -- ---- the left side
 
-pub left-subs : (ls : List (List ℕ)) (r : Ref) → count_in ls (reference_of r).subscripts ≡ count_in ls (subscripts (map subscript_of (out-Ref r).subs))
-left-subs ls r = ap (λ (q : Reference). count_in ls q.subscripts) (reference_of-is r)
+pub left-subs : (ls : List (List ℕ)) (r : Ref) → count_in_subscripts ls (reference_of r).subscripts ≡ count_in_subscripts ls (subscripts (map subscript_of (out-Ref r).subs))
+left-subs ls r = ap (λ (q : Reference). count_in_subscripts ls q.subscripts) (reference_of-is r)
 
 pub ruleset left_laws = (left-subs)

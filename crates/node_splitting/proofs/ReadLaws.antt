@@ -17,8 +17,8 @@ use Rattle.tree.specs.declared.exprs.Sub.TheVariants as subs
 use Rattle.tree.specs.declared.exprs.Turn.{Turn}
 use Rattle.tree.proofs.Equations.{expression_equations, expression_of-int, expression_of-truth, expression_of-item, expression_of-un, expression_of-bin, expression_of-call, reference_of-is, reference_of-made}
 use Rattle.tree.proofs.Equations.{expression_of-list, expression_of-spread, expression_of-transpose, expression_of-reshape, expression_of-reduce, subscript_of-one, subscript_of-part}
-use Rattle.node_splitting.specs.Counts.{count, count_all, count_in, count_subscript, is_counter}
-use Rattle.node_splitting.specs.Reads.{as_expression, behind, is_copied, itself_or, read_or, reads_in, reads_of, reads_of_all, reads_of_subscript, split_in, split_of, split_of_all, split_of_subscript}
+use Rattle.node_splitting.specs.Counts.{count, count_all, count_in_subscripts, count_subscript, is_counter}
+use Rattle.node_splitting.specs.Reads.{read_as_expression, behind, is_copied, itself_or, read_or, reads_in, reads_of, reads_of_all, reads_of_subscript, split_in, split_of, split_of_all, split_of_subscript}
 use Rattle.node_splitting.proofs.Counting.{all-cons, all-snoc, count-bin, count-call, count-int, count-item, count-named, count-one, count-truth, count-un, in-cons, in-snoc, one_more_expr, one_more_sub}
 
 module _ (ls : List (List ℕ)) (may : ℕ → Bool) where
@@ -30,7 +30,7 @@ module _ (ls : List (List ℕ)) (may : ℕ → Bool) where
   pub reads-truth : (q : ℕ) (b : Bool) → reads_of ls may q (expression_of (exprs.Truth b)) ≡ []
   reads-truth q b = ap (reads_of ls may q) (expression_of-truth b)
 
-  pub reads-item : (q : ℕ) (r : Ref) → reads_of ls may q (expression_of (exprs.Item r)) ≡ reads_of ls may q (as_expression (reference_of r))
+  pub reads-item : (q : ℕ) (r : Ref) → reads_of ls may q (expression_of (exprs.Item r)) ≡ reads_of ls may q (read_as_expression (reference_of r))
   reads-item q r = ap (reads_of ls may q) (expression_of-item r)
 
   pub reads-un : (q : ℕ) (o : Op) (a : Box Expr Global) → reads_of ls may q (expression_of (exprs.Un o a)) ≡ reads_of ls may q (expression_of a.value)
@@ -73,7 +73,7 @@ module _ (ls : List (List ℕ)) (may : ℕ → Bool) where
     pub new-truth : (q c : ℕ) (b : Bool) → split_of ls may element q c (expression_of (exprs.Truth b)) ≡ expression_of (exprs.Truth b)
     new-truth q c b = ap (split_of ls may element q c) (expression_of-truth b) ∙ sym (expression_of-truth b)
 
-    pub new-item : (q c : ℕ) (r : Ref) → split_of ls may element q c (expression_of (exprs.Item r)) ≡ split_of ls may element q c (as_expression (reference_of r))
+    pub new-item : (q c : ℕ) (r : Ref) → split_of ls may element q c (expression_of (exprs.Item r)) ≡ split_of ls may element q c (read_as_expression (reference_of r))
     new-item q c r = ap (split_of ls may element q c) (expression_of-item r)
 
     pub new-un : (q c : ℕ) (o : Op) (a : Box Expr Global) → split_of ls may element q c (expression_of (exprs.Un o a)) ≡ Unary o (split_of ls may element q c (expression_of a.value))
@@ -114,17 +114,17 @@ pub ruleset read_laws = (reads-int, reads-truth, reads-item, reads-un, reads-bin
 -- ---- a name
 
 module _ (ls : List (List ℕ)) (may : ℕ → Bool) (element : ℕ → Reference) (q c : ℕ) (r : Reference) where
-  pub copied-reads : is_copied ls may q r.name r.subscripts ≡ true → reads_of ls may q (as_expression r) ≡ r ∷ []
+  pub copied-reads : is_copied ls may q r.name r.subscripts ≡ true → reads_of ls may q (read_as_expression r) ≡ r ∷ []
   copied-reads h = ap (λ b. itself_or b r (reads_in ls may (behind ls may q r.name r.subscripts) r.subscripts)) h
 
-  pub copied-new : is_copied ls may q r.name r.subscripts ≡ true → split_of ls may element q c (as_expression r) ≡ as_expression (element c)
+  pub copied-new : is_copied ls may q r.name r.subscripts ≡ true → split_of ls may element q c (read_as_expression r) ≡ read_as_expression (element c)
   copied-new h = ap (λ b. read_or b (element c) (Named r.name (split_in ls may element (behind ls may q r.name r.subscripts) c r.subscripts))) h
 
-  pub kept-reads : is_copied ls may q r.name r.subscripts ≡ false → reads_of ls may q (as_expression r) ≡ reads_in ls may (behind ls may q r.name r.subscripts) r.subscripts
+  pub kept-reads : is_copied ls may q r.name r.subscripts ≡ false → reads_of ls may q (read_as_expression r) ≡ reads_in ls may (behind ls may q r.name r.subscripts) r.subscripts
   kept-reads h = ap (λ b. itself_or b r (reads_in ls may (behind ls may q r.name r.subscripts) r.subscripts)) h
 
   pub kept-new : is_copied ls may q r.name r.subscripts ≡ false
-      → split_of ls may element q c (as_expression r) ≡ Named r.name (split_in ls may element (behind ls may q r.name r.subscripts) c r.subscripts)
+      → split_of ls may element q c (read_as_expression r) ≡ Named r.name (split_in ls may element (behind ls may q r.name r.subscripts) c r.subscripts)
   kept-new h = ap (λ b. read_or b (element c) (Named r.name (split_in ls may element (behind ls may q r.name r.subscripts) c r.subscripts))) h
 
 pub behind-is : (ls : List (List ℕ)) (may : ℕ → Bool) (q : ℕ) (x : List ℕ) (ss : Subscripts) → behind ls may q x ss ≡ q + cond (is_counter ls x ss) 0 1
@@ -148,13 +148,13 @@ module _ (ls : List (List ℕ)) (may : ℕ → Bool) (element : ℕ → Referenc
       ∙ ap (λ m. reads_of_all ls may q (expressions (f ∷ es)) ++ reads_of ls may m e) sum)
 
   pub reads_in-snoc : (q : ℕ) (ss : List Subscript) (s : Subscript) → reads_in ls may q (subscripts (ss ++ s ∷ []))
-      ≡ reads_in ls may q (subscripts ss) ++ reads_of_subscript ls may (q + count_in ls (subscripts ss)) s
+      ≡ reads_in ls may q (subscripts ss) ++ reads_of_subscript ls may (q + count_in_subscripts ls (subscripts ss)) s
   reads_in-snoc q [] s = let none : q ≡ q + 0 = omega arith in append-nil (reads_of_subscript ls may q s) ∙ ap (λ m. reads_of_subscript ls may m s) none
   reads_in-snoc q (t ∷ ss) s =
       let cons = in-cons ls t ss in
-      let sum : (q + count_subscript ls t) + count_in ls (subscripts ss) ≡ q + count_in ls (subscripts (t ∷ ss)) = omega (arith, cons) in
+      let sum : (q + count_subscript ls t) + count_in_subscripts ls (subscripts ss) ≡ q + count_in_subscripts ls (subscripts (t ∷ ss)) = omega (arith, cons) in
       ap (λ rs. reads_of_subscript ls may q t ++ rs) (reads_in-snoc (q + count_subscript ls t) ss s)
-      ∙ (sym (append_assoc (reads_of_subscript ls may q t) (reads_in ls may (q + count_subscript ls t) (subscripts ss)) (reads_of_subscript ls may ((q + count_subscript ls t) + count_in ls (subscripts ss)) s))
+      ∙ (sym (append_assoc (reads_of_subscript ls may q t) (reads_in ls may (q + count_subscript ls t) (subscripts ss)) (reads_of_subscript ls may ((q + count_subscript ls t) + count_in_subscripts ls (subscripts ss)) s))
       ∙ ap (λ m. reads_in ls may q (subscripts (t ∷ ss)) ++ reads_of_subscript ls may m s) sum)
 
   abbrev pub new_all : ℕ → ℕ → List Expression → List Expression
@@ -190,7 +190,7 @@ module _ (ls : List (List ℕ)) (may : ℕ → Bool) (element : ℕ → Referenc
       ∙ ap (λ d. new_all (q + count ls f) (c + length (reads_of ls may q f)) es ++ split_of ls may element (q + count_all ls (expressions (f ∷ es))) d e ∷ []) total)
 
   pub new_subscripts-snoc : (q c : ℕ) (ss : List Subscript) (s : Subscript) → new_subscripts q c (ss ++ s ∷ [])
-      ≡ new_subscripts q c ss ++ split_of_subscript ls may element (q + count_in ls (subscripts ss)) (c + length (reads_in ls may q (subscripts ss))) s ∷ []
+      ≡ new_subscripts q c ss ++ split_of_subscript ls may element (q + count_in_subscripts ls (subscripts ss)) (c + length (reads_in ls may q (subscripts ss))) s ∷ []
   new_subscripts-snoc q c [] s =
       let none : q ≡ q + 0 = omega arith in
       let zero' : c ≡ c + 0 = omega arith in
@@ -198,12 +198,12 @@ module _ (ls : List (List ℕ)) (may : ℕ → Bool) (element : ℕ → Referenc
   new_subscripts-snoc q c (t ∷ ss) s =
       let cons = in-cons ls t ss in
       let len = length-append (reads_of_subscript ls may q t) (reads_in ls may (q + count_subscript ls t) (subscripts ss)) in
-      let sum : (q + count_subscript ls t) + count_in ls (subscripts ss) ≡ q + count_in ls (subscripts (t ∷ ss)) = omega (arith, cons) in
+      let sum : (q + count_subscript ls t) + count_in_subscripts ls (subscripts ss) ≡ q + count_in_subscripts ls (subscripts (t ∷ ss)) = omega (arith, cons) in
       let total : (c + length (reads_of_subscript ls may q t)) + length (reads_in ls may (q + count_subscript ls t) (subscripts ss)) ≡ c + length (reads_in ls may q (subscripts (t ∷ ss))) = omega (arith, len) in
       ap (λ xs. split_of_subscript ls may element q c t ∷ xs) (new_subscripts-snoc (q + count_subscript ls t) (c + length (reads_of_subscript ls may q t)) ss s
       ∙ ap (λ m. new_subscripts (q + count_subscript ls t) (c + length (reads_of_subscript ls may q t)) ss
       ++ split_of_subscript ls may element m ((c + length (reads_of_subscript ls may q t)) + length (reads_in ls may (q + count_subscript ls t) (subscripts ss))) s ∷ []) sum
-      ∙ ap (λ d. new_subscripts (q + count_subscript ls t) (c + length (reads_of_subscript ls may q t)) ss ++ split_of_subscript ls may element (q + count_in ls (subscripts (t ∷ ss))) d s ∷ []) total)
+      ∙ ap (λ d. new_subscripts (q + count_subscript ls t) (c + length (reads_of_subscript ls may q t)) ss ++ split_of_subscript ls may element (q + count_in_subscripts ls (subscripts (t ∷ ss))) d s ∷ []) total)
 
 -- ---- one expression more
 
@@ -255,35 +255,35 @@ module _ (ls : List (List ℕ)) (may : ℕ → Bool) (element : ℕ → Referenc
   sub_more_is : map subscript_of (take (i + 1) list) ≡ sub_so_far ++ subscript_of x ∷ []
   sub_more_is = one_more_sub list i x inside is
 
-  pub sub_next_step : (next new : ℕ) → next ≡ q + count_in ls (subscripts sub_so_far) → new ≡ next + count_subscript ls (subscript_of x) → new ≡ q + count_in ls (subscripts (map subscript_of (take (i + 1) list)))
+  pub sub_next_step : (next new : ℕ) → next ≡ q + count_in_subscripts ls (subscripts sub_so_far) → new ≡ next + count_subscript ls (subscript_of x) → new ≡ q + count_in_subscripts ls (subscripts (map subscript_of (take (i + 1) list)))
   sub_next_step next new h k =
-      let all = ap (λ es. count_in ls (subscripts es)) sub_more_is in
+      let all = ap (λ es. count_in_subscripts ls (subscripts es)) sub_more_is in
       let more = in-snoc ls sub_so_far (subscript_of x) in
       omega (arith, h, k, all, more)
 
-  pub sub_reads_step : (next : ℕ) (first old new : List Reference) → next ≡ q + count_in ls (subscripts sub_so_far) → old ≡ first ++ reads_in ls may q (subscripts sub_so_far)
+  pub sub_reads_step : (next : ℕ) (first old new : List Reference) → next ≡ q + count_in_subscripts ls (subscripts sub_so_far) → old ≡ first ++ reads_in ls may q (subscripts sub_so_far)
       → new ≡ old ++ reads_of_subscript ls may next (subscript_of x) → new ≡ first ++ reads_in ls may q (subscripts (map subscript_of (take (i + 1) list)))
   sub_reads_step next first old new n h k =
       k ∙ ap (λ zs. zs ++ reads_of_subscript ls may next (subscript_of x)) h
       ∙ ap (λ m. (first ++ reads_in ls may q (subscripts sub_so_far)) ++ reads_of_subscript ls may m (subscript_of x)) n
-      ∙ append_assoc first (reads_in ls may q (subscripts sub_so_far)) (reads_of_subscript ls may (q + count_in ls (subscripts sub_so_far)) (subscript_of x))
+      ∙ append_assoc first (reads_in ls may q (subscripts sub_so_far)) (reads_of_subscript ls may (q + count_in_subscripts ls (subscripts sub_so_far)) (subscript_of x))
       ∙ ap (λ zs. first ++ zs) (sym (reads_in-snoc ls may element q sub_so_far (subscript_of x)))
       ∙ ap (λ es. first ++ reads_in ls may q (subscripts es)) (sym sub_more_is)
 
-  pub sub_copies_step : (next copies new : ℕ) → next ≡ q + count_in ls (subscripts sub_so_far) → copies ≡ c + length (reads_in ls may q (subscripts sub_so_far))
+  pub sub_copies_step : (next copies new : ℕ) → next ≡ q + count_in_subscripts ls (subscripts sub_so_far) → copies ≡ c + length (reads_in ls may q (subscripts sub_so_far))
       → new ≡ copies + length (reads_of_subscript ls may next (subscript_of x)) → new ≡ c + length (reads_in ls may q (subscripts (map subscript_of (take (i + 1) list))))
   sub_copies_step next copies new n h k =
       let all = ap length (sub_reads_step next [] (reads_in ls may q (subscripts sub_so_far)) (reads_in ls may q (subscripts sub_so_far) ++ reads_of_subscript ls may next (subscript_of x)) n refl refl) in
       let sum = length-append (reads_in ls may q (subscripts sub_so_far)) (reads_of_subscript ls may next (subscript_of x)) in
       omega (arith, h, k, all, sum)
 
-  pub sub_made_step : (next copies : ℕ) (old new : List Subscript) → next ≡ q + count_in ls (subscripts sub_so_far) → copies ≡ c + length (reads_in ls may q (subscripts sub_so_far))
+  pub sub_made_step : (next copies : ℕ) (old new : List Subscript) → next ≡ q + count_in_subscripts ls (subscripts sub_so_far) → copies ≡ c + length (reads_in ls may q (subscripts sub_so_far))
       → old ≡ new_subscripts ls may element q c sub_so_far → new ≡ old ++ split_of_subscript ls may element next copies (subscript_of x) ∷ []
       → new ≡ new_subscripts ls may element q c (map subscript_of (take (i + 1) list))
   sub_made_step next copies old new n h o k =
       k ∙ ap (λ zs. zs ++ split_of_subscript ls may element next copies (subscript_of x) ∷ []) o
       ∙ ap (λ m. new_subscripts ls may element q c sub_so_far ++ split_of_subscript ls may element m copies (subscript_of x) ∷ []) n
-      ∙ ap (λ d. new_subscripts ls may element q c sub_so_far ++ split_of_subscript ls may element (q + count_in ls (subscripts sub_so_far)) d (subscript_of x) ∷ []) h
+      ∙ ap (λ d. new_subscripts ls may element q c sub_so_far ++ split_of_subscript ls may element (q + count_in_subscripts ls (subscripts sub_so_far)) d (subscript_of x) ∷ []) h
       ∙ sym (new_subscripts-snoc ls may element q c sub_so_far (subscript_of x))
       ∙ ap (new_subscripts ls may element q c) (sym sub_more_is)
 

@@ -3,7 +3,7 @@
 -- what is read is copied before it is overwritten, unless it comes from within the component itself.
 use Rattle.std.specs.Prelude.{◌≡◌, ℕ, ◌==◌, Bool, true, false, not, ◌&&◌, List, map}
 use Rattle.std.specs.List.{filter, list_any}
-use Rattle.components.specs.Lists.{In}
+use Rattle.components.specs.Lists.{IsMember}
 use Rattle.components.specs.Reachability.{AreMutual}
 use Rattle.dependence_graph.specs.declared.graphs.Dep.{Dep}
 use Rattle.dependence_graph.specs.declared.graphs.Dep.TheVariants.{Flow, Anti, Output}
@@ -17,25 +17,25 @@ abbrev pub pairs_of : List Edge → List (ℕ × ℕ)
 pairs_of es = map (λ (e : Edge). (e.from.stmt, e.to.stmt)) es
 
 -- two statements of one component of the outermost loop
-abbrev pub AreTogether : List Edge → ℕ → ℕ → Type 0
-AreTogether es a b = AreMutual (pairs_of es) a b
+abbrev pub AreInOneComponent : List Edge → ℕ → ℕ → Type 0
+AreInOneComponent es a b = AreMutual (pairs_of es) a b
 
 -- an antidependence leads from it to another statement of its component
 pub record IsOverwritten (es : List Edge) (p : Place) : Type 0 where
   pub edge : Edge
-  pub is : In edge es
+  pub is : IsMember edge es
   pub kind : edge.kind ≡ Anti
   pub from : edge.from ≡ p
   pub other : ¬ (edge.to.stmt ≡ p.stmt)
-  pub together : AreTogether es p.stmt edge.to.stmt
+  pub together : AreInOneComponent es p.stmt edge.to.stmt
 
 -- a flow dependence leads to it from a statement of its component
 pub record IsFed (es : List Edge) (p : Place) : Type 0 where
   pub edge : Edge
-  pub is : In edge es
+  pub is : IsMember edge es
   pub kind : edge.kind ≡ Flow
   pub to : edge.to ≡ p
-  pub together : AreTogether es edge.from.stmt p.stmt
+  pub together : AreInOneComponent es edge.from.stmt p.stmt
 
 pub record MayBeCopied (es : List Edge) (p : Place) : Type 0 where
   pub overwritten : IsOverwritten es p

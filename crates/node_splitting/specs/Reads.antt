@@ -6,11 +6,10 @@ use Rattle.tree.specs.Plain.{Expression, Number, Logic, Named, Unary, Binary, Ap
 use Rattle.tree.specs.Plain.{Reshape, Reduce, Expressions, no_expressions, expression, Subscript, Only, Section}
 use Rattle.tree.specs.Plain.{Subscripts, no_subscripts, subscript, Reference}
 use Rattle.nest.specs.Plain.{Guarded}
-use Rattle.node_splitting.specs.Counts.{count, count_subscript, first_in_left, first_in_right}
-use Rattle.node_splitting.specs.Counts.{is_counter, is_item}
+use Rattle.node_splitting.specs.Counts.{count, count_subscript, first_in_left, first_in_right, is_counter, is_item}
 
-abbrev pub as_expression : Reference → Expression
-as_expression r = Named r.name r.subscripts
+abbrev pub read_as_expression : Reference → Expression
+read_as_expression r = Named r.name r.subscripts
 
 -- the reference itself, or what is copied in it
 abbrev pub itself_or : Bool → Reference → List Reference → List Reference
@@ -18,7 +17,7 @@ itself_or true r inside = r ∷ []
 itself_or false r inside = inside
 
 abbrev pub read_or : Bool → Reference → Expression → Expression
-read_or true r e = as_expression r
+read_or true r e = read_as_expression r
 read_or false r e = e
 
 -- may: whether the reference with a number may be copied
@@ -123,12 +122,12 @@ module _ (loops : List (List ℕ)) (may : ℕ → Bool) (g : Guarded) where
   split_statement element c = record g { left = split_left element c; right = split_right element c }
 
 -- what is read is copied under the statement's guard
-abbrev pub copied : (ℕ → Reference) → Guarded → ℕ → Reference → Guarded
-copied element g c r = record { line = g.line; guard = g.guard; left = element c; right = as_expression r }
+abbrev pub read_copied : (ℕ → Reference) → Guarded → ℕ → Reference → Guarded
+read_copied element g c r = record { line = g.line; guard = g.guard; left = element c; right = read_as_expression r }
 
 abbrev pub copies_of : (ℕ → Reference) → Guarded → ℕ → List Reference → List Guarded
 copies_of element g c [] = []
-copies_of element g c (r ∷ rs) = copied element g c r ∷ copies_of element g (suc c) rs
+copies_of element g c (r ∷ rs) = read_copied element g c r ∷ copies_of element g (suc c) rs
 
 -- each copy in the order of the references, and then the statement
 abbrev pub with_copies : List (List ℕ) → (ℕ → Bool) → (ℕ → Reference) → ℕ → Guarded → List Guarded

@@ -11,9 +11,9 @@ use Rattle.nest_rewrite.specs.Statements.{rewritten_statement}
 use Rattle.statement_passes.specs.Passes.{mapped_nest}
 use Rattle.dependence_graph.specs.declared.graphs.Graph.{Graph}
 use Rattle.dependence_graph.specs.declared.graphs.Place.{Place}
-use Rattle.node_splitting.specs.Arrays.{arrays, element, extents_over}
+use Rattle.node_splitting.specs.Arrays.{arrays, copy_element, extents_over}
 use Rattle.node_splitting.specs.Choice.{MayBeCopied}
-use Rattle.node_splitting.specs.Counts.{variables_of}
+use Rattle.node_splitting.specs.Counts.{variables_from_outside}
 use Rattle.node_splitting.specs.Reads.{reads_in_statement, with_copies}
 
 -- ---- statements
@@ -23,17 +23,18 @@ abbrev pub may_in : (Place → Bool) → ℕ → List Loop → ℕ → ℕ → B
 may_in may symbols ls k q = is_some (extents_over symbols ls) && may (record { stmt = k; at = q })
 
 abbrev pub reads_at : (Place → Bool) → ℕ → List Loop → ℕ → Guarded → List Reference
-reads_at may symbols ls k g = reads_in_statement (variables_of ls) (may_in may symbols ls k) g
+reads_at may symbols ls k g = reads_in_statement (variables_from_outside ls) (may_in may symbols ls k) g
 
 -- in canonical text, by the variables of the loops round it and these symbols
-abbrev pub canonised : List (List ℕ) → List Loop → Guarded → Guarded
-canonised symbols ls g = rewritten_statement (canonising (variables_of ls) symbols) g
+abbrev pub in_canonical_text : List (List ℕ) → List Loop → Guarded → Guarded
+in_canonical_text symbols ls g = rewritten_statement (canonising (variables_from_outside ls) symbols) g
 
 -- what becomes of the k-th statement; firsts: how many copies there are before each
 abbrev pub each_split : (Place → Bool) → List (List ℕ) → List ℕ → List Loop → ℕ → Guarded → List Guarded
 each_split may symbols firsts ls k g =
-    map (canonised symbols ls)
-    (with_copies (variables_of ls) (may_in may (length symbols) ls k) (element (variables_of ls))
+    map (in_canonical_text symbols ls)
+    (with_copies (variables_from_outside ls) (may_in may (length symbols) ls k)
+    (copy_element (variables_from_outside ls))
     (slice_index_or firsts k 0) g)
 
 -- ---- numbers, which go on from nest to nest
@@ -69,21 +70,21 @@ module _ (may : Place → Bool) (n : Nest) where
   -- ---- the nest
 
   -- with these arrays
-  abbrev pub with_arrays : List Made → Nest
-  with_arrays as' =
+  abbrev pub with_copy_arrays : List Made → Nest
+  with_copy_arrays as' =
       let m = mapped_nest (each_split may n.symbols firsts) n in
       record m { made = n.made ++ as'; copies = last }
 
   abbrev pub if_copied : List Made → Option Nest
   if_copied [] = None
-  if_copied (a ∷ as') = Some (with_arrays (a ∷ as'))
+  if_copied (a ∷ as') = Some (with_copy_arrays (a ∷ as'))
 
   -- where there is a copy, the nest with all of them
   unfoldable pub with_nodes_split : Option Nest
   with_nodes_split = if_copied made_arrays
 
 -- By the graph: what the nest becomes, or that nothing is copied
-pub record IsSplit (n : Nest) (g : Graph) (new : Option Nest) : Type 0 where
+pub record IsSplitNest (n : Nest) (g : Graph) (new : Option Nest) : Type 0 where
   pub may : Place → Bool
   pub by_graph : (p : Place) → (may p ≡ true) ↔ MayBeCopied g.edges p
   pub is : new ≡ with_nodes_split may n

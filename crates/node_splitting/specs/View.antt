@@ -3,9 +3,9 @@ use Rattle.std.specs.Prelude.{ℕ, ◌+◌, ◌==◌, Bool, not, ◌&&◌, List,
 use Rattle.tree.specs.Plain.{Expression, Expressions, Reference, Subscript, Subscripts}
 use Rattle.nest.specs.Plain.{Guarded}
 use Rattle.dependence_graph.specs.declared.graphs.Place.{Place}
-use Rattle.node_splitting.specs.Arrays.{element}
+use Rattle.node_splitting.specs.Arrays.{copy_element}
 use Rattle.node_splitting.specs.Choice.{is_listed}
-use Rattle.node_splitting.specs.Counts.{count_in}
+use Rattle.node_splitting.specs.Counts.{count_in_subscripts}
 use Rattle.node_splitting.specs.Reads.{reads_in, reads_of, reads_of_all, reads_of_subscript, split_in, split_of}
 use Rattle.node_splitting.specs.Reads.{split_of_all, split_of_subscript}
 use Rattle.node_splitting.specs.declared.choice.Choice.{Choice}
@@ -35,28 +35,30 @@ module _ (r : Reader) where
   read_in q ss = reads_in r.loops.now (may_be_read r) q ss
 
   abbrev pub new_of : ℕ → ℕ → Expression → Expression
-  new_of q c e = split_of r.loops.now (may_be_read r) (element r.loops.now) q c e
+  new_of q c e = split_of r.loops.now (may_be_read r) (copy_element r.loops.now) q c e
 
   abbrev pub new_of_all : ℕ → ℕ → Expressions → Expressions
-  new_of_all q c es = split_of_all r.loops.now (may_be_read r) (element r.loops.now) q c es
+  new_of_all q c es = split_of_all r.loops.now (may_be_read r) (copy_element r.loops.now) q c es
 
   abbrev pub new_of_subscript : ℕ → ℕ → Subscript → Subscript
-  new_of_subscript q c s = split_of_subscript r.loops.now (may_be_read r) (element r.loops.now) q c s
+  new_of_subscript q c s = split_of_subscript r.loops.now (may_be_read r) (copy_element r.loops.now) q c s
 
   abbrev pub new_in : ℕ → ℕ → Subscripts → Subscripts
-  new_in q c ss = split_in r.loops.now (may_be_read r) (element r.loops.now) q c ss
+  new_in q c ss = split_in r.loops.now (may_be_read r) (copy_element r.loops.now) q c ss
 
   -- ---- and of a statement; left: the number of the first reference in the subscripts of its left side
   module _ (left : ℕ) (g : Guarded) where
     abbrev pub reads_by : List Reference
-    reads_by = read_in left g.left.subscripts ++ read_of (left + count_in r.loops.now g.left.subscripts) g.right
+    reads_by = read_in left g.left.subscripts
+        ++ read_of (left + count_in_subscripts r.loops.now g.left.subscripts) g.right
 
     abbrev pub left_by : ℕ → Reference
     left_by c = record { name = g.left.name; subscripts = new_in left c g.left.subscripts }
 
     abbrev pub right_by : ℕ → Expression
     right_by c =
-        new_of (left + count_in r.loops.now g.left.subscripts) (c + length (read_in left g.left.subscripts)) g.right
+        new_of (left + count_in_subscripts r.loops.now g.left.subscripts)
+        (c + length (read_in left g.left.subscripts)) g.right
 
     abbrev pub split_by : ℕ → Guarded
     split_by c = record g { left = left_by c; right = right_by c }

@@ -3,8 +3,9 @@ ghost use Rattle.std.specs.Prelude.{◌≡◌, ◌++◌, IfOk, OnOk, length, map
 ghost use Rattle.tree.specs.Plain.{Named, Only, no_subscripts, subscripts};
 ghost use Rattle.tree.specs.View.{declaration_of, expression_of, reference_of, subscript_of};
 ghost use Rattle.nest.specs.View.{loop_of, made_of, nest_of};
-ghost use Rattle.node_splitting.specs.Arrays.{array, arrays, copy_name, element, extents_over, kind_among, kind_of};
-ghost use Rattle.node_splitting.specs.Arrays.{made_kind, texts_over, trips_of, variable};
+ghost use Rattle.node_splitting.specs.Arrays.{array, arrays, copy_name, copy_element, extents_over, kind_among};
+ghost use Rattle.node_splitting.specs.Arrays.{kind_in_nest};
+ghost use Rattle.node_splitting.specs.Arrays.{made_kind_or_integer, texts_over, trips_if_all, variable_subscript};
 
 use crate::counts::sum;
 use itoa::Buffer;
@@ -46,7 +47,7 @@ fn only(expr: Expr) -> Sub
 }
 
 fn variables(alloc: Global, loops: &[Name]) -> Result<Vec<Sub>, Memory>
-    ensures { IfOk result (λ subs. map subscript_of subs.items ≡ map variable loops.now) }
+    ensures { IfOk result (λ subs. map subscript_of subs.items ≡ map variable_subscript loops.now) }
 {
     let mut subs = Vec::new(alloc);
     for name in loops {
@@ -69,7 +70,7 @@ fn element_at(array: Name, mut subs: Vec<Sub>) -> Ref
 
 /// The element of the iteration at hand, of the array of the copy before which there are so many in the program.
 pub(crate) fn element(alloc: Global, loops: &[Name], copies: u32) -> Result<Ref, Memory>
-    ensures { IfOk result (λ r. reference_of r ≡ element loops.now copies) }
+    ensures { IfOk result (λ r. reference_of r ≡ copy_element loops.now copies) }
 {
     let name = copy_name(alloc, copies)?;
     let subs = variables(alloc, loops)?;
@@ -79,7 +80,7 @@ pub(crate) fn element(alloc: Global, loops: &[Name], copies: u32) -> Result<Ref,
 // ---- kinds
 
 fn made_kind(made: &[Made], name: Name) -> Kind
-    ensures { result ≡ made_kind (map made_of made.now) name }
+    ensures { result ≡ made_kind_or_integer (map made_of made.now) name }
 {
     let Some((first, rest)) = made.split_first() else {
         return Kind::Integer;
@@ -104,7 +105,7 @@ fn kind_among(decls: &[Decl], made: &[Made], name: Name) -> Kind
 
 #[tactic(auto, using(tree::proofs::Equations::expression_equations))]
 fn kind_of(nest: &Nest, item: &Ref) -> Kind
-    ensures { result ≡ kind_of (nest_of nest.now) (reference_of item.now).name }
+    ensures { result ≡ kind_in_nest (nest_of nest.now) (reference_of item.now).name }
 {
     kind_among(nest.decls.as_slice(), nest.made.as_slice(), item.name)
 }
@@ -112,7 +113,7 @@ fn kind_of(nest: &Nest, item: &Ref) -> Kind
 // ---- extents
 
 fn trips_of(alloc: Global, loops: &[Loop]) -> Result<Option<Seq<Trip>>, Memory>
-    ensures { IfOk result (λ trips. trips ≡ trips_of (map loop_of loops.now)) }
+    ensures { IfOk result (λ trips. trips ≡ trips_if_all (map loop_of loops.now)) }
 {
     let mut trips = Seq::new(alloc);
     for turns in loops {

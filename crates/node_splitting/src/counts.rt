@@ -6,9 +6,9 @@ ghost use Rattle.std.specs.Str.{bytes_eq};
 ghost use Rattle.tree.specs.Plain.{expressions, subscripts};
 ghost use Rattle.tree.specs.View.{expression_of, reference_of, subscript_of};
 ghost use Rattle.nest.specs.View.{guarded_of};
-ghost use Rattle.node_splitting.specs.Counts.{count, count_all, count_guard, count_in, count_subscript};
+ghost use Rattle.node_splitting.specs.Counts.{count, count_all, count_guard, count_in_subscripts, count_subscript};
 ghost use Rattle.node_splitting.specs.Counts.{first_in_left, first_in_right, is_counter, is_item};
-ghost use Rattle.node_splitting.specs.Reads.{as_expression};
+ghost use Rattle.node_splitting.specs.Reads.{read_as_expression};
 
 use nest::GuardedStmt;
 use tree::{Expr, Memory, Name, Ref, Seq, Sub};
@@ -49,7 +49,7 @@ pub(crate) fn own_count(loops: &[Name], item: &Ref) -> u32
 #[cycle(counts)]
 #[tactic(auto, using(crate::proofs::Counting::count_laws))]
 pub(crate) fn count_item(loops: &[Name], item: &Ref) -> Result<u32, Memory>
-    ensures { IfOk result (λ n. n ≡ count loops.now (as_expression (reference_of item.now))) }
+    ensures { IfOk result (λ n. n ≡ count loops.now (read_as_expression (reference_of item.now))) }
 {
     let inside = count_subs(loops, &item.subs)?;
     sum(own_count(loops, item), inside)
@@ -114,7 +114,7 @@ pub(crate) fn count_sub(loops: &[Name], sub: &Sub) -> Result<u32, Memory>
 /// In subscripts.
 #[cycle(counts)]
 pub(crate) fn count_subs(loops: &[Name], subs: &Seq<Sub>) -> Result<u32, Memory>
-    ensures { IfOk result (λ n. n ≡ count_in loops.now (subscripts (map subscript_of subs.now))) }
+    ensures { IfOk result (λ n. n ≡ count_in_subscripts loops.now (subscripts (map subscript_of subs.now))) }
 {
     let mut total = 0;
     for sub in subs.as_slice() {

@@ -5,11 +5,11 @@ ghost use Rattle.tree.specs.View.{expression_of, reference_of};
 ghost use Rattle.nest.specs.Plain as plain;
 ghost use Rattle.nest.specs.View.{guarded_of, loop_of, made_of, nest_of, part_of};
 ghost use Rattle.nest.specs.statement_loops.Standings.{standing_of};
-ghost use Rattle.node_splitting.specs.Arrays.{arrays, element};
-ghost use Rattle.node_splitting.specs.Reads.{as_expression, copied, copies_of};
-ghost use Rattle.node_splitting.specs.Counts.{variables_of};
-ghost use Rattle.node_splitting.specs.Split.{IsSplit, arrays_from, canonised, firsts, firsts_from, last, last_from};
-ghost use Rattle.node_splitting.specs.Split.{made_arrays, reads_at, with_arrays};
+ghost use Rattle.node_splitting.specs.Arrays.{arrays, copy_element};
+ghost use Rattle.node_splitting.specs.Reads.{read_as_expression, read_copied, copies_of};
+ghost use Rattle.node_splitting.specs.Counts.{variables_from_outside};
+ghost use Rattle.node_splitting.specs.Split.{IsSplitNest, arrays_from, in_canonical_text, firsts, firsts_from, last};
+ghost use Rattle.node_splitting.specs.Split.{last_from, made_arrays, reads_at, with_copy_arrays};
 ghost use Rattle.node_splitting.specs.View.{may_of};
 
 use crate::arrays::{add_arrays, element, symbol_count};
@@ -28,7 +28,7 @@ use tree::{Expr, Memory, Name, Ref, Seq};
 
 #[tactic(auto, using(tree::proofs::Equations::expression_equations))]
 fn as_expression(alloc: Global, item: &Ref) -> Result<Expr, Memory>
-    ensures { IfOk result (λ e. expression_of e ≡ as_expression (reference_of item.now)) }
+    ensures { IfOk result (λ e. expression_of e ≡ read_as_expression (reference_of item.now)) }
 {
     Ok(Expr::Item(copy_ref(item, alloc)?))
 }
@@ -42,7 +42,7 @@ fn copied(
     read: &Ref,
 ) -> Result<GuardedStmt, Memory>
     ensures { IfOk result (λ new. guarded_of new
-        ≡ copied (element loops.now) (guarded_of stmt.now) copies (reference_of read.now)) }
+        ≡ read_copied (copy_element loops.now) (guarded_of stmt.now) copies (reference_of read.now)) }
 {
     Ok(GuardedStmt {
         line: stmt.line,
@@ -59,7 +59,7 @@ fn canonised(
     stmt: &GuardedStmt,
 ) -> Result<GuardedStmt, Memory>
     ensures { IfOk result (λ new. guarded_of new
-        ≡ canonised symbols.now (map loop_of loops.now) (guarded_of stmt.now)) }
+        ≡ in_canonical_text symbols.now (map loop_of loops.now) (guarded_of stmt.now)) }
 {
     let mut rule = text_rule(alloc, symbols, loops)?;
     rewrite_stmt(alloc, stmt, &mut rule)
@@ -75,7 +75,7 @@ fn add_text(
     made: &mut Seq<Part>,
 ) -> Result<(), Memory>
     ensures { OnOk result (map part_of made.new ≡ map part_of made.old
-        ++ plain.Run (canonised symbols.now (map loop_of loops.now) (guarded_of stmt.now)) ∷ []) }
+        ++ plain.Run (in_canonical_text symbols.now (map loop_of loops.now) (guarded_of stmt.now)) ∷ []) }
 {
     made.push(Part::Run(canonised(alloc, symbols, loops, stmt)?))
 }
@@ -93,8 +93,8 @@ fn add_copies(
     made: &mut Seq<Part>,
 ) -> Result<(), Memory>
     ensures { OnOk result (map part_of made.new ≡ map part_of made.old ++ map plain.Run
-        (map (canonised symbols.now (map loop_of loops.now))
-        (copies_of (element names.now) (guarded_of stmt.now) copies (map reference_of reads.now)))) }
+        (map (in_canonical_text symbols.now (map loop_of loops.now))
+        (copies_of (copy_element names.now) (guarded_of stmt.now) copies (map reference_of reads.now)))) }
 {
     let Some((first, rest)) = reads.split_first() else {
         return Ok(());
@@ -135,8 +135,8 @@ impl Splitting {
         made: &mut Seq<Part>,
     ) -> Result<(), Memory>
         ensures { OnOk result (map part_of made.new ≡ map part_of made.old ++ map plain.Run
-            (map (canonised self.now.symbols (map loop_of loops.now))
-            (copies_of (element (variables_of (map loop_of loops.now))) (guarded_of stmt.now) first
+            (map (in_canonical_text self.now.symbols (map loop_of loops.now))
+            (copies_of (copy_element (variables_from_outside (map loop_of loops.now))) (guarded_of stmt.now) first
             (map reference_of split.now.reads) ++ guarded_of split.now.stmt ∷ []))) }
     {
         let names = variables_of(alloc, loops)?;
@@ -282,7 +282,7 @@ fn with_count(nest: Nest, copies: u32) -> Nest
 fn split_by(alloc: Global, nest: &Nest, choice: Choice, plan: Plan) -> Result<Nest, Memory>
     ensures { IfOk result (λ new. (plan.firsts ≡ firsts (may_of choice) (nest_of nest.now))
         → (plan.copies ≡ last (may_of choice) (nest_of nest.now))
-        → nest_of new ≡ with_arrays (may_of choice) (nest_of nest.now) (map made_of plan.arrays)) }
+        → nest_of new ≡ with_copy_arrays (may_of choice) (nest_of nest.now) (map made_of plan.arrays)) }
 {
     let symbols = copy_names(alloc, &nest.symbols)?;
     let Plan {
@@ -302,7 +302,7 @@ fn split_by(alloc: Global, nest: &Nest, choice: Choice, plan: Plan) -> Result<Ne
 /// The nest in which reads of what is overwritten within a component are copied right before their statements; None
 /// where nothing is copied. The graph is that of the nest.
 pub fn split_nodes(alloc: Global, nest: &Nest, graph: &Graph) -> Result<Option<Nest>, Memory>
-    ensures { IfOk result (λ new. IsSplit (nest_of nest.now) graph.now (option_map nest_of new)) }
+    ensures { IfOk result (λ new. IsSplitNest (nest_of nest.now) graph.now (option_map nest_of new)) }
 {
     let choice = choice_of(alloc, graph.edges.as_slice())?;
     let plan = plan_of(alloc, nest, &choice)?;

@@ -3,8 +3,8 @@ ghost use Rattle.std.specs.Prelude.{◌≡◌, ◌+◌, IfOk, length, map};
 ghost use Rattle.std.specs.Option.{option_map};
 ghost use Rattle.tree.specs.View.{expression_of, reference_of};
 ghost use Rattle.nest.specs.View.{guarded_of, loop_of};
-ghost use Rattle.node_splitting.specs.Arrays.{element};
-ghost use Rattle.node_splitting.specs.Counts.{variables_of};
+ghost use Rattle.node_splitting.specs.Arrays.{copy_element};
+ghost use Rattle.node_splitting.specs.Counts.{variables_from_outside};
 ghost use Rattle.node_splitting.specs.Reads.{split_statement};
 ghost use Rattle.node_splitting.specs.Split.{may_in, reads_at};
 ghost use Rattle.node_splitting.specs.View.{may_of, reads_by, split_by};
@@ -27,7 +27,7 @@ pub(crate) struct SplitStmt {
 
 /// The variables of loops.
 pub(crate) fn variables_of(alloc: Global, loops: &Seq<Loop>) -> Result<Seq<Name>, Memory>
-    ensures { IfOk result (λ names. names ≡ variables_of (map loop_of loops.now)) }
+    ensures { IfOk result (λ names. names ≡ variables_from_outside (map loop_of loops.now)) }
 {
     let mut names = Seq::new(alloc);
     for turns in loops.as_slice() {
@@ -97,9 +97,10 @@ pub(crate) fn split_statement(
     copies: u32,
     stmt: &GuardedStmt,
 ) -> Result<SplitStmt, Memory>
-    ensures stmt { IfOk result (λ s. guarded_of s.stmt ≡ split_statement (variables_of (map loop_of loops.now))
+    ensures stmt { IfOk result
+        (λ s. guarded_of s.stmt ≡ split_statement (variables_from_outside (map loop_of loops.now))
         (may_in (may_of choice.now) symbols (map loop_of loops.now) number) (guarded_of stmt.now)
-        (element (variables_of (map loop_of loops.now))) copies) }
+        (copy_element (variables_from_outside (map loop_of loops.now))) copies) }
     ensures reads { IfOk result (λ s. map reference_of s.reads
         ≡ reads_at (may_of choice.now) symbols (map loop_of loops.now) number (guarded_of stmt.now)) }
     ensures copies { IfOk result (λ s. s.copies ≡ copies

@@ -2,8 +2,8 @@
 ghost use Rattle.std.specs.Prelude.{◌≡◌, ◌+◌, ◌∷◌, ◌++◌, [], IfOk, OnOk, length, map};
 ghost use Rattle.tree.specs.Plain.{expressions, subscripts};
 ghost use Rattle.tree.specs.View.{expression_of, reference_of, subscript_of};
-ghost use Rattle.node_splitting.specs.Counts.{count, count_all, count_in, count_subscript};
-ghost use Rattle.node_splitting.specs.Reads.{as_expression, is_copied};
+ghost use Rattle.node_splitting.specs.Counts.{count, count_all, count_in_subscripts, count_subscript};
+ghost use Rattle.node_splitting.specs.Reads.{read_as_expression, is_copied};
 ghost use Rattle.node_splitting.specs.View.{may_be_read, new_in, new_of, new_of_all, new_of_subscript};
 ghost use Rattle.node_splitting.specs.View.{read_in, read_of, read_of_all, read_of_subscript};
 
@@ -101,14 +101,14 @@ impl Reader<'_> {
     #[cycle(splitting)]
     #[tactic(auto, using(crate::proofs::ReadLaws::item_laws))]
     fn split_item(&self, alloc: Global, item: &Ref, at: &mut Progress) -> Result<Ref, Memory>
-        ensures made { IfOk result (λ new. as_expression (reference_of new)
-            ≡ new_of self.now at.old.next at.old.copies (as_expression (reference_of item.now))) }
+        ensures made { IfOk result (λ new. read_as_expression (reference_of new)
+            ≡ new_of self.now at.old.next at.old.copies (read_as_expression (reference_of item.now))) }
         ensures next { OnOk result (at.new.next ≡ at.old.next
-            + count self.now.loops.now (as_expression (reference_of item.now))) }
+            + count self.now.loops.now (read_as_expression (reference_of item.now))) }
         ensures copies { OnOk result (at.new.copies ≡ at.old.copies
-            + length (read_of self.now at.old.next (as_expression (reference_of item.now)))) }
+            + length (read_of self.now at.old.next (read_as_expression (reference_of item.now)))) }
         ensures reads { OnOk result (map reference_of at.new.reads ≡ map reference_of at.old.reads
-            ++ read_of self.now at.old.next (as_expression (reference_of item.now))) }
+            ++ read_of self.now at.old.next (read_as_expression (reference_of item.now))) }
     {
         if self.is_copied(item, at.next) {
             let element = element(alloc, self.loops, at.copies)?;
@@ -234,7 +234,7 @@ impl Reader<'_> {
         ensures made { IfOk result (λ new. subscripts (map subscript_of new)
             ≡ new_in self.now at.old.next at.old.copies (subscripts (map subscript_of subs.now))) }
         ensures next { OnOk result (at.new.next ≡ at.old.next
-            + count_in self.now.loops.now (subscripts (map subscript_of subs.now))) }
+            + count_in_subscripts self.now.loops.now (subscripts (map subscript_of subs.now))) }
         ensures copies { OnOk result (at.new.copies ≡ at.old.copies
             + length (read_in self.now at.old.next (subscripts (map subscript_of subs.now)))) }
         ensures reads { OnOk result (map reference_of at.new.reads ≡ map reference_of at.old.reads

@@ -13,7 +13,7 @@ use Rattle.last_values.specs.ValuesBehind.{values_behind}
 use Rattle.last_values.specs.InPlace.{assigned_part, first_text, own_trip_text, end_part}
 use Rattle.last_values.specs.PartsInPlace.{parts_before, parts_behind, only_where_part}
 use Rattle.last_values.specs.declared.behind.NestedLoop.{NestedLoop}
-use Rattle.normal_loops.specs.Bodies.{placed, normal_turns, normal_part, normal_parts, normal_branches}
+use Rattle.normal_loops.specs.Bodies.{placed_loop, normal_turns, normal_part, normal_parts, normal_branches}
 use Rattle.normal_loops.specs.Counting.{counting}
 use Rattle.normal_loops.specs.Laws.{CountsByOne, NormalisedCountsByOne}
 use Rattle.normal_loops.specs.Loops.{with_loop, nested_loops}
@@ -74,22 +74,22 @@ unfolding counting
 counting-counts symbols round l r = record { first = refl; step = refl; trip = refl }
 
 module _ (n : Nest) (ls : List NestedLoop) where
-  placed-by : (b : Bool) (round : List NormalLoop) (r : NormalLoop) (p : Part) → All CountsByOne (loops_of p)
+  placed_loop-by : (b : Bool) (round : List NormalLoop) (r : NormalLoop) (p : Part) → All CountsByOne (loops_of p)
       → AreCounting (cond b (p ∷ []) (parts_before n.symbols n.line round r ++ p ∷ parts_behind n.symbols n.line round r))
-  placed-by true round r p h = one-counts p h
-  placed-by false round r p h =
+  placed_loop-by true round r p h = one-counts p h
+  placed_loop-by false round r p h =
       let behind = subst (All CountsByOne) (sym (no-loops-behind n.symbols n.line round r)) (All-nil CountsByOne) in
       let before = subst (All CountsByOne) (sym (no-loops-before n.symbols n.line round r)) (All-nil CountsByOne) in
       both-count (parts_before n.symbols n.line round r) (p ∷ parts_behind n.symbols n.line round r) before
       (All-append CountsByOne (loops_of p) (loops_in_parts (parts (parts_behind n.symbols n.line round r))) h behind)
 
-  placed-counts : (round : List NormalLoop) (r : NormalLoop) (p : Part) → All CountsByOne (loops_of p) → AreCounting (placed n ls round r p)
-  placed-counts round r p h = placed-by (stands_behind (length n.symbols) ls n.body r.variable) round r p h
+  placed_loop-counts : (round : List NormalLoop) (r : NormalLoop) (p : Part) → All CountsByOne (loops_of p) → AreCounting (placed_loop n ls round r p)
+  placed_loop-counts round r p h = placed_loop-by (stands_behind (length n.symbols) ls n.body r.variable) round r p h
 
   turns-count : (round : List NormalLoop) (l : Loop) (o : Option NormalLoop) (ps : List Part) → is_some o ≡ true → AreCounting ps → AreCounting (normal_turns n ls round l o ps)
   turns-count round l None ps e h = absurd (true≢false (sym e))
   turns-count round l (Some r) ps e h =
-      placed-counts round r (Turns (counting n.symbols round l r) (parts ps))
+      placed_loop-counts round r (Turns (counting n.symbols round l r) (parts ps))
       (All-cons CountsByOne (counting n.symbols round l r) (loops_in_parts (parts ps)) (counting-counts n.symbols round l r) h)
 
   mutual

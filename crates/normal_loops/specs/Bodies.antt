@@ -15,15 +15,15 @@ use Rattle.normal_loops.specs.Counting.{counting}
 -- of the nest n with these loops
 module _ (n : Nest) (ls : List NestedLoop) where
   -- a loop, with its variable's last value where this stands in place
-  abbrev pub placed : List NormalLoop → NormalLoop → Part → List Part
-  placed round r p =
+  abbrev pub placed_loop : List NormalLoop → NormalLoop → Part → List Part
+  placed_loop round r p =
       if stands_behind (length n.symbols) ls n.body r.variable then p ∷ []
       else parts_before n.symbols n.line round r ++ p ∷ parts_behind n.symbols n.line round r
 
   -- a loop with these parts; one without a form from 1 by 1 stays
   abbrev pub normal_turns : List NormalLoop → Loop → Option NormalLoop → List Part → List Part
   normal_turns round l None ps = Turns l (parts ps) ∷ []
-  normal_turns round l (Some r) ps = placed round r (Turns (counting n.symbols round l r) (parts ps))
+  normal_turns round l (Some r) ps = placed_loop round r (Turns (counting n.symbols round l r) (parts ps))
 
   -- what stands for a part under these loops
   abbrev mutual

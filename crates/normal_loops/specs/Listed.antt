@@ -59,6 +59,6 @@ module _ (n : Nest) where
       Some (branch (normal_test n.symbols round test) (parts qs) cs)
 
 -- the nest m is n so, whatever stands behind it
-pub record IsListedFrom (n m : Nest) : Type 0 where
+pub record HasNormalLoops (n m : Nest) : Type 0 where
   pub body : listed_part n [] n.body ≡ Some (m.body ∷ [])
   pub rest : m ≡ record n { body = m.body; after = m.after }

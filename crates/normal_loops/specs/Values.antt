@@ -6,13 +6,13 @@ use Rattle.linear_forms.specs.Canonical.{canonising}
 use Rattle.nest.specs.Plain.{Guarded}
 use Rattle.nest_rewrite.specs.Statements.{rewritten_statement}
 use Rattle.last_values.specs.normal_forms.NormalLoops.{counters_of}
-use Rattle.last_values.specs.normal_forms.Texts.{value_text}
+use Rattle.last_values.specs.normal_forms.Texts.{variable_text}
 use Rattle.last_values.specs.declared.normal_forms.loops.NormalLoop.{NormalLoop}
 
 module _ (symbols : List (List ℕ)) where
   -- the variable of a loop under these loops becomes its value
   abbrev pub with_value : List NormalLoop → NormalLoop → Making
-  with_value outer r = substituting r.variable (value_text symbols outer r)
+  with_value outer r = substituting r.variable (variable_text symbols outer r)
 
   -- what has counters of these loops is brought into canonical text
   abbrev pub in_text : List NormalLoop → Making

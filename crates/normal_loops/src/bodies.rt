@@ -4,7 +4,7 @@ ghost use Rattle.std.specs.List.{flat_map};
 ghost use Rattle.nest.specs.View.{branch_of, loop_of, nest_of, part_of};
 ghost use Rattle.last_values.specs.Behind.{stands_behind};
 ghost use Rattle.last_values.specs.Nested.{IsNested};
-ghost use Rattle.normal_loops.specs.Bodies.{normal_part, normal_turns, placed};
+ghost use Rattle.normal_loops.specs.Bodies.{normal_part, normal_turns, placed_loop};
 ghost use Rattle.normal_loops.specs.Counting.{counting};
 ghost use Rattle.normal_loops.specs.Arms.{normal_branch};
 
@@ -68,7 +68,7 @@ fn add_placed(
     requires symbols { length nest.now.symbols ≤ 1000 }
     requires nested { All IsNested loops.now }
     ensures { OnOk result (map part_of made.new
-        ≡ map part_of made.old ++ placed (nest_of nest.now) loops.now round.now turns.now (part_of part)) }
+        ≡ map part_of made.old ++ placed_loop (nest_of nest.now) loops.now round.now turns.now (part_of part)) }
 {
     if ends_behind(alloc, nest, loops, turns.variable)? {
         made.push(part)?;

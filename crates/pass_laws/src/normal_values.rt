@@ -1,6 +1,5 @@
 //! What a nest computes within its loops, and what its normal form computes within the loops from 1 by 1.
-ghost use Rattle.pass_laws.specs.normal_values.Laws.{BoundsBeside, ExpressionBeside, LastValueInPlace};
-ghost use Rattle.pass_laws.specs.normal_values.Laws.{StatementBeside};
+ghost use Rattle.pass_laws.specs.normal_values.Laws.{BoundsBeside, ExpressionBeside, LastValueInPlace, StatementBeside};
 
 /// Where an expression has a value, its normal form, in which forms of the counters stand for the variables, has it
 /// too.

@@ -4,20 +4,21 @@ ghost use Rattle.pass_laws.specs.prepared_nests.Laws.{NormalNestHasParts, Normal
 ghost use Rattle.pass_laws.specs.prepared_nests.Laws.{PreparedNestHasFacts, PreparedNestHasFormFacts};
 ghost use Rattle.pass_laws.specs.prepared_nests.Laws.{PreparedNestIsReady};
 ghost use Rattle.pass_laws.specs.prepared_nests.Laws.{PreparedNestIsRegular, PreparedNestMayBeEmitted};
+ghost use Rattle.tree.specs.declared.width.Width.{Width};
 
 /// What is made of a nest that is found in a program of FORTRAN 77 has prepared parts, also where IFs stand in it.
 pub fn normal_nest_has_parts()
-    ensures { NormalNestHasParts }
+    ensures { (width : Width) → NormalNestHasParts width }
 {}
 
 /// So it is prepared with its IFs and jumps.
 pub fn normal_nest_is_branched()
-    ensures { NormalNestIsBranched }
+    ensures { (width : Width) → NormalNestIsBranched width }
 {}
 
 /// It is prepared without them where it has loops and statements alone.
 pub fn normal_nest_is_prepared()
-    ensures { NormalNestIsPrepared }
+    ensures { (width : Width) → NormalNestIsPrepared width }
 {}
 
 /// A prepared nest may be tested for dependences.

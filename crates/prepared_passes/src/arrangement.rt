@@ -2,6 +2,7 @@
 ghost use Rattle.prepared_passes.specs.arrangement.Laws.{CanonicalTextFollows, MovedLoopsKeepMeaning};
 ghost use Rattle.prepared_passes.specs.arrangement.Prepared.{ArrangedMayStandFor, ArrangedNestGoesOnAsNest};
 ghost use Rattle.prepared_passes.specs.arrangement.Prepared.{ArrangedNestIsPrepared};
+ghost use Rattle.tree.specs.declared.width.Width.{Width};
 
 /// The nest with its loops moved keeps the meaning of the nest (Allen and Kennedy, section 5.2).
 pub fn moved_loops()
@@ -20,10 +21,10 @@ pub fn arranged_nest_is_prepared()
 
 /// By the vectors of its graph it goes on as the nest does.
 pub fn arranged_nest_goes_on_as_nest()
-    ensures { ArrangedNestGoesOnAsNest }
+    ensures { (width : Width) → ArrangedNestGoesOnAsNest width }
 {}
 
 /// So it may stand for the nest.
 pub fn arranged_may_stand_for()
-    ensures { ArrangedMayStandFor }
+    ensures { (width : Width) → ArrangedMayStandFor width }
 {}

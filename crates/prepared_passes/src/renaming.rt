@@ -2,6 +2,7 @@
 ghost use Rattle.prepared_passes.specs.renaming.Laws.{NamesAreFresh, NestIsRenamedWithAnythingBehind};
 ghost use Rattle.prepared_passes.specs.renaming.Laws.{RenamedMayStandFor, RenamedNestGoesOnAsNest};
 ghost use Rattle.prepared_passes.specs.renaming.Laws.{RenamedNestIsPrepared, RenamedNestKeepsRest};
+ghost use Rattle.tree.specs.declared.width.Width.{Width};
 
 /// By declarations without the names that are to be made, these stand nowhere in a prepared nest.
 pub fn names_are_fresh()
@@ -15,12 +16,12 @@ pub fn renamed_nest_is_prepared()
 
 /// It goes on as the nest does, but for the names that were made.
 pub fn renamed_nest_goes_on_as_nest()
-    ensures { RenamedNestGoesOnAsNest }
+    ensures { (width : Width) → RenamedNestGoesOnAsNest width }
 {}
 
 /// So it may stand for the nest.
 pub fn renamed_may_stand_for()
-    ensures { RenamedMayStandFor }
+    ensures { (width : Width) → RenamedMayStandFor width }
 {}
 
 /// It is the nest but for its statements and the names that were made.

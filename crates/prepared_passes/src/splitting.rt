@@ -5,6 +5,7 @@ ghost use Rattle.prepared_passes.specs.splitting.Kept.{SplitNestHasNoPrivateScal
 ghost use Rattle.prepared_passes.specs.splitting.Kept.{SplitNestKeepsRest, SplitsWithAnythingBehind};
 ghost use Rattle.prepared_passes.specs.splitting.Laws.{CopiesAreFresh, SplitMayStandFor, SplitNestGoesOnAsNest};
 ghost use Rattle.prepared_passes.specs.splitting.Laws.{SplitNestIsPrepared};
+ghost use Rattle.tree.specs.declared.width.Width.{Width};
 
 /// By declarations without the arrays of copies, these stand nowhere in a prepared nest.
 pub fn copies_are_fresh()
@@ -18,12 +19,12 @@ pub fn split_nest_is_prepared()
 
 /// It goes on as the nest does, but for the copies.
 pub fn split_nest_goes_on_as_nest()
-    ensures { SplitNestGoesOnAsNest }
+    ensures { (width : Width) → SplitNestGoesOnAsNest width }
 {}
 
 /// So it may stand for the nest.
 pub fn split_may_stand_for()
-    ensures { SplitMayStandFor }
+    ensures { (width : Width) → SplitMayStandFor width }
 {}
 
 /// It is the nest but for its statements and the arrays of copies.
@@ -48,5 +49,5 @@ pub fn split_nest_has_no_private_scalars()
 /// Its guarded statements name elements of made arrays whatever their guards are.
 pub fn split_nest_has_guarded_names()
     ensures elements { SplitNestHasElements }
-    ensures names { SplitNestHasGuardedNames }
+    ensures names { (width : Width) → SplitNestHasGuardedNames width }
 {}

@@ -1,10 +1,11 @@
 //! A law is a function without a body: its contract is what holds.
 ghost use Rattle.prepared_passes.specs.substitution.Laws.{InductionsAreSubstitutedWithAnythingBehind};
 ghost use Rattle.prepared_passes.specs.substitution.Laws.{SubstitutedNestIsPrepared, SubstitutedNestRunsAlike};
+ghost use Rattle.tree.specs.declared.width.Width.{Width};
 
 /// The nest with its inductions substituted comes to the same moment but for the number of steps.
 pub fn substituted_nest_runs_alike()
-    ensures { SubstitutedNestRunsAlike }
+    ensures { (width : Width) → SubstitutedNestRunsAlike width }
 {}
 
 /// It is prepared by the same declarations.

@@ -2,10 +2,11 @@
 ghost use Rattle.prepared_passes.specs.symbols.Laws.{FoundNestIsOfSource, NestWithSymbolsIsSameButText};
 ghost use Rattle.prepared_passes.specs.symbols.Laws.{NestWithSymbolsRunsAlike};
 ghost use Rattle.prepared_passes.specs.symbols.Laws.{PreparedNestIsPreparedAnew, SymbolsAreFoundWithAnythingBehind};
+ghost use Rattle.tree.specs.declared.width.Width.{Width};
 
 /// The nest with all its symbols comes to the same moment.
 pub fn nest_with_symbols_runs_alike()
-    ensures { NestWithSymbolsRunsAlike }
+    ensures { (width : Width) → NestWithSymbolsRunsAlike width }
 {}
 
 /// It is the same nest but for its symbols and its texts.
@@ -25,5 +26,5 @@ pub fn prepared_nest_is_prepared_anew()
 
 /// What is made of a nest that is found is of its source.
 pub fn found_nest_is_of_source()
-    ensures { FoundNestIsOfSource }
+    ensures { (width : Width) → FoundNestIsOfSource width }
 {}

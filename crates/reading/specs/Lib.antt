@@ -1,2 +1,3 @@
+pub mod Characters
 pub mod Signs
 pub mod refusal_order

@@ -1,8 +1,9 @@
 -- What may stand before an operand, and the words that it is: a minus sign is the operator Sub, wherever it stands.
-use Rattle.std.specs.Prelude.{Bool, true, false, Option, Some, None}
+use Rattle.std.specs.Prelude.{ℕ, Bool, true, false, Option, Some, None, []}
+use Rattle.tree.specs.Plain.{Expression, Reference, Named, Unary, Subscript, Only, Section, no_subscripts}
 use Rattle.tree.specs.OperatorTable as table
 use Rattle.tree.specs.declared.ops.Op.{Op}
-use Rattle.tree.specs.declared.ops.Op.TheVariants.{Add, Sub, Not}
+use Rattle.tree.specs.declared.ops.Op.TheVariants.{Neg, Add, Sub, Not}
 use Rattle.reading.specs.declared.signs.Sign.{Sign}
 use Rattle.reading.specs.declared.signs.Sign.TheVariants.{Plus, Minus, Negation}
 
@@ -30,3 +31,25 @@ sign_word table.Negation = Not
 abbrev pub sign_leads : table.Sign → Bool
 sign_leads table.Negation = false
 sign_leads s = true
+
+-- a plus sign counts nothing
+abbrev pub sign_depth : table.Sign → ℕ
+sign_depth table.Plus = 0
+sign_depth s = 1
+
+-- ---- what is written so stands for
+
+abbrev pub signed : table.Sign → Expression → Expression
+signed table.Plus e = e
+signed table.Minus e = Unary Neg e
+signed table.Negation e = Unary Not e
+
+-- what stands in parentheses behind a name, as an argument: no section is one
+abbrev pub argument_of : Subscript → Expression
+argument_of (Only e) = e
+argument_of (Section a b c) = a
+
+-- a left side is a name, or a name with a list
+abbrev pub reference_in : Expression → Reference
+reference_in (Named x ps) = record { name = x; subscripts = ps }
+reference_in e = record { name = []; subscripts = no_subscripts }

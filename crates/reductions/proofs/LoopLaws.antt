@@ -5,7 +5,7 @@ use Rattle.std.specs.Str.{bytes_eq}
 use Rattle.std.proofs.Math.Dec.{eqb-suc-zero}
 use Rattle.std.proofs.lemmas.List.{at_drop_more, at_drop_all}
 use Rattle.tree.specs.Plain.{Expression, expressions, no_expressions, Subscript, subscripts, no_subscripts, no_loops}
-use Rattle.tree.specs.View.{expression_of, subscript_of, loop_of, loops, ConstructorLoop}
+use Rattle.tree.specs.View.{expression_of, subscript_of, loop_of, constructor_loops, ConstructorLoop}
 use Rattle.tree.specs.declared.exprs.Expr.{Expr}
 use Rattle.tree.specs.declared.exprs.Sub.{Sub}
 use Rattle.tree.specs.declared.exprs.Turn.{Turn, out-Turn}
@@ -33,13 +33,13 @@ without_more x list i n first old new h e before now =
 -- ---- the loops of a constructor
 
 pub under_more : (whole : List (List ℕ)) (ls : List Turn) (i : ℕ) (l : Turn) (inner start round new : List (List ℕ)) → i < length ls → l ≡ get_or ls i l
-    → whole ≡ read_under (loops (map loop_of (drop i ls))) inner
+    → whole ≡ read_under (constructor_loops (map loop_of (drop i ls))) inner
     → start ≡ [] → round ≡ start ++ (read_in (loop_of l).first ++ read_in (loop_of l).last) → new ≡ round ++ without (out-Turn l).var inner
-    → whole ≡ read_under (loops (map loop_of (drop (i + 1) ls))) new
+    → whole ≡ read_under (constructor_loops (map loop_of (drop (i + 1) ls))) new
 under_more whole ls i l inner start round new h e before none made now =
-    before ∙ (at_drop_more (λ ms. read_under (loops (map loop_of ms)) inner) ls i l h
-    ∙ (ap (λ m. read_under (loops (map loop_of (m ∷ drop (i + 1) ls))) inner) (sym e)
-    ∙ ap (read_under (loops (map loop_of (drop (i + 1) ls)))) (sym same)))
+    before ∙ (at_drop_more (λ ms. read_under (constructor_loops (map loop_of ms)) inner) ls i l h
+    ∙ (ap (λ m. read_under (constructor_loops (map loop_of (m ∷ drop (i + 1) ls))) inner) (sym e)
+    ∙ ap (read_under (constructor_loops (map loop_of (drop (i + 1) ls)))) (sym same)))
   where
     named : without (out-Turn l).var inner ≡ without (loop_of l).variable inner
     named = ap (λ (m : ConstructorLoop). without m.variable inner) (sym (loop_of-is l))
@@ -48,8 +48,8 @@ under_more whole ls i l inner start round new h e before none made now =
     same = now ∙ (ap (λ ns. ns ++ without (out-Turn l).var inner) (made ∙ ap (λ ns. ns ++ (read_in (loop_of l).first ++ read_in (loop_of l).last)) none) ∙ (append_assoc (read_in (loop_of l).first) (read_in (loop_of l).last) (without (out-Turn l).var inner)
         ∙ ap (λ ns. read_in (loop_of l).first ++ (read_in (loop_of l).last ++ ns)) named))
 
-pub under_end : (whole : List (List ℕ)) (ls : List Turn) (i : ℕ) (inner : List (List ℕ)) → length ls ≤ i → whole ≡ read_under (loops (map loop_of (drop i ls))) inner → inner ≡ whole
-under_end whole ls i inner h e = sym (e ∙ at_drop_all (λ ms. read_under (loops (map loop_of ms)) inner) ls i h)
+pub under_end : (whole : List (List ℕ)) (ls : List Turn) (i : ℕ) (inner : List (List ℕ)) → length ls ≤ i → whole ≡ read_under (constructor_loops (map loop_of (drop i ls))) inner → inner ≡ whole
+under_end whole ls i inner h e = sym (e ∙ at_drop_all (λ ms. read_under (constructor_loops (map loop_of ms)) inner) ls i h)
 
 -- ---- the ends of two lists
 
@@ -67,9 +67,9 @@ subscripts_end whole ps rest i h e = by rest ∙ sym (e ∙ at_drop_all (λ qs. 
     by [] = refl
     by (q ∷ qs) = eqb-suc-zero (length qs)
 
-pub loops_end : (whole : Bool) (ls rest : List Turn) (i : ℕ) → length ls ≤ i → whole ≡ same_loops (loops (map loop_of (drop i ls))) (loops (map loop_of rest)) → (length rest == 0) ≡ whole
-loops_end whole ls rest i h e = by rest ∙ sym (e ∙ at_drop_all (λ ms. same_loops (loops (map loop_of ms)) (loops (map loop_of rest))) ls i h)
+pub loops_end : (whole : Bool) (ls rest : List Turn) (i : ℕ) → length ls ≤ i → whole ≡ same_loops (constructor_loops (map loop_of (drop i ls))) (constructor_loops (map loop_of rest)) → (length rest == 0) ≡ whole
+loops_end whole ls rest i h e = by rest ∙ sym (e ∙ at_drop_all (λ ms. same_loops (constructor_loops (map loop_of ms)) (constructor_loops (map loop_of rest))) ls i h)
   where
-    by : (rest : List Turn) → (length rest == 0) ≡ same_loops no_loops (loops (map loop_of rest))
+    by : (rest : List Turn) → (length rest == 0) ≡ same_loops no_loops (constructor_loops (map loop_of rest))
     by [] = refl
     by (m ∷ ms) = eqb-suc-zero (length ms)

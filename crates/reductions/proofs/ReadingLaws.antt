@@ -5,7 +5,7 @@ use Rattle.std.specs.declared.alloc.Global.{Global}
 use Rattle.std.specs.List.{flat_map}
 use Rattle.std.proofs.lemmas.List.{append-nil}
 use Rattle.tree.specs.Plain.{Expression, Subscript, Reference, subscripts, expressions}
-use Rattle.tree.specs.View.{expression_of, subscript_of, reference_of, loop_of, loops, ConstructorLoop}
+use Rattle.tree.specs.View.{expression_of, subscript_of, reference_of, loop_of, constructor_loops, ConstructorLoop}
 use Rattle.tree.specs.declared.ops.Op.{Op}
 use Rattle.tree.specs.declared.functions.Fun.{Fun}
 use Rattle.tree.specs.declared.functions.Red.{Red}
@@ -49,8 +49,8 @@ reads-bin o a b = ap read_in (expression_of-bin o a b)
 pub reads-call : (f : Fun) (es : Seq Expr) → read_in (expression_of (exprs.Call f es)) ≡ flat_map read_in (map expression_of es)
 reads-call f es = ap read_in (expression_of-call f es) ∙ each_expression (map expression_of es)
 
-pub reads-list : (es : Seq Expr) (ls : Seq Turn) → read_in (expression_of (exprs.List es ls)) ≡ read_under (loops (map loop_of ls)) (flat_map read_in (map expression_of es))
-reads-list es ls = ap read_in (expression_of-list es ls) ∙ ap (read_under (loops (map loop_of ls))) (each_expression (map expression_of es))
+pub reads-list : (es : Seq Expr) (ls : Seq Turn) → read_in (expression_of (exprs.List es ls)) ≡ read_under (constructor_loops (map loop_of ls)) (flat_map read_in (map expression_of es))
+reads-list es ls = ap read_in (expression_of-list es ls) ∙ ap (read_under (constructor_loops (map loop_of ls))) (each_expression (map expression_of es))
 
 pub reads-spread : (a : Box Expr Global) (d : ℕ) (n : Box Expr Global) → read_in (expression_of (exprs.Spread a d n)) ≡ read_in (expression_of a.value) ++ read_in (expression_of n.value)
 reads-spread a d n = ap read_in (expression_of-spread a d n)

@@ -10,7 +10,7 @@ use Rattle.tree.specs.declared.functions.Red.TheVariants.{Sum, MaxVal, MinVal}
 use Rattle.tree.specs.declared.ops.Op.TheVariants.{Add, Sub, Ge}
 use Rattle.tree.specs.declared.stmts.Mark.{Mark}
 use Rattle.meaning.specs.Value.{named}
-use Rattle.rewrite.specs.Substituting.{is_scalar}
+use Rattle.rewrite.specs.Substituting.{is_variable_alone}
 use Rattle.reductions.specs.declared.gathering.Gathering.{Gathering}
 use Rattle.reductions.specs.declared.gathering.Gathering.TheVariants.{Adds, Takes, Greatest, Least}
 
@@ -77,7 +77,7 @@ listed i t e = Constructor (expression e no_expressions) (loop i (Number (pos 1)
 
 -- a subscript that is the variable by itself
 abbrev pub is_variable : List ℕ → Subscript → Bool
-is_variable i (Only e) = is_scalar i e
+is_variable i (Only e) = is_variable_alone i e
 is_variable i (Section a b c) = false
 
 -- the section `1:t` stands for it

@@ -2,12 +2,11 @@
 ghost use Rattle.std.specs.Prelude.{◌≡◌, ◌∷◌, [], IfOk, map, pos};
 ghost use Rattle.tree.specs.Plain.{Binary, Number, arm, expression, expressions, loop, no_arms};
 ghost use Rattle.tree.specs.Plain.{no_expressions, no_loops, no_statements, statement, subscripts};
-ghost use Rattle.tree.specs.View.{arms as plain_arms, block_of, expression_of, loop_of, loops, reference_of};
-ghost use Rattle.tree.specs.View.{statement_of, subscript_of, tested_of};
+ghost use Rattle.tree.specs.View.{arms as plain_arms, block_of, expression_of, loop_of, constructor_loops};
+ghost use Rattle.tree.specs.View.{reference_of, statement_of, subscript_of, tested_of};
 ghost use Rattle.meaning.specs.Value.{named};
 ghost use Rattle.reductions.specs.Finding.{is_positive, may_be_section, one_is_variable};
-ghost use Rattle.reductions.specs.Gathering.{in_section, is_variable, listed, section_of, sectioned};
-ghost use Rattle.reductions.specs.Gathering.{tested, two};
+ghost use Rattle.reductions.specs.Gathering.{in_section, is_variable, listed, section_of, sectioned, tested, two};
 ghost use Rattle.reductions.specs.Reduced.{assignment, form, gathered_values, outward, reduction};
 ghost use Rattle.reductions.specs.Reduced.{lines_of, right_side, values_of};
 ghost use Rattle.reductions.specs.View.{found_of};
@@ -152,7 +151,7 @@ fn one_value(alloc: Global, operand: &Expr) -> Result<Seq<Expr>, Memory>
 
 #[tactic(auto, using(tree::proofs::Equations::expression_equations))]
 fn one_turn(alloc: Global, name: Name, trip: &Expr) -> Result<Seq<Turn>, Memory>
-    ensures { IfOk result (λ turns. loops (map loop_of turns)
+    ensures { IfOk result (λ turns. constructor_loops (map loop_of turns)
         ≡ loop name (Number (pos 1)) (expression_of trip.now) no_loops) }
 {
     let mut turns = Seq::new(alloc);

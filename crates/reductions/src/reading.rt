@@ -2,8 +2,8 @@
 ghost use Rattle.std.specs.Prelude.{◌≡◌, ◌∷◌, ◌++◌, [], map, IfOk, OnOk};
 ghost use Rattle.std.specs.List.{flat_map};
 ghost use Rattle.tree.specs.Plain.{expressions};
-ghost use Rattle.tree.specs.View.{block_of, expression_of, item_of, loop_of, loops, reference_of, statement_of};
-ghost use Rattle.tree.specs.View.{subscript_of, tested_of};
+ghost use Rattle.tree.specs.View.{block_of, expression_of, item_of, loop_of, constructor_loops, reference_of};
+ghost use Rattle.tree.specs.View.{statement_of, subscript_of, tested_of};
 ghost use Rattle.reductions.specs.Reading.{read_in, read_in_arm, read_in_block, read_in_each, read_in_item};
 ghost use Rattle.reductions.specs.Reading.{read_in_statement, read_in_subscript, read_in_subscripts};
 ghost use Rattle.reductions.specs.Reading.{read_under, without};
@@ -115,7 +115,7 @@ fn add_sub(alloc: Global, names: &mut Seq<Name>, sub: &Sub) -> Result<(), Memory
 // What values read that read these names, under the loops of a constructor.
 #[cycle(reading)]
 fn under_turns(alloc: Global, turns: &Seq<Turn>, values: Seq<Name>) -> Result<Seq<Name>, Memory>
-    ensures { IfOk result (λ names. names ≡ read_under (loops (map loop_of turns.now)) values) }
+    ensures { IfOk result (λ names. names ≡ read_under (constructor_loops (map loop_of turns.now)) values) }
 {
     let mut inner = values;
     for turn in turns.as_slice() {

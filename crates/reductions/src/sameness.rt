@@ -3,7 +3,7 @@ ghost use Rattle.std.specs.Prelude.{◌≡◌, ℕ, false, IfSome, IsNone, map};
 ghost use Rattle.tree.specs.Plain.{Expression, Expressions, Loops};
 ghost use Rattle.tree.specs.Plain.{Apply, Binary, Constructor, Named, Reduce, Reshape, Spread};
 ghost use Rattle.tree.specs.Plain.{Transpose, Unary, expressions, subscripts};
-ghost use Rattle.tree.specs.View.{expression_of, loop_of, loops, reference_of, subscript_of};
+ghost use Rattle.tree.specs.View.{expression_of, loop_of, constructor_loops, reference_of, subscript_of};
 ghost use Rattle.reductions.specs.Same.{is_reference, same, same_each, same_function, same_loops, same_operator};
 ghost use Rattle.reductions.specs.Same.{same_reduction, same_subscript, same_subscripts, same_turn};
 ghost use Rattle.tree.specs.Plain.{Logic, Number};
@@ -126,7 +126,7 @@ fn as_operation(expr: &Expr) -> Option<Operation<'_>>
 #[tactic(auto, using(tree::proofs::Equations::expression_equations))]
 fn as_list(expr: &Expr) -> Option<Listed<'_>>
     ensures some { IfSome result (λ p. expression_of expr.now
-        ≡ Constructor (expressions (map expression_of p.values.now)) (loops (map loop_of p.turns.now))) }
+        ≡ Constructor (expressions (map expression_of p.values.now)) (constructor_loops (map loop_of p.turns.now))) }
     ensures none { IsNone result → (es : Expressions) (ls : Loops)
         → same (Constructor es ls) (expression_of expr.now) ≡ false }
 {
@@ -401,7 +401,8 @@ fn is_same_sub(sub: &Sub, other: &Sub) -> bool
 
 #[cycle(same)]
 fn same_turns(turns: &Seq<Turn>, others: &Seq<Turn>) -> bool
-    ensures { result ≡ same_loops (loops (map loop_of turns.now)) (loops (map loop_of others.now)) }
+    ensures { result
+        ≡ same_loops (constructor_loops (map loop_of turns.now)) (constructor_loops (map loop_of others.now)) }
 {
     let mut rest = others.as_slice();
     for turn in turns.as_slice() {

@@ -2,7 +2,7 @@
 use Rattle.std.proofs.Common.{◌≡◌, refl, ap, List, [], ◌∷◌, map}
 use Rattle.tree.proofs.Equations.{expression_equations, item_equations}
 use Rattle.tree.specs.Plain.{Expression, Number, Logic, Named, Unary, Binary, Apply, Constructor, Spread, Transpose, Reshape, Reduce, expression, expressions, Subscript, subscript, subscripts, loop, Item, item, items, Statement, statement, block, arm}
-use Rattle.tree.specs.View.{ConstructorLoop, loops, Tested, arms}
+use Rattle.tree.specs.View.{ConstructorLoop, constructor_loops, Tested, arms}
 use Rattle.rewrite.specs.Making.{Making, made, made_expressions, made_subscript, made_subscripts, made_loops}
 use Rattle.rewrite.specs.MadeBlocks.{made_inside, made_loop, made_input, made_inputs, made_output, made_outputs}
 use Rattle.rewrite.specs.MadeBlocks.{made_statement, made_arm, made_arms, made_block}
@@ -30,7 +30,7 @@ module _ (m : Making) where
   made_each_subscript [] = refl
   made_each_subscript (p ∷ ps) = ap (subscript (made_subscript m p)) (made_each_subscript ps)
 
-  pub made_each_loop : (ls : List ConstructorLoop) → loops (map (made_loop m) ls) ≡ made_loops m (loops ls)
+  pub made_each_loop : (ls : List ConstructorLoop) → constructor_loops (map (made_loop m) ls) ≡ made_loops m (constructor_loops ls)
   made_each_loop [] = refl
   made_each_loop (l ∷ ls) = ap (loop l.variable (made m l.first) (made m l.last)) (made_each_loop ls)
 

@@ -8,8 +8,8 @@ use Rattle.tree.specs.declared.ops.Kind.{Kind}
 use Rattle.tree.specs.declared.ops.Kind.TheVariants.{Integer, Logical}
 use Rattle.tree.specs.Limits as limits
 use Rattle.tree.specs.Plain.{Expression, Expressions, Reference, Later, Declaration, Program, Statement, Assignment, Where, If, Do, Label, GoTo, Stop, Read, Print, Allocate, Deallocate, Arms, no_arms, arm, Block, no_statements, statement}
-use Rattle.meaning.specs.Blocks.{label_of, labels_of, blocks_of, blocks_in_arms, blocks_in, statements_of}
-use Rattle.meaning.specs.Blocks.{statements_in_arms, statements_in, Surroundings, outermost, within_loop, before_labels}
+use Rattle.meaning.specs.Blocks.{label_of, labels_of, blocks_of, blocks_in_arms, blocks_in, statement_count_of}
+use Rattle.meaning.specs.Blocks.{statement_count_in_arms, statement_count_in, Surroundings, outermost, within_loop, before_labels}
 use Rattle.meaning.specs.Labels.{all_labels_of, all_labels_in_arms, all_labels_in, targets_of, targets_in_arms}
 use Rattle.meaning.specs.Labels.{targets_in, has_arm}
 use Rattle.meaning.specs.Depths.{depth_of, depth_of_each}
@@ -110,26 +110,26 @@ module _ (m : Making) where
     blocks-made (statement c cs) = ap₂ max (blocks_of-made c) (blocks-made cs)
 
   mutual
-    statements_of-made : (c : Statement) → statements_of (made_statement m c) ≡ statements_of c
-    statements_of-made (If line arms other) = ap₂ (λ a b. 1 + (a + b)) (statements_in_arms-made arms) (statements-made other)
-    statements_of-made (Do line x a b c body) = ap (λ a. 1 + a) (statements-made body)
-    statements_of-made (Assignment line mark left right) = refl
-    statements_of-made (Where line mark mask left right) = refl
-    statements_of-made (Label n) = refl
-    statements_of-made (GoTo line n) = refl
-    statements_of-made (Stop line) = refl
-    statements_of-made (Read line is) = refl
-    statements_of-made (Print line is) = refl
-    statements_of-made (Allocate line x es) = refl
-    statements_of-made (Deallocate line x) = refl
+    statement_count_of-made : (c : Statement) → statement_count_of (made_statement m c) ≡ statement_count_of c
+    statement_count_of-made (If line arms other) = ap₂ (λ a b. 1 + (a + b)) (statement_count_in_arms-made arms) (statements-made other)
+    statement_count_of-made (Do line x a b c body) = ap (λ a. 1 + a) (statements-made body)
+    statement_count_of-made (Assignment line mark left right) = refl
+    statement_count_of-made (Where line mark mask left right) = refl
+    statement_count_of-made (Label n) = refl
+    statement_count_of-made (GoTo line n) = refl
+    statement_count_of-made (Stop line) = refl
+    statement_count_of-made (Read line is) = refl
+    statement_count_of-made (Print line is) = refl
+    statement_count_of-made (Allocate line x es) = refl
+    statement_count_of-made (Deallocate line x) = refl
 
-    statements_in_arms-made : (arms : Arms) → statements_in_arms (made_arms m arms) ≡ statements_in_arms arms
-    statements_in_arms-made no_arms = refl
-    statements_in_arms-made (arm test body arms) = ap₂ (λ a b. a + b) (statements-made body) (statements_in_arms-made arms)
+    statement_count_in_arms-made : (arms : Arms) → statement_count_in_arms (made_arms m arms) ≡ statement_count_in_arms arms
+    statement_count_in_arms-made no_arms = refl
+    statement_count_in_arms-made (arm test body arms) = ap₂ (λ a b. a + b) (statements-made body) (statement_count_in_arms-made arms)
 
-    pub statements-made : (cs : Block) → statements_in (made_block m cs) ≡ statements_in cs
+    pub statements-made : (cs : Block) → statement_count_in (made_block m cs) ≡ statement_count_in cs
     statements-made no_statements = refl
-    statements-made (statement c cs) = ap₂ (λ a b. a + b) (statements_of-made c) (statements-made cs)
+    statements-made (statement c cs) = ap₂ (λ a b. a + b) (statement_count_of-made c) (statements-made cs)
 
   has_arm-made : (arms : Arms) → has_arm (made_arms m arms) ≡ has_arm arms
   has_arm-made no_arms = refl

@@ -3,7 +3,7 @@ use Rattle.std.proofs.Common.{◌≡◌, List, [], ◌∷◌, ◌++◌, map, ref
 use Rattle.std.specs.List.{flat_map}
 use Rattle.std.proofs.lemmas.List.{append-nil}
 use Rattle.tree.specs.Plain.{Expression, Subscript, subscripts, expressions}
-use Rattle.tree.specs.View.{subscript_of, reference_of, loops, ConstructorLoop}
+use Rattle.tree.specs.View.{subscript_of, reference_of, constructor_loops, ConstructorLoop}
 use Rattle.tree.specs.declared.exprs.Ref.{Ref, out-Ref}
 use Rattle.tree.proofs.Equations.{expression_equations, reference_of-is}
 use Rattle.meaning.specs.Reads.{names_in, names_in_each, names_in_subscript, names_in_subscripts, names_in_loops}
@@ -17,7 +17,7 @@ pub each_subscript : (ps : List Subscript) → names_in_subscripts (subscripts p
 each_subscript [] = refl
 each_subscript (p ∷ ps) = ap (λ xs. names_in_subscript p ++ xs) (each_subscript ps)
 
-pub each_loop : (ls : List ConstructorLoop) → names_in_loops (loops ls) ≡ flat_map names_in_loop ls
+pub each_loop : (ls : List ConstructorLoop) → names_in_loops (constructor_loops ls) ≡ flat_map names_in_loop ls
 each_loop [] = refl
 each_loop (l ∷ ls) = ap (λ xs. names_in_loop l ++ xs) (each_loop ls)
 

@@ -18,7 +18,7 @@ use Rattle.meaning.specs.Store.{Store, cell_at}
 use Rattle.meaning.specs.Value.{value_of, values_of, subscript_values, subscript_value}
 use Rattle.rewrite.specs.Following.{sequential}
 use Rattle.rewrite.specs.Making.{made_expressions, made_subscripts, made_subscript}
-use Rattle.rewrite.specs.Substituting.{is_scalar, substituting}
+use Rattle.rewrite.specs.Substituting.{is_variable_alone, substituting}
 use Rattle.rewrite.specs.Substituted.{substituted, StandsFor}
 
 module _ (bits : ℕ) (x : List ℕ) (by : Expression) (s : Store) (stands : StandsFor bits x by s) where
@@ -61,16 +61,16 @@ kept_value x by e (Err m) h = h
 
 -- ---- a variable by itself
 
-pub scalar_by_name : (x : List ℕ) (r : Ref) → (out-Ref r).subs ≡ [] → bytes_eq (out-Ref r).name x ≡ is_scalar x (expression_of (exprs.Item r))
+pub scalar_by_name : (x : List ℕ) (r : Ref) → (out-Ref r).subs ≡ [] → bytes_eq (out-Ref r).name x ≡ is_variable_alone x (expression_of (exprs.Item r))
 scalar_by_name x r e =
     let parts = reference_of-is r ∙ ap (λ (ss : List Sub). let t : Reference = record { name = (out-Ref r).name; subscripts = subscripts (map subscript_of ss) } in t) e in
-    sym (ap (is_scalar x) (expression_of-item r ∙ ap (λ (t : Reference). Named t.name t.subscripts) parts))
+    sym (ap (is_variable_alone x) (expression_of-item r ∙ ap (λ (t : Reference). Named t.name t.subscripts) parts))
 
-pub element_by_name : (x : List ℕ) (r : Ref) → ((out-Ref r).subs ≡ [] → ⊥) → false ≡ is_scalar x (expression_of (exprs.Item r))
+pub element_by_name : (x : List ℕ) (r : Ref) → ((out-Ref r).subs ≡ [] → ⊥) → false ≡ is_variable_alone x (expression_of (exprs.Item r))
 element_by_name x r h = by (out-Ref r).subs refl
   where
-    by : (ss : List Sub) → (out-Ref r).subs ≡ ss → false ≡ is_scalar x (expression_of (exprs.Item r))
+    by : (ss : List Sub) → (out-Ref r).subs ≡ ss → false ≡ is_variable_alone x (expression_of (exprs.Item r))
     by [] e = absurd (h e)
     by (s ∷ ss) e =
         let parts = reference_of-is r ∙ ap (λ (ss : List Sub). let t : Reference = record { name = (out-Ref r).name; subscripts = subscripts (map subscript_of ss) } in t) e in
-        sym (ap (is_scalar x) (expression_of-item r ∙ ap (λ (t : Reference). Named t.name t.subscripts) parts))
+        sym (ap (is_variable_alone x) (expression_of-item r ∙ ap (λ (t : Reference). Named t.name t.subscripts) parts))

@@ -7,7 +7,7 @@ use Rattle.std.proofs.Math.Seq.{take-suc}
 use Rattle.std.proofs.lemmas.Grind.{flat_map-append}
 use Rattle.std.proofs.lemmas.List.{map-append, append-nil}
 use Rattle.tree.specs.Plain.{Expression, Subscript, Reference, subscripts, expressions}
-use Rattle.tree.specs.View.{expression_of, subscript_of, reference_of, loop_of, loops, ConstructorLoop}
+use Rattle.tree.specs.View.{expression_of, subscript_of, reference_of, loop_of, constructor_loops, ConstructorLoop}
 use Rattle.tree.specs.declared.ops.Op.{Op}
 use Rattle.tree.specs.declared.functions.Fun.{Fun}
 use Rattle.tree.specs.declared.functions.Red.{Red}
@@ -34,7 +34,7 @@ pub each_subscript : (ps : List Subscript) → uses_in_subscripts (subscripts ps
 each_subscript [] = refl
 each_subscript (p ∷ ps) = ap (λ us. uses_in_subscript p ++ us) (each_subscript ps)
 
-pub each_loop : (ls : List ConstructorLoop) → uses_in_loops (loops ls) ≡ flat_map uses_in_loop ls
+pub each_loop : (ls : List ConstructorLoop) → uses_in_loops (constructor_loops ls) ≡ flat_map uses_in_loop ls
 each_loop [] = refl
 each_loop (l ∷ ls) = ap (λ us. uses_in_loop l ++ us) (each_loop ls)
 
@@ -79,7 +79,7 @@ uses-call f es = ap uses_in (expression_of-call f es) ∙ each_expression (map e
 
 pub uses-list : (es : Seq Expr) (ls : Seq Turn) → uses_in (expression_of (exprs.List es ls)) ≡ flat_map uses_in (map expression_of es) ++ flat_map uses_in_loop (map loop_of ls)
 uses-list es ls =
-    ap uses_in (expression_of-list es ls) ∙ ap (λ us. us ++ uses_in_loops (loops (map loop_of ls))) (each_expression (map expression_of es))
+    ap uses_in (expression_of-list es ls) ∙ ap (λ us. us ++ uses_in_loops (constructor_loops (map loop_of ls))) (each_expression (map expression_of es))
     ∙ ap (λ us. flat_map uses_in (map expression_of es) ++ us) (each_loop (map loop_of ls))
 
 pub uses-spread : (a : Box Expr Global) (d : ℕ) (n : Box Expr Global) → uses_in (expression_of (exprs.Spread a d n)) ≡ uses_in (expression_of a.value) ++ uses_in (expression_of n.value)

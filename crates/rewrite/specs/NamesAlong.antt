@@ -1,8 +1,7 @@
 -- The names that stand in parts of a tree, and those that a block reads.
 use Rattle.std.specs.Prelude.{ℕ, if◌then◌else◌, List, ◌∷◌, ◌++◌}
 use Rattle.std.specs.Str.{bytes_eq}
-use Rattle.meaning.specs.Reads.{names_in, names_in_subscripts}
-use Rattle.meaning.specs.Reads.{names_in_block}
+use Rattle.meaning.specs.Reads.{names_in, names_in_subscripts, names_in_block}
 use Rattle.indexmap.specs.IndexSet.{insert_key}
 use Rattle.tree.specs.Plain.{Expression, Reference, Block}
 use Rattle.tree.specs.View.{ConstructorLoop, Tested}

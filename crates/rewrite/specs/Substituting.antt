@@ -5,14 +5,14 @@ use Rattle.tree.specs.Plain.{Expression, Named, no_subscripts, subscript}
 use Rattle.rewrite.specs.Making.{Making}
 
 -- the expression is the variable x by itself
-abbrev pub is_scalar : List ℕ → Expression → Bool
-is_scalar x (Named y no_subscripts) = bytes_eq y x
-is_scalar x (Named y (subscript p ps)) = false
-is_scalar x e = false
+abbrev pub is_variable_alone : List ℕ → Expression → Bool
+is_variable_alone x (Named y no_subscripts) = bytes_eq y x
+is_variable_alone x (Named y (subscript p ps)) = false
+is_variable_alone x e = false
 
 module _ (x : List ℕ) (by : Expression) where
   abbrev pub replaced : Expression → Expression
-  replaced e = if is_scalar x e then by else e
+  replaced e = if is_variable_alone x e then by else e
 
   abbrev pub substituting : Making
   substituting = record { expression = λ first e. replaced e; left = λ l. l }

@@ -1,6 +1,6 @@
 //! Expressions, node by node.
 ghost use Rattle.std.specs.Prelude.{◌≡◌, map, IfOk};
-ghost use Rattle.tree.specs.View.{expression_of, subscript_of, reference_of, loop_of, loops};
+ghost use Rattle.tree.specs.View.{expression_of, subscript_of, reference_of, loop_of, constructor_loops};
 ghost use Rattle.tree.specs.Plain.{expressions, subscripts};
 ghost use Rattle.rewrite.specs.Making.{made, made_expressions, made_subscripts, made_subscript, made_loops, made_parts};
 ghost use Rattle.rewrite.specs.MadeBlocks.{made_inside, made_loop};
@@ -94,8 +94,8 @@ fn rewrite_turns<R: NodeRule>(
     turns: &Seq<Turn>,
     rule: &mut R,
 ) -> Result<Seq<Turn>, Memory>
-    ensures made { IfOk result (λ new. loops (map loop_of new)
-        ≡ made_loops (R.making rule.old) (loops (map loop_of turns.now))) }
+    ensures made { IfOk result (λ new. constructor_loops (map loop_of new)
+        ≡ made_loops (R.making rule.old) (constructor_loops (map loop_of turns.now))) }
     ensures same { R.making rule.new ≡ R.making rule.old }
 {
     let mut made = Seq::new(alloc);

@@ -1,8 +1,7 @@
 //! Names in statements and in input and output lists, in the order of the text.
 ghost use Rattle.std.specs.Prelude.{◌≡◌, ◌++◌, map, OnOk};
 ghost use Rattle.std.specs.List.{flat_map};
-ghost use Rattle.meaning.specs.Reads.{names_in_block};
-ghost use Rattle.meaning.specs.Reads.{names_in_item, names_in_statement};
+ghost use Rattle.meaning.specs.Reads.{names_in_block, names_in_item, names_in_statement};
 ghost use Rattle.tree.specs.View.{item_of, statement_of, tested_of, block_of};
 ghost use Rattle.rewrite.specs.NamesAlong.{names_in_arm};
 

@@ -5,7 +5,7 @@ ghost use Rattle.tree.specs.declared.exprs.Expr.TheVariants as exprs;
 ghost use Rattle.meaning.specs.Store.{Store};
 ghost use Rattle.meaning.specs.Value.{value_of};
 ghost use Rattle.rewrite.specs.Following.{sequential};
-ghost use Rattle.rewrite.specs.Substituting.{is_scalar};
+ghost use Rattle.rewrite.specs.Substituting.{is_variable_alone};
 ghost use Rattle.rewrite.specs.Substituted.{substituted, StandsFor};
 
 use crate::NodeRule;
@@ -21,7 +21,7 @@ struct Substitution {
 }
 
 fn is_scalar_named(item: &Ref, name: Name) -> bool
-    ensures { result ≡ is_scalar name (expression_of (exprs.Item item.now)) }
+    ensures { result ≡ is_variable_alone name (expression_of (exprs.Item item.now)) }
 {
     item.subs.is_empty() && item.name == name
 }
@@ -29,7 +29,7 @@ fn is_scalar_named(item: &Ref, name: Name) -> bool
 /// Whether the expression is the scalar variable of this name.
 #[tactic(auto, using(tree::proofs::Equations::expression_equations))]
 pub fn is_variable(expr: &Expr, name: Name) -> bool
-    ensures { result ≡ is_scalar name (expression_of expr.now) }
+    ensures { result ≡ is_variable_alone name (expression_of expr.now) }
 {
     match expr {
         Expr::Item(item) => is_scalar_named(item, name),

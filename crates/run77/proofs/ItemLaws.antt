@@ -21,7 +21,7 @@ use Rattle.tree.specs.declared.exprs.Ref.{Ref, out-Ref}
 use Rattle.tree.proofs.Equations.{expression_of-int, expression_of-truth, expression_of-item, expression_of-un}
 use Rattle.tree.proofs.Equations.{expression_of-bin, expression_of-call, expression_of-list, expression_of-spread}
 use Rattle.tree.proofs.Equations.{expression_of-transpose, expression_of-reshape, expression_of-reduce, reference_of-is}
-use Rattle.meaning.specs.Store.{Store, Cell, cell_at, bounds_of, cells_of}
+use Rattle.meaning.specs.Store.{Store, Cell, cell_at, stored_bounds, cells_of}
 use Rattle.meaning.specs.Dialect.{fortran77}
 use Rattle.meaning.specs.Value.{value_of, item_values, subscript_values}
 use Rattle.machine.specs.declared.progress.Halt.{Halt}
@@ -34,43 +34,43 @@ use Rattle.run77.specs.Printing.{one_value, IsOneValue, AreAllValues}
 
 pub one_int : (n : ℤ) → IsOneValue (expression_of (exprs.Int n))
 unfolding IsOneValue
-one_int n s = subst (λ e. item_values fortran77 e s ≡ one_value (value_of fortran77 e s)) (sym (expression_of-int n)) refl
+one_int n w s = subst (λ e. item_values (fortran77 w) e s ≡ one_value (value_of (fortran77 w) e s)) (sym (expression_of-int n)) refl
 
 pub one_truth : (b : Bool) → IsOneValue (expression_of (exprs.Truth b))
 unfolding IsOneValue
-one_truth b s = subst (λ e. item_values fortran77 e s ≡ one_value (value_of fortran77 e s)) (sym (expression_of-truth b)) refl
+one_truth b w s = subst (λ e. item_values (fortran77 w) e s ≡ one_value (value_of (fortran77 w) e s)) (sym (expression_of-truth b)) refl
 
 pub one_un : (o : Op) (a : Box Expr Global) → IsOneValue (expression_of (exprs.Un o a))
 unfolding IsOneValue
-one_un o a s = subst (λ e. item_values fortran77 e s ≡ one_value (value_of fortran77 e s)) (sym (expression_of-un o a)) refl
+one_un o a w s = subst (λ e. item_values (fortran77 w) e s ≡ one_value (value_of (fortran77 w) e s)) (sym (expression_of-un o a)) refl
 
 pub one_bin : (o : Op) (a b : Box Expr Global) → IsOneValue (expression_of (exprs.Bin o a b))
 unfolding IsOneValue
-one_bin o a b s = subst (λ e. item_values fortran77 e s ≡ one_value (value_of fortran77 e s)) (sym (expression_of-bin o a b)) refl
+one_bin o a b w s = subst (λ e. item_values (fortran77 w) e s ≡ one_value (value_of (fortran77 w) e s)) (sym (expression_of-bin o a b)) refl
 
 pub one_call : (f : Fun) (es : Seq Expr) → IsOneValue (expression_of (exprs.Call f es))
 unfolding IsOneValue
-one_call f es s = subst (λ e. item_values fortran77 e s ≡ one_value (value_of fortran77 e s)) (sym (expression_of-call f es)) refl
+one_call f es w s = subst (λ e. item_values (fortran77 w) e s ≡ one_value (value_of (fortran77 w) e s)) (sym (expression_of-call f es)) refl
 
 pub one_list : (es : Seq Expr) (ls : Seq Turn) → IsOneValue (expression_of (exprs.List es ls))
 unfolding IsOneValue
-one_list es ls s = subst (λ e. item_values fortran77 e s ≡ one_value (value_of fortran77 e s)) (sym (expression_of-list es ls)) refl
+one_list es ls w s = subst (λ e. item_values (fortran77 w) e s ≡ one_value (value_of (fortran77 w) e s)) (sym (expression_of-list es ls)) refl
 
 pub one_spread : (a : Box Expr Global) (d : ℕ) (n : Box Expr Global) → IsOneValue (expression_of (exprs.Spread a d n))
 unfolding IsOneValue
-one_spread a d n s = subst (λ e. item_values fortran77 e s ≡ one_value (value_of fortran77 e s)) (sym (expression_of-spread a d n)) refl
+one_spread a d n w s = subst (λ e. item_values (fortran77 w) e s ≡ one_value (value_of (fortran77 w) e s)) (sym (expression_of-spread a d n)) refl
 
 pub one_transpose : (a : Box Expr Global) → IsOneValue (expression_of (exprs.Transpose a))
 unfolding IsOneValue
-one_transpose a s = subst (λ e. item_values fortran77 e s ≡ one_value (value_of fortran77 e s)) (sym (expression_of-transpose a)) refl
+one_transpose a w s = subst (λ e. item_values (fortran77 w) e s ≡ one_value (value_of (fortran77 w) e s)) (sym (expression_of-transpose a)) refl
 
 pub one_reshape : (a : Box Expr Global) (es : Seq Expr) → IsOneValue (expression_of (exprs.Reshape a es))
 unfolding IsOneValue
-one_reshape a es s = subst (λ e. item_values fortran77 e s ≡ one_value (value_of fortran77 e s)) (sym (expression_of-reshape a es)) refl
+one_reshape a es w s = subst (λ e. item_values (fortran77 w) e s ≡ one_value (value_of (fortran77 w) e s)) (sym (expression_of-reshape a es)) refl
 
 pub one_reduce : (r : Red) (a : Box Expr Global) → IsOneValue (expression_of (exprs.Reduce r a))
 unfolding IsOneValue
-one_reduce r a s = subst (λ e. item_values fortran77 e s ≡ one_value (value_of fortran77 e s)) (sym (expression_of-reduce r a)) refl
+one_reduce r a w s = subst (λ e. item_values (fortran77 w) e s ≡ one_value (value_of (fortran77 w) e s)) (sym (expression_of-reduce r a)) refl
 
 element_value : (x : List ℕ) (p : P.Subscript) (ps : P.Subscripts) (s : Store) (q : Result (List ℤ) Fault)
     → ◌≡◌ {A = Result (List Value) Fault} (do cs ← (do is ← q; c ← cell_at x is s; Ok (c ∷ [])); Ok (map s.held cs)) (one_value (do is ← q; c ← cell_at x is s; Ok (s.held c)))
@@ -86,9 +86,9 @@ item_is r = expression_of-item r ∙ ap (λ (q : P.Reference). P.Named q.name q.
 
 pub one_element : (r : Ref) (p : Sub) (ps : List Sub) → (out-Ref r).subs ≡ p ∷ ps → IsOneValue (expression_of (exprs.Item r))
 unfolding IsOneValue
-one_element r p ps e s = subst (λ e. item_values fortran77 e s ≡ one_value (value_of fortran77 e s))
+one_element r p ps e w s = subst (λ e. item_values (fortran77 w) e s ≡ one_value (value_of (fortran77 w) e s))
     (sym (item_is r ∙ ap (λ ss. P.Named (out-Ref r).name (P.subscripts (map subscript_of ss))) e))
-    (element_value (out-Ref r).name (subscript_of p) (P.subscripts (map subscript_of ps)) s (subscript_values fortran77 (P.subscript (subscript_of p) (P.subscripts (map subscript_of ps))) s))
+    (element_value (out-Ref r).name (subscript_of p) (P.subscripts (map subscript_of ps)) s (subscript_values (fortran77 w) (P.subscript (subscript_of p) (P.subscripts (map subscript_of ps))) s))
 
 whole_values : (x : List ℕ) (s : Store) (q : Result (List (ℤ × ℤ)) Fault)
     → ◌≡◌ {A = Result (List Value) Fault} (do cs ← (do bs ← q; Ok (cells_of x bs)); Ok (map s.held cs)) (do bs ← q; Ok (map s.held (cells_of x bs)))
@@ -97,9 +97,9 @@ whole_values x s (Err f) = refl
 
 pub whole_item : (r : Ref) → (out-Ref r).subs ≡ [] → AreAllValues (expression_of (exprs.Item r)) (out-Ref r).name
 unfolding AreAllValues
-whole_item r e s = subst (λ q. item_values fortran77 q s ≡ all_values (out-Ref r).name s)
+whole_item r e w s = subst (λ q. item_values (fortran77 w) q s ≡ all_values (out-Ref r).name s)
     (sym (item_is r ∙ ap (λ ss. P.Named (out-Ref r).name (P.subscripts (map subscript_of ss))) e))
-    (whole_values (out-Ref r).name s (bounds_of (out-Ref r).name s))
+    (whole_values (out-Ref r).name s (stored_bounds (out-Ref r).name s))
 
 pub whole_case : (e : Expr) (r : Ref) (ps : List Sub) → e ≡ exprs.Item r → ps ≡ (out-Ref r).subs → None ≡ slice_get ps 0 → AreAllValues (expression_of e) (out-Ref r).name
 whole_case e r [] h k n = subst (λ e. AreAllValues (expression_of e) (out-Ref r).name) (sym h) (whole_item r (sym k))

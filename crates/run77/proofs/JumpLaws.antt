@@ -4,6 +4,7 @@ use Rattle.tree.specs.Plain.{Declaration, Statement, Assignment, Where, If, Do, 
 use Rattle.tree.specs.Plain.{Read, Print, Allocate, Deallocate, Arms, no_arms, arm, Block, no_statements, statement}
 use Rattle.tree.specs.Plain.{Program}
 use Rattle.meaning.specs.Dialect.{fortran77}
+use Rattle.tree.specs.declared.width.Width.{Width}
 use Rattle.meaning.specs.Blocks.{Surroundings, before_labels, labels_of, within_loop, outermost}
 use Rattle.meaning.specs.Profile77.{IsStatement, AreArms, IsBlock, IsProgram77}
 use Rattle.meaning.specs.Jumps.{JumpsForward, ArmsJumpForward, BlockJumpsForward, AllJumpsForward}
@@ -32,5 +33,5 @@ mutual
       (statement_jumps ds c (before_labels (labels_of cs) w) h.0, block_jumps ds cs w h.1)
 
 -- a GO TO of such a program names a label after it, in a block round it
-pub jumps_forward : (p : Program) → IsProgram77 fortran77 p → AllJumpsForward p
-jumps_forward p h = block_jumps p.declarations p.body outermost h.statements
+pub jumps_forward : (width : Width) → (p : Program) → IsProgram77 (fortran77 width) p → AllJumpsForward p
+jumps_forward width p h = block_jumps p.declarations p.body outermost h.statements

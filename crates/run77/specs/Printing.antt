@@ -6,6 +6,7 @@ use Rattle.tree.specs.declared.ops.Value.{Value}
 use Rattle.tree.specs.declared.ops.Fault.{Fault}
 use Rattle.meaning.specs.Store.{Store}
 use Rattle.meaning.specs.Dialect.{fortran77}
+use Rattle.tree.specs.declared.width.Width.{Width}
 use Rattle.meaning.specs.Value.{value_of, item_values}
 use Rattle.machine.specs.Stored.{all_values}
 
@@ -16,8 +17,8 @@ one_value r = do
 
 -- the item is one value
 unfoldable pub IsOneValue : Expression → Type 0
-IsOneValue e = (s : Store) → item_values fortran77 e s ≡ one_value (value_of fortran77 e s)
+IsOneValue e = (w : Width) (s : Store) → item_values (fortran77 w) e s ≡ one_value (value_of (fortran77 w) e s)
 
 -- the item is a name, and stands for all its elements
 unfoldable pub AreAllValues : Expression → List ℕ → Type 0
-AreAllValues e x = (s : Store) → item_values fortran77 e s ≡ all_values x s
+AreAllValues e x = (w : Width) (s : Store) → item_values (fortran77 w) e s ≡ all_values x s

@@ -2,6 +2,7 @@
 ghost use Rattle.std.specs.Prelude.{◌≡◌, [], Some, pos, IfOk, ◌<◌};
 ghost use Rattle.tree.specs.View.{expression_of, reference_of};
 ghost use Rattle.meaning.specs.Dialect.{fortran77};
+ghost use Rattle.tree.specs.declared.width.Width.TheVariants.{Plain};
 ghost use Rattle.meaning.specs.Store.{Cell, cell_at};
 ghost use Rattle.meaning.specs.Value.{increment_of, number_of};
 ghost use Rattle.meaning.specs.Run.{assigns, sets_variable, increases};
@@ -13,7 +14,7 @@ ghost use Rattle.run77.specs.Moments.{seen};
 
 use crate::moment::Moment;
 use machine::{Halt, Turns, add, at, check_range, increment, trip_count};
-use tree::{Expr, Fault, Name, Ref, Value};
+use tree::{Expr, Fault, Name, Ref, Value, Width};
 
 impl Moment {
     /// The place of a variable's value.
@@ -34,45 +35,52 @@ impl Moment {
     }
 
     /// An assignment: the right side, the left subscripts, the bounds, the range, the store.
-    pub fn assign(&mut self, line: u32, left: &Ref, right: &Expr) -> Result<(), Halt>
-        ensures { Does (λ limit. assigns fortran77 limit line (reference_of left.now) (expression_of right.now))
+    pub fn assign(&mut self, width: Width, line: u32, left: &Ref, right: &Expr) -> Result<(), Halt>
+        ensures { Does (λ limit. assigns (fortran77 width) limit line (reference_of left.now) (expression_of right.now))
             (seen self.old) (seen self.new) result }
     {
         let value = at(line, self.value(right))?;
         let place = at(line, self.place(left))?;
-        self.store(line, place, value)
+        self.store(width, line, place, value)
     }
 
     // Storing a loop's variable is no step.
-    fn set_variable(&mut self, line: u32, name: Name, number: i128) -> Result<(), Halt>
-        ensures { Does (λ limit. sets_variable fortran77 limit line name number)
+    fn set_variable(
+        &mut self,
+        width: Width,
+        line: u32,
+        name: Name,
+        number: i128,
+    ) -> Result<(), Halt>
+        ensures { Does (λ limit. sets_variable (fortran77 width) limit line name number)
             (seen self.old) (seen self.new) result }
     {
         let place = at(line, self.scalar(name))?;
-        at(line, check_range(Value::Int(number)))?;
+        at(line, check_range(width, Value::Int(number)))?;
         self.storage.put(place, Value::Int(number));
         Ok(())
     }
 
     /// The variable grows after a turn.
-    pub fn increase(&mut self, line: u32, name: Name, step: i128) -> Result<(), Halt>
-        ensures { Does (λ limit. increases fortran77 limit line name step) (seen self.old) (seen self.new) result }
+    pub fn increase(&mut self, width: Width, line: u32, name: Name, step: i128) -> Result<(), Halt>
+        ensures { Does (λ limit. increases (fortran77 width) limit line name step) (seen self.old)
+            (seen self.new) result }
     {
         let place = at(line, self.scalar(name))?;
         let number = at(line, self.increased(place, step))?;
-        self.set_variable(line, name, number)
+        self.set_variable(width, line, name, number)
     }
 
     // The value of a parameter.
     fn parameter(&self, expr: &Expr) -> Result<i128, Fault>
-        ensures { result ≡ number_of fortran77 (expression_of expr.now) (store_in self.now.storage) }
+        ensures { result ≡ number_of (fortran77 Plain) (expression_of expr.now) (store_in self.now.storage) }
     {
         self.value(expr)?.as_number()
     }
 
     // The value of a third parameter.
     fn step(&self, expr: &Expr) -> Result<i128, Fault>
-        ensures value { result ≡ increment_of fortran77 (expression_of expr.now) (store_in self.now.storage) }
+        ensures value { result ≡ increment_of (fortran77 Plain) (expression_of expr.now) (store_in self.now.storage) }
         ensures nonzero { IfOk result (λ z. z ≡ pos 0 → ⊥) }
     {
         increment(self.parameter(expr)?)
@@ -81,20 +89,21 @@ impl Moment {
     /// The parameters are evaluated, the variable gets its first value, and the number of turns is fixed.
     pub fn begin_loop(
         &mut self,
+        width: Width,
         line: u32,
         name: Name,
         first: &Expr,
         last: &Expr,
         step: &Expr,
     ) -> Result<Turns, Halt>
-        ensures { BeginsLoop fortran77 line name
+        ensures { BeginsLoop (fortran77 width) line name
             (expression_of first.now) (expression_of last.now) (expression_of step.now)
             (seen self.old) (seen self.new) result }
     {
         let first = at(line, self.parameter(first))?;
         let last = at(line, self.parameter(last))?;
         let step = at(line, self.step(step))?;
-        self.set_variable(line, name, first)?;
+        self.set_variable(width, line, name, first)?;
         let count = at(line, trip_count(first, last, step))?;
         Ok(Turns { count, step })
     }

@@ -3,13 +3,14 @@ ghost use Rattle.std.specs.Prelude.{◌≡◌, ◌≢◌, ◌≤◌, Err, map, I
 ghost use Rattle.streams.specs.Causes.{Rose};
 ghost use Rattle.tree.specs.View.{expression_of, reference_of, statement_of, block_of};
 ghost use Rattle.meaning.specs.Dialect.{fortran77};
+ghost use Rattle.tree.specs.declared.width.Width.{Width as Width'};
+ghost use Rattle.tree.specs.declared.width.Width.TheVariants.{Plain};
 ghost use Rattle.meaning.specs.Value.{truth_of};
 ghost use Rattle.meaning.specs.Run.{does, does_all, counts_step, assigns, goes, loops, Jumping, Stopped};
 ghost use Rattle.machine.specs.Acts.{Does, Runs, left_of};
 ghost use Rattle.machine.specs.Stored.{store_in};
 ghost use Rattle.machine.specs.Printing.{plain_items, prints};
-ghost use Rattle.machine.specs.Statements.{HasArms, ArmsHaveArms, BlockHasArms, plain_arms, Chooses, DoesOver};
-ghost use Rattle.machine.specs.Statements.{reads};
+ghost use Rattle.machine.specs.Statements.{HasArms, ArmsHaveArms, BlockHasArms, plain_arms, Chooses, DoesOver, reads};
 ghost use Rattle.run77.specs.Moments.{seen};
 ghost use Rattle.machine.specs.Told.{IsTold};
 ghost use Rattle.machine.specs.Jumps.{caught, landed};
@@ -17,7 +18,7 @@ ghost use Rattle.machine.specs.Jumps.{caught, landed};
 use crate::moment::Moment;
 use machine::{Halt, Left, at, passed};
 use streams::Sink;
-use tree::{Arm, Block, Expr, Fault, Item, Ref, Seq, Stmt};
+use tree::{Arm, Block, Expr, Fault, Item, Ref, Seq, Stmt, Width};
 
 fn left(answer: Result<(), Halt>) -> Result<(), Left>
     ensures { result ≡ left_of answer }
@@ -53,22 +54,22 @@ fn landed(answer: Result<(), Left>) -> Result<Option<u32>, Left>
 
 impl Moment {
     fn truth(&self, test: &Expr) -> Result<bool, Fault>
-        ensures { result ≡ truth_of fortran77 (expression_of test.now) (store_in self.now.storage) }
+        ensures { result ≡ truth_of (fortran77 Plain) (expression_of test.now) (store_in self.now.storage) }
     {
         self.value(test)?.as_truth()
     }
 
-    fn assignment(&mut self, line: u32, left: &Ref, right: &Expr) -> Result<(), Halt>
-        ensures { Does (λ limit. counts_step fortran77 limit
-            (assigns fortran77 limit line (reference_of left.now) (expression_of right.now)))
+    fn assignment(&mut self, width: Width, line: u32, left: &Ref, right: &Expr) -> Result<(), Halt>
+        ensures { Does (λ limit. counts_step (fortran77 width) limit
+            (assigns (fortran77 width) limit line (reference_of left.now) (expression_of right.now)))
             (seen self.old) (seen self.new) result }
     {
         self.count_step()?;
-        self.assign(line, left, right)
+        self.assign(width, line, left, right)
     }
 
     fn go(&mut self, label: u32) -> Result<(), Halt>
-        ensures { Does (λ limit. counts_step fortran77 limit (goes (Jumping label)))
+        ensures { (w : Width') → Does (λ limit. counts_step (fortran77 w) limit (goes (Jumping label)))
             (seen self.old) (seen self.new) result }
     {
         self.count_step()?;
@@ -76,48 +77,64 @@ impl Moment {
     }
 
     fn stop(&mut self) -> Result<(), Halt>
-        ensures { Does (λ limit. counts_step fortran77 limit (goes Stopped)) (seen self.old) (seen self.new) result }
+        ensures { (w : Width') → Does (λ limit. counts_step (fortran77 w) limit (goes Stopped)) (seen self.old)
+            (seen self.new) result }
     {
         self.count_step()?;
         Err(Halt::Stop)
     }
 
-    fn read_statement(&mut self, line: u32, items: &Seq<Item>, input: &[u8]) -> Result<(), Halt>
-        ensures { DoesOver input.now (λ limit. counts_step fortran77 limit
-            (reads fortran77 limit line (plain_items items.now)))
+    fn read_statement(
+        &mut self,
+        width: Width,
+        line: u32,
+        items: &Seq<Item>,
+        input: &[u8],
+    ) -> Result<(), Halt>
+        ensures { DoesOver input.now (λ limit. counts_step (fortran77 width) limit
+            (reads (fortran77 width) limit line (plain_items items.now)))
             (seen self.old) (seen self.new) result }
     {
         self.count_step()?;
-        self.read(line, items, input)
+        self.read(width, line, items, input)
     }
 
     fn print_statement<K: Sink>(
         &mut self,
+        width: Width,
         line: u32,
         items: &Seq<Item>,
         out: &mut K,
     ) -> Result<(), Left>
         ensures run { (input : List ℕ)
-            → Runs (λ limit. counts_step fortran77 limit (prints fortran77 limit line (plain_items items.now))) input
+            → Runs (λ limit. counts_step (fortran77 width) limit (prints (fortran77 width) limit line
+            (plain_items items.now))) input
             (seen self.old) (K.taken out.old) (seen self.new) (K.taken out.new) result }
         ensures told { (input bytes : List ℕ) → IsTold (λ before now.
-            Runs (λ limit. counts_step fortran77 limit (prints fortran77 limit line (plain_items items.now))) input
+            Runs (λ limit. counts_step (fortran77 width) limit (prints (fortran77 width) limit line
+            (plain_items items.now))) input
             (seen self.old) before (seen self.new) now result) (out.new ≡ out.old) bytes }
         ensures fault { result ≡ Err Left.Unwritten → Rose (K.faults out.old) (K.faults out.new) }
         ensures no_fault { result ≢ Err Left.Unwritten → K.faults out.new ≡ K.faults out.old }
         ensures later { K.faults out.old ≤ K.faults out.new }
     {
         self.count_step()?;
-        self.print(line, items, out)
+        self.print(width, line, items, out)
     }
 
     #[cycle(statements)]
-    fn statement<K: Sink>(&mut self, stmt: &Stmt, input: &[u8], out: &mut K) -> Result<(), Left>
+    fn statement<K: Sink>(
+        &mut self,
+        width: Width,
+        stmt: &Stmt,
+        input: &[u8],
+        out: &mut K,
+    ) -> Result<(), Left>
         ensures run { HasArms (statement_of stmt.now)
-            → Runs (λ limit. does fortran77 limit (statement_of stmt.now)) input.now
+            → Runs (λ limit. does (fortran77 width) limit (statement_of stmt.now)) input.now
             (seen self.old) (K.taken out.old) (seen self.new) (K.taken out.new) result }
         ensures told { HasArms (statement_of stmt.now) → (bytes : List ℕ) → IsTold (λ before now.
-            Runs (λ limit. does fortran77 limit (statement_of stmt.now)) input.now
+            Runs (λ limit. does (fortran77 width) limit (statement_of stmt.now)) input.now
             (seen self.old) before (seen self.new) now result) (out.new ≡ out.old) bytes }
         ensures fault { result ≡ Err Left.Unwritten → Rose (K.faults out.old) (K.faults out.new) }
         ensures no_fault { result ≢ Err Left.Unwritten → K.faults out.new ≡ K.faults out.old }
@@ -129,14 +146,14 @@ impl Moment {
                 left: target,
                 right,
                 ..
-            } => left(self.assignment(*line, target, right)),
+            } => left(self.assignment(width, *line, target, right)),
             Stmt::Masked { .. } => Ok(()),
             Stmt::If { line, arms, other } => {
-                let done = self.branch(*line, arms, input, out)?;
+                let done = self.branch(width, *line, arms, input, out)?;
                 if done {
                     return Ok(());
                 }
-                self.block(other, input, out)
+                self.block(width, other, input, out)
             }
             Stmt::Do {
                 line,
@@ -146,19 +163,19 @@ impl Moment {
                 step,
                 body,
             } => {
-                let turns = self.begin_loop(*line, *var, first, last, step)?;
+                let turns = self.begin_loop(width, *line, *var, first, last, step)?;
                 for _ in 0..turns.count {
                     self.count_step()?;
-                    self.block(body, input, out)?;
-                    self.increase(*line, *var, turns.step)?;
+                    self.block(width, body, input, out)?;
+                    self.increase(width, *line, *var, turns.step)?;
                 }
                 Ok(())
             }
             Stmt::Label { .. } => Ok(()),
             Stmt::Go { number, .. } => left(self.go(*number)),
             Stmt::Stop { .. } => left(self.stop()),
-            Stmt::Read { line, items } => left(self.read_statement(*line, items, input)),
-            Stmt::Print { line, items } => self.print_statement(*line, items, out),
+            Stmt::Read { line, items } => left(self.read_statement(width, *line, items, input)),
+            Stmt::Print { line, items } => self.print_statement(width, *line, items, out),
             Stmt::Allocate { .. } => Ok(()),
             Stmt::Deallocate { .. } => Ok(()),
         }
@@ -168,15 +185,17 @@ impl Moment {
     #[cycle(statements)]
     fn branch<K: Sink>(
         &mut self,
+        width: Width,
         line: u32,
         arms: &Seq<Arm>,
         input: &[u8],
         out: &mut K,
     ) -> Result<bool, Left>
-        ensures run { ArmsHaveArms (plain_arms arms.now) → Chooses fortran77 line (plain_arms arms.now) input.now
+        ensures run { ArmsHaveArms (plain_arms arms.now)
+            → Chooses (fortran77 width) line (plain_arms arms.now) input.now
             (seen self.old) (K.taken out.old) (seen self.new) (K.taken out.new) result }
         ensures told { ArmsHaveArms (plain_arms arms.now) → (bytes : List ℕ) → IsTold (λ before now.
-            Chooses fortran77 line (plain_arms arms.now) input.now
+            Chooses (fortran77 width) line (plain_arms arms.now) input.now
             (seen self.old) before (seen self.new) now result) (out.new ≡ out.old) bytes }
         ensures fault { result ≡ Err Left.Unwritten → Rose (K.faults out.old) (K.faults out.new) }
         ensures no_fault { result ≢ Err Left.Unwritten → K.faults out.new ≡ K.faults out.old }
@@ -186,7 +205,7 @@ impl Moment {
             self.count_step()?;
             let holds = at(line, self.truth(&arm.test))?;
             if holds {
-                self.block(&arm.body, input, out)?;
+                self.block(width, &arm.body, input, out)?;
                 return Ok(true);
             }
         }
@@ -195,12 +214,18 @@ impl Moment {
 
     /// One statement after the other. A jump passes over those up to its label, and leaves a block that hasn't it.
     #[cycle(statements)]
-    pub fn block<K: Sink>(&mut self, block: &Block, input: &[u8], out: &mut K) -> Result<(), Left>
+    pub fn block<K: Sink>(
+        &mut self,
+        width: Width,
+        block: &Block,
+        input: &[u8],
+        out: &mut K,
+    ) -> Result<(), Left>
         ensures run { BlockHasArms (block_of block.now)
-            → Runs (λ limit. does_all fortran77 limit (block_of block.now)) input.now
+            → Runs (λ limit. does_all (fortran77 width) limit (block_of block.now)) input.now
             (seen self.old) (K.taken out.old) (seen self.new) (K.taken out.new) result }
         ensures told { BlockHasArms (block_of block.now) → (bytes : List ℕ) → IsTold (λ before now.
-            Runs (λ limit. does_all fortran77 limit (block_of block.now)) input.now
+            Runs (λ limit. does_all (fortran77 width) limit (block_of block.now)) input.now
             (seen self.old) before (seen self.new) now result) (out.new ≡ out.old) bytes }
         ensures fault { result ≡ Err Left.Unwritten → Rose (K.faults out.old) (K.faults out.new) }
         ensures no_fault { result ≢ Err Left.Unwritten → K.faults out.new ≡ K.faults out.old }
@@ -212,7 +237,7 @@ impl Moment {
                 jump = passed(stmt, label);
                 continue;
             }
-            jump = landed(self.statement(stmt, input, out))?;
+            jump = landed(self.statement(width, stmt, input, out))?;
         }
         match jump {
             None => Ok(()),

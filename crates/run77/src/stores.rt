@@ -9,7 +9,7 @@ ghost use Rattle.run77.specs.Moments.{seen};
 
 use crate::moment::Moment;
 use machine::{Halt, at, check_range};
-use tree::Value;
+use tree::{Value, Width};
 
 impl Moment {
     /// Counts a step, unless none is left.
@@ -21,12 +21,12 @@ impl Moment {
     }
 
     /// Stores the value of an element or a scalar, which is a step. The range comes before it.
-    pub fn store(&mut self, line: u32, place: usize, value: Value) -> Result<(), Halt>
+    pub fn store(&mut self, width: Width, line: u32, place: usize, value: Value) -> Result<(), Halt>
         requires { place < total (names_in self.old.storage) }
-        ensures stored { StoresAt fortran77 line place value (seen self.old) (seen self.new) result }
+        ensures stored { StoresAt (fortran77 width) line place value (seen self.old) (seen self.new) result }
         ensures names { names_in self.new.storage ≡ names_in self.old.storage }
     {
-        at(line, check_range(value))?;
+        at(line, check_range(width, value))?;
         self.count_step()?;
         self.storage.put(place, value);
         Ok(())

@@ -3,6 +3,7 @@ ghost use Rattle.std.specs.Prelude.{◌≡◌, ◌<◌, map, IfOk};
 ghost use Rattle.tree.specs.Plain.{subscripts, expressions};
 ghost use Rattle.tree.specs.View.{expression_of, subscript_of, reference_of};
 ghost use Rattle.meaning.specs.Dialect.{fortran77};
+ghost use Rattle.tree.specs.declared.width.Width.TheVariants.{Plain};
 ghost use Rattle.meaning.specs.Value.{value_of, subscript_value, cell_named};
 ghost use Rattle.machine.specs.Storage.{AreBounds, bounds_list, total};
 ghost use Rattle.machine.specs.Stored.{names_in, store_in, Finds};
@@ -17,7 +18,7 @@ impl Moment {
     #[cycle(value)]
     #[tactic(auto, using(crate::proofs::ValueLaws::value_laws, crate::proofs::ValueLaws::item_laws))]
     pub fn value(&self, expr: &Expr) -> Result<Value, Fault>
-        ensures { result ≡ value_of fortran77 (expression_of expr.now) (store_in self.now.storage) }
+        ensures { result ≡ value_of (fortran77 Plain) (expression_of expr.now) (store_in self.now.storage) }
     {
         match expr {
             Expr::Int(number) => Ok(Value::Int(*number)),
@@ -45,7 +46,7 @@ impl Moment {
     #[cycle(value)]
     #[tactic(auto, using(crate::proofs::ValueLaws::left_laws))]
     fn call(&self, function: Fun, exprs: &Seq<Expr>) -> Result<Value, Fault>
-        ensures { result ≡ call_of fortran77 function (expressions (map expression_of exprs.now))
+        ensures { result ≡ call_of (fortran77 Plain) function (expressions (map expression_of exprs.now))
             (store_in self.now.storage) }
     {
         let mut arguments = Arguments::Empty;
@@ -60,7 +61,7 @@ impl Moment {
     #[cycle(value)]
     #[tactic(auto, using(crate::proofs::ValueLaws::place_laws))]
     pub fn place(&self, item: &Ref) -> Result<usize, Fault>
-        ensures found { Finds (names_in self.now.storage) (cell_named fortran77 (reference_of item.now)
+        ensures found { Finds (names_in self.now.storage) (cell_named (fortran77 Plain) (reference_of item.now)
             (store_in self.now.storage)) result }
         ensures within { IfOk result (λ k. k < total (names_in self.now.storage)) }
     {
@@ -79,7 +80,7 @@ impl Moment {
     #[tactic(auto, using(crate::proofs::ValueLaws::left_laws))]
     fn offset(&self, subs: &Seq<Sub>, dims: &[Dim]) -> Result<Option<usize>, Fault>
         requires { AreBounds (bounds_list dims.now) }
-        ensures { result ≡ offset_of fortran77 (bounds_list dims.now) (subscripts (map subscript_of subs.now))
+        ensures { result ≡ offset_of (fortran77 Plain) (bounds_list dims.now) (subscripts (map subscript_of subs.now))
             (store_in self.now.storage) }
     {
         let mut numbers = Subscripts::new();
@@ -92,7 +93,7 @@ impl Moment {
     #[cycle(value)]
     #[tactic(auto, using(crate::proofs::ValueLaws::value_laws))]
     fn subscript(&self, sub: &Sub) -> Result<i128, Fault>
-        ensures { result ≡ subscript_value fortran77 (subscript_of sub.now) (store_in self.now.storage) }
+        ensures { result ≡ subscript_value (fortran77 Plain) (subscript_of sub.now) (store_in self.now.storage) }
     {
         match sub {
             Sub::One(expr) => self.value(expr)?.as_number(),

@@ -10,9 +10,10 @@ use Rattle.tree.specs.declared.ops.Value.TheVariants.{Int, Truth}
 use Rattle.tree.specs.declared.ops.Fault.{Fault}
 use Rattle.meaning.specs.ArrayStatements.{allocated_bounds, free}
 use Rattle.meaning.specs.Dialect.{fortran90}
+use Rattle.tree.specs.declared.width.Width.{Width}
 use Rattle.meaning.specs.Holding.{IsStorable}
 use Rattle.meaning.specs.Profile90.{IsAllocation}
-use Rattle.meaning.specs.Store.{Store, bounds_of, allocated, with_bounds, nought, nought_like}
+use Rattle.meaning.specs.Store.{Store, stored_bounds, allocated, with_bounds, nought, nought_like}
 use Rattle.meaning.specs.Texts.{without_cr}
 use Rattle.meaning.specs.Typed.{declared, number_of_arguments}
 use Rattle.meaning.specs.Run.{State, Act, Going, does, allocates, deallocates}
@@ -72,13 +73,13 @@ Runs-deallocates x input old new now a b e = Runs-changes (deallocates x) (with_
 
 -- ---- an ALLOCATE that isn't done
 
-pub allocate_stuck : (line : ℕ) (x : List ℕ) (es : Expressions) (input : List ℕ) (old mid : Seen) (now : Option (List ℕ)) (e : Stuck) → CountsStep old mid (Ok tt)
-    → AnswersAt line (λ (bs : List (ℤ × ℤ)). bs) (allocated_bounds fortran90 x es mid.store) (Err e) → Runs (λ limit. does fortran90 limit (Allocate line x es)) input old now mid now (Err (left_by e))
-allocate_stuck line x es input old mid now (stuck.Halted h) c a =
-    Runs-counts_step fortran90 _ input old mid mid now now _ c (Runs-fault line (allocated_bounds fortran90 x es) h (λ bs limit. allocates x bs) input mid now a)
-allocate_stuck line x es input old mid now stuck.Memory c a =
+pub allocate_stuck : (width : Width) (line : ℕ) (x : List ℕ) (es : Expressions) (input : List ℕ) (old mid : Seen) (now : Option (List ℕ)) (e : Stuck) → CountsStep old mid (Ok tt)
+    → AnswersAt line (λ (bs : List (ℤ × ℤ)). bs) (allocated_bounds (fortran90 width) x es mid.store) (Err e) → Runs (λ limit. does (fortran90 width) limit (Allocate line x es)) input old now mid now (Err (left_by e))
+allocate_stuck width line x es input old mid now (stuck.Halted h) c a =
+    Runs-counts_step (fortran90 width) _ input old mid mid now now _ c (Runs-fault line (allocated_bounds (fortran90 width) x es) h (λ bs limit. allocates x bs) input mid now a)
+allocate_stuck width line x es input old mid now stuck.Memory c a =
     let same = step_same old mid c in
-    Runs-lacking (λ limit. does fortran90 limit (Allocate line x es)) input old mid now (Extends-does_all fortran90 (statement (Allocate line x es) no_statements)) same.0 same.1
+    Runs-lacking (λ limit. does (fortran90 width) limit (Allocate line x es)) input old mid now (Extends-does_all (fortran90 width) (statement (Allocate line x es) no_statements)) same.0 same.1
 
 -- bounds are listed, or there was no memory
 pub unlisted : (line : ℕ) (bs : List (ℤ × ℤ)) (e : Stuck) (q : Result (List (ℤ × ℤ)) Fault) → AnswersAt line ranges_in (Ok bs) (Err e) → AnswersAt line (λ (bs : List (ℤ × ℤ)). bs) q (Err e)
@@ -98,14 +99,14 @@ module _ (line : ℕ) (x : List ℕ) (old new : List Slot) where
   granted k ns (Err (failure.Fault f)) v g h = cc
   granted k ns (Err failure.Memory) v g h = cc
 
-  pub not_there : (r : Result (Unit {0}) Fault) (h : Halt) → Err h ≡ located line r → Deallocates x old new r → (Err h ≡ located line (bounds_of x (store_among old))) × (new ≡ old)
+  pub not_there : (r : Result (Unit {0}) Fault) (h : Halt) → Err h ≡ located line r → Deallocates x old new r → (Err h ≡ located line (stored_bounds x (store_among old))) × (new ≡ old)
   not_there (Ok u) h g d = cc
   not_there (Err f) h g d = (
-    let same : Fault' f line ≡ h = cc in subst (λ (h : Halt). Err h ≡ located line (bounds_of x (store_among old))) same (sym (ap (located line) d.0)),
+    let same : Fault' f line ≡ h = cc in subst (λ (h : Halt). Err h ≡ located line (stored_bounds x (store_among old))) same (sym (ap (located line) d.0)),
     d.1,
   )
 
-  pub gone : (r : Result (Unit {0}) Fault) (u : Unit {0}) → Ok u ≡ located line r → Deallocates x old new r → ((bs : List (ℤ × ℤ)) × (bounds_of x (store_among old) ≡ Ok bs)) × (store_among new ≡ with_bounds x None (store_among old))
+  pub gone : (r : Result (Unit {0}) Fault) (u : Unit {0}) → Ok u ≡ located line r → Deallocates x old new r → ((bs : List (ℤ × ℤ)) × (stored_bounds x (store_among old) ≡ Ok bs)) × (store_among new ≡ with_bounds x None (store_among old))
   gone (Ok v) u g d = d
   gone (Err f) u g d = cc
 
@@ -117,9 +118,9 @@ like_kind (Int z) Logical e = absurd cc
 like_kind (Truth b) Integer e = absurd cc
 like_kind (Truth b) Logical e = refl
 
-pub array_kind : (p : Program) (ds : List Declaration) (vs : List Slot) (m : Seen) (x : List ℕ) (es : Expressions) → KindsAreDeclared ds vs → ds ≡ m.names → store_among vs ≡ m.store → Suits p m → IsAllocation p.declarations x es
+pub array_kind : (width : Width) (p : Program) (ds : List Declaration) (vs : List Slot) (m : Seen) (x : List ℕ) (es : Expressions) → KindsAreDeclared ds vs → ds ≡ m.names → store_among vs ≡ m.store → Suits width p m → IsAllocation p.declarations x es
     → (k : Kind) × (kind_among vs x ≡ Some k) × HoldsKind k x vs
-array_kind p ds vs m x es kinds n st s h = by (declared p.declarations x) refl h.0
+array_kind width p ds vs m x es kinds n st s h = by (declared p.declarations x) refl h.0
   where
     by : (o : Option Declaration) → declared p.declarations x ≡ o → IsSomeAnd o (λ (d : Declaration). d.extent ≡ Later (number_of_arguments es)) → (k : Kind) × (kind_among vs x ≡ Some k) × HoldsKind k x vs
     by None e g = absurd g
@@ -128,6 +129,6 @@ array_kind p ds vs m x es kinds n st s h = by (declared p.declarations x) refl h
       kinds x ∙ ap (λ (ds : List Declaration). option_map (λ (d : Declaration). d.kind) (declared ds x)) (n ∙ s.names) ∙ ap (option_map (λ (d : Declaration). d.kind)) e,
       λ is.
           let v = held_among vs x is in
-          let q = subst (λ o. IfSome o (λ (c : Declaration). IsStorable fortran90 c.kind (m.store.held (record { name = x; subscripts = is })))) e (s.holds.kinds (record { name = x; subscripts = is })) in
+          let q = subst (λ o. IfSome o (λ (c : Declaration). IsStorable (fortran90 width) c.kind (m.store.held (record { name = x; subscripts = is })))) e (s.holds.kinds (record { name = x; subscripts = is })) in
           like_kind v d.kind (ap kind_of (sym (store-held vs (record { name = x; subscripts = is })) ∙ ap (λ (t : Store). t.held (record { name = x; subscripts = is })) st) ∙ q.kind),
     )

@@ -12,6 +12,7 @@ use Rattle.tree.specs.declared.ops.Fault.{Fault}
 use Rattle.tree.proofs.Equations.{tested_of-is, block_of-is}
 use Rattle.meaning.specs.Blocks.{Surroundings, before_labels, labels_of}
 use Rattle.meaning.specs.Dialect.{Dialect, fortran90}
+use Rattle.tree.specs.declared.width.Width.{Width}
 use Rattle.meaning.specs.Profile90.{IsStatement, AreArms, IsBlock}
 use Rattle.meaning.specs.Value.{truth_of}
 use Rattle.meaning.specs.Run.{either, nothing, evaluates, does_all, chooses}
@@ -109,19 +110,19 @@ Extends-chooses lang line (arm test body more) other h =
     record { adds = λ limit. Adds-counts_step lang limit (tested limit) (e.adds limit); idles = Idles-counts_step lang tested }
 
 -- a condition that has no value
-pub arm_stuck : (line : ℕ) (other : LimitedAct) (xs : List Arm) (i : ℕ) (x : Arm) → i < length xs → x ≡ get_or xs i x → (input : List ℕ) (old mid : Seen) (now : Option (List ℕ)) (e : Stuck) → Extends other → CountsStep old mid (Ok tt)
-    → AnswersAt line (λ (b : Bool). b) (truth_of fortran90 (expression_of (out-Arm x).test) mid.store) (Err e) → Runs (left_of_arms fortran90 line other (drop i xs)) input old now mid now (Err (left_at (unfinished_by e)))
-arm_stuck line other xs i x within is input old mid now (stuck.Halted h) o c a = arm_fault line other xs i x within is input old mid fortran90 now h c a
-arm_stuck line other xs i x within is input old mid now stuck.Memory o c a =
+pub arm_stuck : (width : Width) (line : ℕ) (other : LimitedAct) (xs : List Arm) (i : ℕ) (x : Arm) → i < length xs → x ≡ get_or xs i x → (input : List ℕ) (old mid : Seen) (now : Option (List ℕ)) (e : Stuck) → Extends other → CountsStep old mid (Ok tt)
+    → AnswersAt line (λ (b : Bool). b) (truth_of (fortran90 width) (expression_of (out-Arm x).test) mid.store) (Err e) → Runs (left_of_arms (fortran90 width) line other (drop i xs)) input old now mid now (Err (left_at (unfinished_by e)))
+arm_stuck width line other xs i x within is input old mid now (stuck.Halted h) o c a = arm_fault line other xs i x within is input old mid (fortran90 width) now h c a
+arm_stuck width line other xs i x within is input old mid now stuck.Memory o c a =
     let same = step_same old mid c in
-    Runs-lacking (left_of_arms fortran90 line other (drop i xs)) input old mid now (Extends-chooses fortran90 line (plain_arms (drop i xs)) other o) same.0 same.1
+    Runs-lacking (left_of_arms (fortran90 width) line other (drop i xs)) input old mid now (Extends-chooses (fortran90 width) line (plain_arms (drop i xs)) other o) same.0 same.1
 
 -- no arm was done
-pub chosen_suits : (p : Program) (w : Surroundings) (line : ℕ) (as' : List Arm) (other : Block) → IsStatement p.declarations (If line (plain_arms as') other) w → (input : List ℕ) (old : Seen) (before : Option (List ℕ)) (new : Seen) (now : Option (List ℕ))
-    → Chooses line (plain_arms as') input old before new now (Ok false) → Suits p old → Suits p new
+pub chosen_suits : (width : Width) (p : Program) (w : Surroundings) (line : ℕ) (as' : List Arm) (other : Block) → IsStatement p.declarations (If line (plain_arms as') other) w → (input : List ℕ) (old : Seen) (before : Option (List ℕ)) (new : Seen) (now : Option (List ℕ))
+    → Chooses width line (plain_arms as') input old before new now (Ok false) → Suits width p old → Suits width p new
 unfolding Chooses
-chosen_suits p w line as' other is input old before new now h s =
-    suits_after p (λ limit. chooses fortran90 limit line (plain_arms as') nothing) (keeps_statement p (If line (plain_arms as') no_statements) w (is.0, is.1, is.2, tt)) input old new before now (Ok tt) tt
+chosen_suits width p w line as' other is input old before new now h s =
+    suits_after width p (λ limit. chooses (fortran90 width) limit line (plain_arms as') nothing) (keeps_statement width p (If line (plain_arms as') no_statements) w (is.0, is.1, is.2, tt)) input old new before now (Ok tt) tt
     (h (λ limit. nothing) new now (Ok tt) (Runs-nothing input new now)) s
 
 pub located_ok : {A : Type 0} (line : ℕ) (q : Result A Fault) (x : A) → Ok x ≡ located line q → q ≡ Ok x

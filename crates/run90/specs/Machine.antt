@@ -1,6 +1,7 @@
 -- The machine of a program, and the store that it has.
 use Rattle.std.specs.Prelude.{◌≡◌, ◌++◌, Result, Ok, Err, Option, ℕ, List, map}
 use Rattle.std.specs.Io.KnownBytes.{append_known}
+use Rattle.tree.specs.declared.width.Width.{Width}
 use Rattle.tree.specs.Plain.{Program}
 use Rattle.tree.specs.View.{block_of, declaration_of}
 use Rattle.meaning.specs.Store.{Store}
@@ -12,10 +13,11 @@ use Rattle.array_expressions.specs.declared.transfers.unfinished.Unfinished.{Unf
 use Rattle.array_expressions.specs.declared.transfers.unfinished.Unfinished.TheVariants.{Left, Memory as Lacking}
 use Rattle.run90.specs.declared.programs.Machine90.{Machine90}
 
--- the machine has the names and the statements of the program
-pub record IsMachineOf (p : Program) (m : Machine90) : Type 0 where
+-- the machine has the names and the statements of the program, and INTEGER is as wide
+pub record IsMachineOf (w : Width) (p : Program) (m : Machine90) : Type 0 where
   pub names : map declaration_of m.decls ≡ p.declarations
   pub body : block_of m.body ≡ p.body
+  pub width : m.width ≡ w
 
 -- the store of the last run, or the opening store where there was none
 abbrev pub store_left : Machine90 → Store

@@ -2,6 +2,7 @@
 use Rattle.std.specs.Prelude.{Result, Ok, Err, Option, Some, None, ℕ, Bool, true, false, List}
 use Rattle.tree.specs.Plain.{Arms}
 use Rattle.meaning.specs.Dialect.{fortran90}
+use Rattle.tree.specs.declared.width.Width.{Width}
 use Rattle.meaning.specs.Run.{chooses}
 use Rattle.machine.specs.declared.progress.Halt.{Halt}
 use Rattle.machine.specs.declared.progress.Halt.TheVariants.{Jump, Stop, Fault, Limit}
@@ -34,13 +35,14 @@ landed (Err Memory) = Err Memory
 
 -- The arms were gone through, whatever the ELSE part does: one was done; none, so that the ELSE part goes on from here;
 -- or the run was left, or there was no memory
-module _ (line : ℕ) (as' : Arms) (input : List ℕ) (old : Seen) (before : Option (List ℕ)) (new : Seen)
+module _ (width : Width) (line : ℕ) (as' : Arms) (input : List ℕ) (old : Seen) (before : Option (List ℕ)) (new : Seen)
     (now : Option (List ℕ)) where
   unfoldable pub Chooses : Result Bool Unfinished → Type 0
   Chooses (Ok true) = (other : LimitedAct)
-      → Runs (λ limit. chooses fortran90 limit line as' (other limit)) input old before new now (Ok tt)
+      → Runs (λ limit. chooses (fortran90 width) limit line as' (other limit)) input old before new now (Ok tt)
   Chooses (Ok false) = (other : LimitedAct) (end : Seen) (after : Option (List ℕ)) (r : Result (Unit {0}) Left')
       → Runs other input new now end after r
-      → Runs (λ limit. chooses fortran90 limit line as' (other limit)) input old before end after r
+      → Runs (λ limit. chooses (fortran90 width) limit line as' (other limit)) input old before end after r
   Chooses (Err e) = (other : LimitedAct) → Extends other
-      → Runs (λ limit. chooses fortran90 limit line as' (other limit)) input old before new now (Err (left_at e))
+      → Runs (λ limit. chooses (fortran90 width) limit line as' (other limit)) input old before new now (Err
+      (left_at e))

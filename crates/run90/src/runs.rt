@@ -6,6 +6,7 @@ ghost use Rattle.tree.specs.View.{program_of_90, declaration_of, block_of};
 ghost use Rattle.meaning.specs.Store.{opening_store};
 ghost use Rattle.meaning.specs.Profile90.{IsProgram90};
 ghost use Rattle.meaning.specs.Dialect.{fortran90};
+ghost use Rattle.tree.specs.declared.width.Width.{Width as Width'};
 ghost use Rattle.meaning.specs.Run.{run};
 ghost use Rattle.meaning.specs.Steps.{final_lines};
 ghost use Rattle.machine.specs.Endings.{Ends, IsLeftAt};
@@ -24,7 +25,7 @@ use machine::{Progress, ended};
 use meaning::End;
 use std::alloc::Global;
 use streams::{Sink, WriteFault};
-use tree::{Block, Decl, Memory, Program90, Seq, copy_decls};
+use tree::{Block, Decl, Memory, Program90, Seq, Width, copy_decls};
 
 // The first moment of a run.
 fn opened(alloc: Global, decls: &Seq<Decl>, limit: Option<u64>) -> Result<Moment, Memory>
@@ -55,13 +56,13 @@ fn finished(answer: Result<(), Unfinished>) -> Result<End, Memory>
 impl Machine90 {
     /// The machine of a program, which has the opening store.
     #[tactic(auto, using(crate::proofs::ProgramLaws::are_distinct))]
-    pub fn new(alloc: Global, program: Program90) -> Result<Machine90, Memory>
+    pub fn new(alloc: Global, program: Program90, width: Width) -> Result<Machine90, Memory>
         requires { IsProgram90 (program_of_90 program) }
-        ensures machine { IfOk result (IsMachineOf (program_of_90 program)) }
+        ensures machine { IfOk result (IsMachineOf width (program_of_90 program)) }
         ensures opened { IfOk result (λ m. store_left m ≡ opening_store (program_of_90 program)) }
     {
         let Program90 { decls, body, .. } = program;
-        Machine90::of_parts(alloc, decls, body)
+        Machine90::of_parts(alloc, decls, body, width)
     }
 
     /// The machine of a program with these declarations and statements.
@@ -69,11 +70,13 @@ impl Machine90 {
         alloc: Global,
         decls: Seq<Decl>,
         body: Block,
+        width: Width,
     ) -> Result<Machine90, Memory>
         requires { AreDistinct (map declaration_of decls) }
         ensures names { IfOk result (λ m. map declaration_of m.decls ≡ map declaration_of decls) }
         ensures opened { IfOk result (λ m. store_left m ≡ opening_of (map declaration_of decls)) }
         ensures body { IfOk result (λ m. block_of m.body ≡ block_of body) }
+        ensures width { IfOk result (λ m. m.width ≡ width) }
     {
         let moment = opened(alloc, &decls, None)?;
         Ok(Machine90 {
@@ -81,6 +84,7 @@ impl Machine90 {
             decls,
             body,
             moment,
+            width,
         })
     }
 
@@ -92,32 +96,35 @@ impl Machine90 {
         out: &mut K,
         limit: Option<u64>,
     ) -> Result<End, Memory>
-        ensures run { (p : Program) → IsProgram90 p → IsMachineOf p self.old → MatchResult result
-            (λ end. Ends p.declarations (run fortran90 limit p input.now)
+        ensures run { (w : Width') (p : Program) → IsProgram90 p → IsMachineOf w p self.old → MatchResult result
+            (λ end. Ends p.declarations (run (fortran90 w) limit p input.now)
             (seen self.new.moment) (K.taken out.old) (K.taken out.new) end)
-            (λ _. HasFrontOf (run fortran90 limit p input.now).written (K.taken out.old) (K.taken out.new)) }
-        ensures unwritten { (p : Program) → IsProgram90 p → IsMachineOf p self.old → result ≡ Ok End.WriteFault
-            → IsLeftAt fortran90 limit p input.now (store_left self.new) (K.taken out.old) (K.taken out.new) }
-        ensures machine { (p : Program) → IsProgram90 p → IsMachineOf p self.old → IsMachineOf p self.new }
+            (λ _. HasFrontOf (run (fortran90 w) limit p input.now).written (K.taken out.old) (K.taken out.new)) }
+        ensures unwritten { (w : Width') (p : Program) → IsProgram90 p → IsMachineOf w p self.old
+            → result ≡ Ok End.WriteFault
+            → IsLeftAt (fortran90 w) limit p input.now (store_left self.new) (K.taken out.old) (K.taken out.new) }
+        ensures machine { (w : Width') (p : Program) → IsProgram90 p → IsMachineOf w p self.old
+            → IsMachineOf w p self.new }
 
         // Where the run writes nothing, the sink is as it was, whether it tells its bytes or not.
-        ensures untouched { (p : Program) → IsProgram90 p → IsMachineOf p self.old
-            → (run fortran90 limit p input.now).written ≡ [] → out.new ≡ out.old }
+        ensures untouched { (w : Width') (p : Program) → IsProgram90 p → IsMachineOf w p self.old
+            → (run (fortran90 w) limit p input.now).written ≡ [] → out.new ≡ out.old }
         ensures fault { result ≡ Ok End.WriteFault → Rose (K.faults out.old) (K.faults out.new) }
         ensures no_fault { result ≢ Ok End.WriteFault → K.faults out.new ≡ K.faults out.old }
         ensures later { K.faults out.old ≤ K.faults out.new }
     {
         let moment = opened(self.alloc, &self.decls, limit)?;
         self.moment = moment;
-        finished(block(&mut self.moment, &self.body, input, out))
+        finished(block(&mut self.moment, self.width, &self.body, input, out))
     }
 
     /// Writes a line for each variable and array element, in byte order of names, and column-major order. An array that
     /// isn't allocated has no lines.
     pub fn show<K: Sink>(&self, out: &mut K) -> Result<(), WriteFault>
-        ensures text { (p : Program) → IsMachineOf p self.now
+        ensures text { (w : Width') (p : Program) → IsMachineOf w p self.now
             → WritesText (K.taken out.old) (final_lines p (store_left self.now)) (K.taken out.new) result }
-        ensures untouched { (p : Program) → IsMachineOf p self.now → final_lines p (store_left self.now) ≡ []
+        ensures untouched { (w : Width') (p : Program) → IsMachineOf w p self.now
+            → final_lines p (store_left self.now) ≡ []
             → out.new ≡ out.old }
         ensures fault { OnErr result (Rose (K.faults out.old) (K.faults out.new)) }
         ensures no_fault { OnOk result (K.faults out.new ≡ K.faults out.old) }

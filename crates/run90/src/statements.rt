@@ -6,6 +6,7 @@ ghost use Rattle.tree.specs.View.{expression_of, statement_of, block_of};
 ghost use Rattle.machine.specs.declared.progress.Left.TheVariants.{Unwritten};
 ghost use Rattle.meaning.specs.Blocks.{Surroundings};
 ghost use Rattle.meaning.specs.Dialect.{fortran90};
+ghost use Rattle.tree.specs.declared.width.Width.{Width as Width'};
 ghost use Rattle.meaning.specs.Profile90.{IsStatement, AreArms, IsBlock};
 ghost use Rattle.meaning.specs.Run.{does, does_all, counts_step, goes, Jumping, Stopped};
 ghost use Rattle.meaning.specs.Value.{truth_of};
@@ -24,7 +25,7 @@ use array_expressions::assignments::{Moment, Stuck, at};
 use array_expressions::transfers::{Unfinished, print_statement, read_statement};
 use machine::{Halt, Left, at as located, passed};
 use streams::Sink;
-use tree::{Arm, Block, Expr, Seq, Stmt};
+use tree::{Arm, Block, Expr, Seq, Stmt, Width};
 
 fn left(answer: Result<(), Stuck>) -> Result<(), Unfinished>
     ensures { result ≡ unfinished answer }
@@ -58,17 +59,17 @@ fn landed(answer: Result<(), Unfinished>) -> Result<Option<u32>, Unfinished>
     }
 }
 
-fn truth(moment: &Moment, line: u32, test: &Expr) -> Result<bool, Stuck>
+fn truth(moment: &Moment, width: Width, line: u32, test: &Expr) -> Result<bool, Stuck>
     ensures { AnswersAt line (λ (b : Bool). b)
-        (truth_of fortran90 (expression_of test.now) (store_in moment.now.storage)) result }
+        (truth_of (fortran90 width) (expression_of test.now) (store_in moment.now.storage)) result }
 {
-    let value = at(line, moment.scope().value(test, &[]))?;
+    let value = at(line, moment.scope().value(width, test, &[]))?;
     let truth = located(line, value.as_truth())?;
     Ok(truth)
 }
 
 fn go(moment: &mut Moment, label: u32) -> Result<(), Stuck>
-    ensures { Does (λ limit. counts_step fortran90 limit (goes (Jumping label)))
+    ensures { (w : Width') → Does (λ limit. counts_step (fortran90 w) limit (goes (Jumping label)))
         (seen moment.old) (seen moment.new) result }
 {
     moment.count_step()?;
@@ -76,7 +77,8 @@ fn go(moment: &mut Moment, label: u32) -> Result<(), Stuck>
 }
 
 fn stop(moment: &mut Moment) -> Result<(), Stuck>
-    ensures { Does (λ limit. counts_step fortran90 limit (goes Stopped)) (seen moment.old) (seen moment.new) result }
+    ensures { (w : Width') → Does (λ limit. counts_step (fortran90 w) limit (goes Stopped)) (seen moment.old)
+        (seen moment.new) result }
 {
     moment.count_step()?;
     Err(Stuck::Halted(Halt::Stop))
@@ -85,17 +87,18 @@ fn stop(moment: &mut Moment) -> Result<(), Stuck>
 #[cycle(statements)]
 fn statement<K: Sink>(
     moment: &mut Moment,
+    width: Width,
     stmt: &Stmt,
     input: &[u8],
     out: &mut K,
 ) -> Result<(), Unfinished>
     ensures run { (p : Program) (w : Surroundings) → IsStatement p.declarations (statement_of stmt.now) w
-        → Suits p (seen moment.old)
-        → Runs (λ limit. does fortran90 limit (statement_of stmt.now)) input.now
+        → Suits width p (seen moment.old)
+        → Runs (λ limit. does (fortran90 width) limit (statement_of stmt.now)) input.now
         (seen moment.old) (K.taken out.old) (seen moment.new) (K.taken out.new) (ended_by result) }
     ensures told { (p : Program) (w : Surroundings) → IsStatement p.declarations (statement_of stmt.now) w
-        → Suits p (seen moment.old) → (bytes : List ℕ) → IsTold (λ before now.
-        Runs (λ limit. does fortran90 limit (statement_of stmt.now)) input.now
+        → Suits width p (seen moment.old) → (bytes : List ℕ) → IsTold (λ before now.
+        Runs (λ limit. does (fortran90 width) limit (statement_of stmt.now)) input.now
         (seen moment.old) before (seen moment.new) now (ended_by result)) (out.new ≡ out.old) bytes }
     ensures fault { result ≡ Err (Unfinished.Left Unwritten) → Rose (K.faults out.old) (K.faults out.new) }
     ensures no_fault { result ≢ Err (Unfinished.Left Unwritten) → K.faults out.new ≡ K.faults out.old }
@@ -107,20 +110,20 @@ fn statement<K: Sink>(
             left: target,
             right,
             ..
-        } => left(moment.assignment(*line, target, right)),
+        } => left(moment.assignment(width, *line, target, right)),
         Stmt::Masked {
             line,
             mask,
             left: target,
             right,
             ..
-        } => left(moment.masked_assignment(*line, mask, target, right)),
+        } => left(moment.masked_assignment(width, *line, mask, target, right)),
         Stmt::If { line, arms, other } => {
-            let done = choose(moment, *line, arms, input, out)?;
+            let done = choose(moment, width, *line, arms, input, out)?;
             if done {
                 return Ok(());
             }
-            block(moment, other, input, out)
+            block(moment, width, other, input, out)
         }
         Stmt::Do {
             line,
@@ -130,24 +133,24 @@ fn statement<K: Sink>(
             step,
             body,
         } => {
-            let turns = moment.begin_loop(*line, *var, first, last, step)?;
+            let turns = moment.begin_loop(width, *line, *var, first, last, step)?;
             for _ in 0..turns.count {
                 moment.count_step()?;
-                block(moment, body, input, out)?;
-                moment.increase(*line, *var, turns.step)?;
+                block(moment, width, body, input, out)?;
+                moment.increase(width, *line, *var, turns.step)?;
             }
             Ok(())
         }
         Stmt::Label { .. } => Ok(()),
         Stmt::Go { number, .. } => left(go(moment, *number)),
         Stmt::Stop { .. } => left(stop(moment)),
-        Stmt::Read { line, items } => left(read_statement(moment, *line, items, input)),
-        Stmt::Print { line, items } => print_statement(moment, *line, items, out),
+        Stmt::Read { line, items } => left(read_statement(moment, width, *line, items, input)),
+        Stmt::Print { line, items } => print_statement(moment, width, *line, items, out),
         Stmt::Allocate {
             line,
             name,
             extents,
-        } => left(allocate(moment, *line, *name, extents)),
+        } => left(allocate(moment, width, *line, *name, extents)),
         Stmt::Deallocate { line, name } => left(deallocate(moment, *line, *name)),
     }
 }
@@ -156,17 +159,18 @@ fn statement<K: Sink>(
 #[cycle(statements)]
 fn choose<K: Sink>(
     moment: &mut Moment,
+    width: Width,
     line: u32,
     arms: &Seq<Arm>,
     input: &[u8],
     out: &mut K,
 ) -> Result<bool, Unfinished>
     ensures run { (p : Program) (w : Surroundings) → AreArms p.declarations (plain_arms arms.now) w
-        → Suits p (seen moment.old) → Chooses line (plain_arms arms.now) input.now
+        → Suits width p (seen moment.old) → Chooses width line (plain_arms arms.now) input.now
         (seen moment.old) (K.taken out.old) (seen moment.new) (K.taken out.new) result }
     ensures told { (p : Program) (w : Surroundings) → AreArms p.declarations (plain_arms arms.now) w
-        → Suits p (seen moment.old) → (bytes : List ℕ) → IsTold (λ before now.
-        Chooses line (plain_arms arms.now) input.now
+        → Suits width p (seen moment.old) → (bytes : List ℕ) → IsTold (λ before now.
+        Chooses width line (plain_arms arms.now) input.now
         (seen moment.old) before (seen moment.new) now result) (out.new ≡ out.old) bytes }
     ensures fault { result ≡ Err (Unfinished.Left Unwritten) → Rose (K.faults out.old) (K.faults out.new) }
     ensures no_fault { result ≢ Err (Unfinished.Left Unwritten) → K.faults out.new ≡ K.faults out.old }
@@ -174,9 +178,9 @@ fn choose<K: Sink>(
 {
     for arm in arms.as_slice() {
         moment.count_step()?;
-        let holds = truth(moment, line, &arm.test)?;
+        let holds = truth(moment, width, line, &arm.test)?;
         if holds {
-            block(moment, &arm.body, input, out)?;
+            block(moment, width, &arm.body, input, out)?;
             return Ok(true);
         }
     }
@@ -187,17 +191,18 @@ fn choose<K: Sink>(
 #[cycle(statements)]
 pub fn block<K: Sink>(
     moment: &mut Moment,
+    width: Width,
     block: &Block,
     input: &[u8],
     out: &mut K,
 ) -> Result<(), Unfinished>
     ensures run { (p : Program) (w : Surroundings) → IsBlock p.declarations (block_of block.now) w
-        → Suits p (seen moment.old)
-        → Runs (λ limit. does_all fortran90 limit (block_of block.now)) input.now
+        → Suits width p (seen moment.old)
+        → Runs (λ limit. does_all (fortran90 width) limit (block_of block.now)) input.now
         (seen moment.old) (K.taken out.old) (seen moment.new) (K.taken out.new) (ended_by result) }
     ensures told { (p : Program) (w : Surroundings) → IsBlock p.declarations (block_of block.now) w
-        → Suits p (seen moment.old) → (bytes : List ℕ) → IsTold (λ before now.
-        Runs (λ limit. does_all fortran90 limit (block_of block.now)) input.now
+        → Suits width p (seen moment.old) → (bytes : List ℕ) → IsTold (λ before now.
+        Runs (λ limit. does_all (fortran90 width) limit (block_of block.now)) input.now
         (seen moment.old) before (seen moment.new) now (ended_by result)) (out.new ≡ out.old) bytes }
     ensures fault { result ≡ Err (Unfinished.Left Unwritten) → Rose (K.faults out.old) (K.faults out.new) }
     ensures no_fault { result ≢ Err (Unfinished.Left Unwritten) → K.faults out.new ≡ K.faults out.old }
@@ -209,7 +214,7 @@ pub fn block<K: Sink>(
             jump = passed(stmt, label);
             continue;
         }
-        jump = landed(statement(moment, stmt, input, out))?;
+        jump = landed(statement(moment, width, stmt, input, out))?;
     }
     match jump {
         None => Ok(()),

@@ -21,11 +21,11 @@ use Rattle.subscripts.specs.declared.affine.Affine.{Affine}
 use Rattle.last_values.specs.declared.normal_forms.combinations.Multiple.{Multiple}
 use Rattle.last_values.specs.declared.normal_forms.places.Place.TheVariants as place
 use Rattle.last_values.specs.normal_forms.Steps.{◌>>=◌}
-use Rattle.last_values.specs.normal_forms.Combinations.{at, coefficient_in, combination, number_form, no_symbols, times, without_loops}
+use Rattle.last_values.specs.normal_forms.Combinations.{number_of_place, coefficient_in, combination, number_form, no_symbols, times, without_loops}
 use Rattle.last_values.specs.normal_forms.NormalLoops.{has_no_loops, has_no_symbols, is_constant, is_undivided, is_unused, is_zero, loop_form, one_at, trip_of}
 use Rattle.last_values.specs.normal_forms.Numbers.{number_of_form, products, sum_of_numbers, trip_number}
 use Rattle.last_values.proofs.NormalForms.Numbers.{combination_has_number, none_among_zeros, places_of, products-alike, products-zero}
-use Rattle.scalar_expand.specs.Extents.{are_counted, are_few, are_within, extent_form, extent_under, extents_of, extents_under, greatest, greatest_from, if_few}
+use Rattle.scalar_expand.specs.Extents.{are_counted, are_few, sizes_fit, extent_form, extent_under, extents_of_trips, extents_under, greatest, greatest_from, if_few}
 use Rattle.scalar_expand.specs.Flow.{AreTurns}
 use Rattle.scalar_expand.specs.Numbers.{ExtentsCover, at_loops, from_place, limits_of, number_under, numbers_under, trip_at, turns_to}
 use Rattle.scalar_expand.specs.Privates.{names_written, round_loop, trip_or_none, trips_of}
@@ -73,7 +73,7 @@ by_one z =
 
 -- ---- simple forms
 
-zero_at : (k : ℕ) → at (number_form (pos 0)) (place.Loop k) ≡ pos 0
+zero_at : (k : ℕ) → number_of_place (number_form (pos 0)) (place.Loop k) ≡ pos 0
 zero_at zero = refl
 zero_at (suc zero) = refl
 zero_at (suc (suc zero)) = refl
@@ -98,9 +98,9 @@ symbols_zero (t ∷ ts) j h = by (t.0 == j) ((Decides-int_eq t.1 (pos 0)).0 (bot
 
 -- no loop from the K-th on stands in a form
 abbrev Bare : ℕ → Affine → Type 0
-Bare K f = (j : ℕ) → K ≤ j → j < 7 → at f (place.Loop j) ≡ pos 0
+Bare K f = (j : ℕ) → K ≤ j → j < 7 → number_of_place f (place.Loop j) ≡ pos 0
 
-one-zero : (k j : ℕ) → k < j → at (loop_form k) (place.Loop j) ≡ pos 0
+one-zero : (k j : ℕ) → k < j → number_of_place (loop_form k) (place.Loop j) ≡ pos 0
 one-zero k zero h = absurd (omega (arith, h))
 one-zero k (suc zero) h = other k 1 h
   where
@@ -154,14 +154,14 @@ module _ (n : ℕ) (values : ℕ → ℤ) where
 
   number-number : (F : ℕ → ℤ) (z : ℤ) → Number F (number_form z) ≡ z
   number-number F z =
-      ap₂ (λ p q. p +ℤ (q +ℤ z)) (products-alike 7 0 (λ k. at (number_form z) (place.Loop k)) (λ k. pos 0) F (λ k h. zero_at k) ∙ products-zero 7 0 F)
+      ap₂ (λ p q. p +ℤ (q +ℤ z)) (products-alike 7 0 (λ k. number_of_place (number_form z) (place.Loop k)) (λ k. pos 0) F (λ k h. zero_at k) ∙ products-zero 7 0 F)
       (products-alike n 0 (λ j. coefficient_in no_symbols j) (λ j. pos 0) values (λ j h. none_among_zeros 8 j) ∙ products-zero n 0 values)
       ∙ zeros z
     where
       zeros : (z : ℤ) → pos 0 +ℤ (pos 0 +ℤ z) ≡ z
       zeros z = omega (arith, ints)
 
-  one : (F : ℕ → ℤ) (k : ℕ) → k < 7 → products 7 0 (λ j. at (loop_form k) (place.Loop j)) F ≡ F k
+  one : (F : ℕ → ℤ) (k : ℕ) → k < 7 → products 7 0 (λ j. number_of_place (loop_form k) (place.Loop j)) F ≡ F k
   one F zero h = omega (arith, ints)
   one F (suc zero) h = omega (arith, ints)
   one F (suc (suc zero)) h = omega (arith, ints)
@@ -182,8 +182,8 @@ module _ (n : ℕ) (values : ℕ → ℤ) where
   constant-number : (F : ℕ → ℤ) (a : Affine) → is_constant a ≡ true → Number F a ≡ a.constant
   constant-number F a h =
       let p = both (has_no_loops a) (has_no_symbols a) h in
-      ap₂ (λ x y. x +ℤ (y +ℤ a.constant)) (products-alike 7 0 (λ k. at a (place.Loop k)) (λ k. pos 0) F (λ k m. loops_zero a.loops k p.0) ∙ products-zero 7 0 F)
-      (products-alike n 0 (λ j. at a (place.Symbol j)) (λ j. pos 0) values (λ j m. symbols_zero a.syms j p.1) ∙ products-zero n 0 values)
+      ap₂ (λ x y. x +ℤ (y +ℤ a.constant)) (products-alike 7 0 (λ k. number_of_place a (place.Loop k)) (λ k. pos 0) F (λ k m. loops_zero a.loops k p.0) ∙ products-zero 7 0 F)
+      (products-alike n 0 (λ j. number_of_place a (place.Symbol j)) (λ j. pos 0) values (λ j m. symbols_zero a.syms j p.1) ∙ products-zero n 0 values)
       ∙ zeros a.constant
     where
       zeros : (z : ℤ) → pos 0 +ℤ (pos 0 +ℤ z) ≡ z
@@ -206,10 +206,10 @@ module _ (n : ℕ) (values : ℕ → ℤ) where
   -- only loops before the K-th matter
   number-alike : (K : ℕ) (F G : ℕ → ℤ) (f : Affine) → Bare K f → ((j : ℕ) → j < K → F j ≡ G j) → Number F f ≡ Number G f
   number-alike K F G f bare same =
-      ap (λ z. z +ℤ (products n 0 (λ j. at f (place.Symbol j)) values +ℤ at f place.Constant)) (products-same 7 0 (λ k. at f (place.Loop k)) F G (λ i m. by i (omega (arith, m)) (nat_lt i K) refl))
+      ap (λ z. z +ℤ (products n 0 (λ j. number_of_place f (place.Symbol j)) values +ℤ number_of_place f place.Constant)) (products-same 7 0 (λ k. number_of_place f (place.Loop k)) F G (λ i m. by i (omega (arith, m)) (nat_lt i K) refl))
     where
-      by : (i : ℕ) → i < 7 → (b : Bool) → nat_lt i K ≡ b → at f (place.Loop i) *ℤ F i ≡ at f (place.Loop i) *ℤ G i
-      by i m true e = ap (λ z. at f (place.Loop i) *ℤ z) (same i (ltb-true i K e))
+      by : (i : ℕ) → i < 7 → (b : Bool) → nat_lt i K ≡ b → number_of_place f (place.Loop i) *ℤ F i ≡ number_of_place f (place.Loop i) *ℤ G i
+      by i m true e = ap (λ z. number_of_place f (place.Loop i) *ℤ z) (same i (ltb-true i K e))
       by i m false e = let none = bare i (ltb-false i K e) m in ap (λ c. c *ℤ F i) none ∙ (zero-*ℤ (F i) ∙ sym (ap (λ c. c *ℤ G i) none ∙ zero-*ℤ (G i)))
 
   -- ---- extents and their numbers
@@ -229,7 +229,7 @@ module _ (n : ℕ) (values : ℕ → ℤ) where
   -- so many times each iteration
   abbrev weighted_from : Affine → ℕ → List ℕ → ℤ
   weighted_from f k [] = pos 0
-  weighted_from f k (i ∷ is) = at f (place.Loop k) *ℤ pos i +ℤ weighted_from f (k + 1) is
+  weighted_from f k (i ∷ is) = number_of_place f (place.Loop k) *ℤ pos i +ℤ weighted_from f (k + 1) is
 
   one-greatest : (F : ℕ → ℤ) (c : ℤ) (k : ℕ) (t : Trip) (i : ℕ) (e : ℤ) → Number F (extent_form k t) ≡ e → 1 ≤ i → pos i ≤ℤ e
       → (c *ℤ pos i) ≤ℤ ((greatest c k t).times *ℤ Number F (greatest c k t).form)
@@ -250,9 +250,9 @@ module _ (n : ℕ) (values : ℕ → ℤ) where
   greatest-sum K F f k (t ∷ ts) [] is h u = absurd h
   greatest-sum K F f k (t ∷ ts) (e ∷ es) [] h u = absurd u
   greatest-sum K F f k (t ∷ ts) (e ∷ es) (i ∷ is) h u =
-      let first = one-greatest F (at f (place.Loop k)) k t i e h.0 u.0 u.1 in
+      let first = one-greatest F (number_of_place f (place.Loop k)) k t i e h.0 u.0 u.1 in
       let rest = greatest-sum K F f (k + 1) ts es is h.2 u.2 in
-      added (at f (place.Loop k) *ℤ pos i) ((greatest (at f (place.Loop k)) k t).times *ℤ Number F (greatest (at f (place.Loop k)) k t).form) (weighted_from f (k + 1) is) (sum_of_numbers n F values (greatest_from (k + 1) f ts)) first rest
+      added (number_of_place f (place.Loop k) *ℤ pos i) ((greatest (number_of_place f (place.Loop k)) k t).times *ℤ Number F (greatest (number_of_place f (place.Loop k)) k t).form) (weighted_from f (k + 1) is) (sum_of_numbers n F values (greatest_from (k + 1) f ts)) first rest
     where
       added : (a b c d : ℤ) → a ≤ℤ b → c ≤ℤ d → (a +ℤ c) ≤ℤ (b +ℤ d)
       added a b c d p q = omega (arith, ints, p, q)
@@ -260,26 +260,26 @@ module _ (n : ℕ) (values : ℕ → ℤ) where
   -- ---- the number of a trip
 
   -- of a list from the k-th place on
-  products-listed : (m k : ℕ) (f : Affine) (is : List ℕ) (x : ℕ → ℤ) → length is ≤ m → ((i : ℕ) → x (k + i) ≡ get_or (map pos is) i (pos 0)) → products m k (λ j. at f (place.Loop j)) x ≡ weighted_from f k is
+  products-listed : (m k : ℕ) (f : Affine) (is : List ℕ) (x : ℕ → ℤ) → length is ≤ m → ((i : ℕ) → x (k + i) ≡ get_or (map pos is) i (pos 0)) → products m k (λ j. number_of_place f (place.Loop j)) x ≡ weighted_from f k is
   products-listed zero k f [] x l h = refl
   products-listed zero k f (i ∷ is) x l h = absurd (omega (arith, l))
   products-listed (suc m) k f [] x l h =
       let here : x k ≡ pos 0 = (let e : k ≡ k + 0 = omega arith in ap x e ∙ h 0) in
-      ap₂ (λ p q. at f (place.Loop k) *ℤ p +ℤ q) here (products-listed m (k + 1) f [] x (omega arith) (λ i. (let e : (k + 1) + i ≡ k + suc i = omega arith in ap x e ∙ h (suc i))))
-      ∙ ap (λ z. z +ℤ pos 0) (*ℤ-zero (at f (place.Loop k)))
+      ap₂ (λ p q. number_of_place f (place.Loop k) *ℤ p +ℤ q) here (products-listed m (k + 1) f [] x (omega arith) (λ i. (let e : (k + 1) + i ≡ k + suc i = omega arith in ap x e ∙ h (suc i))))
+      ∙ ap (λ z. z +ℤ pos 0) (*ℤ-zero (number_of_place f (place.Loop k)))
   products-listed (suc m) k f (i ∷ is) x l h =
       let here : x k ≡ pos i = (let e : k ≡ k + 0 = omega arith in ap x e ∙ h 0) in
-      ap₂ (λ p q. at f (place.Loop k) *ℤ p +ℤ q) here (products-listed m (k + 1) f is x (omega (arith, l)) (λ j. (let e : (k + 1) + j ≡ k + suc j = omega arith in ap x e ∙ h (suc j))))
+      ap₂ (λ p q. number_of_place f (place.Loop k) *ℤ p +ℤ q) here (products-listed m (k + 1) f is x (omega (arith, l)) (λ j. (let e : (k + 1) + j ≡ k + suc j = omega arith in ap x e ∙ h (suc j))))
 
   abbrev rest_of : Affine → ℤ
-  rest_of f = products n 0 (λ j. at f (place.Symbol j)) values +ℤ at f place.Constant
+  rest_of f = products n 0 (λ j. number_of_place f (place.Symbol j)) values +ℤ number_of_place f place.Constant
 
   number-listed : (f : Affine) (is : List ℕ) → length is ≤ 7 → Number (at_loops (map pos is)) f ≡ weighted_from f 0 is +ℤ rest_of f
   number-listed f is l = ap (λ z. z +ℤ rest_of f) (products-listed 7 0 f is (at_loops (map pos is)) l (λ i. (let e : 0 + i ≡ i = omega arith in ap (at_loops (map pos is)) e)))
 
   number-loopless : (F : ℕ → ℤ) (f : Affine) → Number F (without_loops f) ≡ rest_of f
   number-loopless F f =
-      ap (λ z. z +ℤ rest_of f) (products-alike 7 0 (λ k. at (without_loops f) (place.Loop k)) (λ k. pos 0) F (λ k m. zero_at k) ∙ products-zero 7 0 F) ∙ zeros (rest_of f)
+      ap (λ z. z +ℤ rest_of f) (products-alike 7 0 (λ k. number_of_place (without_loops f) (place.Loop k)) (λ k. pos 0) F (λ k m. zero_at k) ∙ products-zero 7 0 F) ∙ zeros (rest_of f)
     where
       zeros : (z : ℤ) → pos 0 +ℤ z ≡ z
       zeros z = omega (arith, ints)
@@ -325,13 +325,13 @@ module _ (n : ℕ) (values : ℕ → ℤ) where
 
   combined-bare : (K : ℕ) (F : ℕ → ℤ) (f : Affine) (k : ℕ) (ts : List Trip) (es : List ℤ) → Stand K F k ts es → (j : ℕ) → K ≤ j → j < 7
       → Rattle.last_values.specs.normal_forms.Combinations.combined_at (greatest_from k f ts ++ times (pos 1) (without_loops f) ∷ []) (place.Loop j) ≡ pos 0
-  combined-bare K F f k [] [] h j l m = zero-sum (pos 1 *ℤ at (without_loops f) (place.Loop j)) (pos 0) (ap (λ z. pos 1 *ℤ z) (zero_at j)) refl
+  combined-bare K F f k [] [] h j l m = zero-sum (pos 1 *ℤ number_of_place (without_loops f) (place.Loop j)) (pos 0) (ap (λ z. pos 1 *ℤ z) (zero_at j)) refl
   combined-bare K F f k [] (e ∷ es) h j l m = absurd h
   combined-bare K F f k (t ∷ ts) [] h j l m = absurd h
   combined-bare K F f k (t ∷ ts) (e ∷ es) h j l m =
-      zero-sum ((greatest (at f (place.Loop k)) k t).times *ℤ at (greatest (at f (place.Loop k)) k t).form (place.Loop j))
+      zero-sum ((greatest (number_of_place f (place.Loop k)) k t).times *ℤ number_of_place (greatest (number_of_place f (place.Loop k)) k t).form (place.Loop j))
       (Rattle.last_values.specs.normal_forms.Combinations.combined_at (greatest_from (k + 1) f ts ++ times (pos 1) (without_loops f) ∷ []) (place.Loop j))
-      (ap (λ z. (greatest (at f (place.Loop k)) k t).times *ℤ z) (greatest-bare K (at f (place.Loop k)) k t h.1 j l m) ∙ *ℤ-zero (greatest (at f (place.Loop k)) k t).times)
+      (ap (λ z. (greatest (number_of_place f (place.Loop k)) k t).times *ℤ z) (greatest-bare K (number_of_place f (place.Loop k)) k t h.1 j l m) ∙ *ℤ-zero (greatest (number_of_place f (place.Loop k)) k t).times)
       (combined-bare K F f (k + 1) ts es h.2 j l m)
 
   form-bare : (K : ℕ) (F : ℕ → ℤ) (f a : Affine) (ts : List Trip) (es : List ℤ) → Stand K F 0 ts es → combination n (greatest_from 0 f ts ++ times (pos 1) (without_loops f) ∷ []) ≡ Some a → Bare K a
@@ -356,14 +356,14 @@ module _ (n : ℕ) (values : ℕ → ℤ) where
       let same : k + suc (length es) ≡ (k + 1) + length es = omega arith in
       (h.0, h.1, stand-last K F (k + 1) ts es t e (subst (λ m. Number F (extent_form m t) ≡ e) same g) (subst (λ m. Bare K (extent_form m t)) same b) h.2)
 
-  at-before : (es : List ℤ) (e : ℤ) (j : ℕ) → j < length es → at_loops es j ≡ at_loops (es ++ e ∷ []) j
-  at-before [] e j h = absurd (omega (arith, h))
-  at-before (x ∷ es) e zero h = refl
-  at-before (x ∷ es) e (suc j) h = at-before es e j (omega (arith, h))
+  number_of_place-before : (es : List ℤ) (e : ℤ) (j : ℕ) → j < length es → at_loops es j ≡ at_loops (es ++ e ∷ []) j
+  number_of_place-before [] e j h = absurd (omega (arith, h))
+  number_of_place-before (x ∷ es) e zero h = refl
+  number_of_place-before (x ∷ es) e (suc j) h = number_of_place-before es e j (omega (arith, h))
 
-  at-last : (es : List ℤ) (e : ℤ) → at_loops (es ++ e ∷ []) (length es) ≡ e
-  at-last [] e = refl
-  at-last (x ∷ es) e = at-last es e
+  number_of_place-last : (es : List ℤ) (e : ℤ) → at_loops (es ++ e ∷ []) (length es) ≡ e
+  number_of_place-last [] e = refl
+  number_of_place-last (x ∷ es) e = number_of_place-last es e
 
   numbers-last : (zs : List ℤ) (ts : List Trip) (t : Trip) → numbers_under n values zs (ts ++ t ∷ []) ≡ numbers_under n values zs ts ++ number_under n values (numbers_under n values zs ts) t ∷ []
   numbers-last zs [] t = refl
@@ -398,10 +398,10 @@ module _ (n : ℕ) (values : ℕ → ℤ) where
       by : (b : Bool) → is_undivided e ≡ b → (Number (at_loops (es ++ num ∷ [])) (cond b e.top (loop_form (length es))) ≡ num) × Bare (suc (length es)) (cond b e.top (loop_form (length es)))
       by true f =
           let one = (Decides-int_eq e.by (pos 1)).0 f in (
-            sym (number-alike (length es) (at_loops es) (at_loops (es ++ num ∷ [])) e.top bare (at-before es num)) ∙ sym (ap (int_div (Number (at_loops es) e.top)) one ∙ by_one (Number (at_loops es) e.top)),
+            sym (number-alike (length es) (at_loops es) (at_loops (es ++ num ∷ [])) e.top bare (number_of_place-before es num)) ∙ sym (ap (int_div (Number (at_loops es) e.top)) one ∙ by_one (Number (at_loops es) e.top)),
             λ j l m. bare j (omega (arith, l)) m,
           )
-      by false f = (number-loop (at_loops (es ++ num ∷ [])) (length es) few ∙ at-last es num, λ j l m. one-zero (length es) j l)
+      by false f = (number-loop (at_loops (es ++ num ∷ [])) (length es) few ∙ number_of_place-last es num, λ j l m. one-zero (length es) j l)
 
   -- ---- all loops
 
@@ -446,7 +446,7 @@ module _ (n : ℕ) (values : ℕ → ℤ) where
           let place = in-place es (trip_of a trip.by) short (bare_trip (length es) a trip.by (form-bare (length es) (at_loops es) trip.top a ts es stand f)) in
           let none : length es ≡ 0 + length es = omega arith in
           stand-last (suc (length es)) (at_loops (es ++ num ∷ [])) 0 ts es (trip_of a trip.by) num (subst (λ m. Number (at_loops (es ++ num ∷ [])) (extent_form m (trip_of a trip.by)) ≡ num) none place.0) (subst (λ m. Bare (suc (length es)) (extent_form m (trip_of a trip.by))) none place.1)
-          (stand-more (length es) (suc (length es)) (at_loops es) (at_loops (es ++ num ∷ [])) 0 ts es (omega arith) (at-before es num) stand)
+          (stand-more (length es) (suc (length es)) (at_loops es) (at_loops (es ++ num ∷ [])) 0 ts es (omega arith) (number_of_place-before es num) stand)
 
       above : (a : Affine) → Form a → pos i ≤ℤ number_under n values es (trip_of a trip.by)
       above a f =
@@ -498,9 +498,9 @@ module _ (n : ℕ) (values : ℕ → ℤ) where
     pub divisors : have_divisors ts ≡ true
     pub under : extents_under n [] ts ≡ Some es
 
-  pub extents_found : (ts es : List Trip) → extents_of n ts ≡ Some es → Found ts es
-  unfolding extents_of
-  extents_found ts es e = by (are_counted ts && are_within n ts) refl e
+  pub extents_found : (ts es : List Trip) → extents_of_trips n ts ≡ Some es → Found ts es
+  unfolding extents_of_trips
+  extents_found ts es e = by (are_counted ts && sizes_fit n ts) refl e
     where
       chosen : (o : Option (List Trip)) → extents_under n [] ts ≡ o → (o >>= if_few) ≡ Some es → extents_under n [] ts ≡ Some es
       chosen None f g = cc
@@ -510,9 +510,9 @@ module _ (n : ℕ) (values : ℕ → ℤ) where
           few true h = f ∙ h
           few false h = cc
 
-      by : (b : Bool) → (are_counted ts && are_within n ts) ≡ b → cond b (extents_under n [] ts >>= if_few) None ≡ Some es → Found ts es
+      by : (b : Bool) → (are_counted ts && sizes_fit n ts) ≡ b → cond b (extents_under n [] ts >>= if_few) None ≡ Some es → Found ts es
       by true f g =
-          let c = both (are_counted ts) (are_within n ts) f in
+          let c = both (are_counted ts) (sizes_fit n ts) f in
           let d = both (nat_le (length ts) array_dimensions) (have_divisors ts) c.0 in
           record { few = leb-true (length ts) array_dimensions d.0; divisors = d.1; under = chosen (extents_under n [] ts) refl g }
       by false f g = cc
@@ -521,7 +521,7 @@ module _ (n : ℕ) (values : ℕ → ℤ) where
   length-round [] = refl
   length-round (l ∷ ls) = ap suc (length-round ls)
 
-  pub extents_cover : (first : ℤ) → first ≤ℤ pos 1 → (p : Private) (ls : List Loop) (is : List ℕ) → extents_of n (trips_of (map round_loop ls)) ≡ Some p.extents → AreTurns turns [] ls is → is_within (limits_of n values first p) (numbers is) ≡ true
+  pub extents_cover : (first : ℤ) → first ≤ℤ pos 1 → (p : Private) (ls : List Loop) (is : List ℕ) → extents_of_trips n (trips_of (map round_loop ls)) ≡ Some p.extents → AreTurns turns [] ls is → is_within (limits_of n values first p) (numbers is) ≡ true
   extents_cover first front p ls is e h =
       let f = extents_found (trips_of (map round_loop ls)) p.extents e in
       let same = length-round ls in
@@ -534,4 +534,4 @@ covered m values first front p i ls same is h =
     let known = in_privates m (names_written [] (nest_statements m)) p i in
     let f = has_first m p.name p (nest_statements m) known in
     let b = first_begins m p.name p f.before f.standing f.behind (ap (Rattle.scalar_expand.specs.Privates.private_among m p.name) (sym f.splits) ∙ known) f.none f.stands in
-    extents_cover (length m.symbols) values first front p ls is (ap (λ ks. extents_of (length m.symbols) (trips_of ks)) (sym same ∙ b.1.loops) ∙ b.1.extents) h
+    extents_cover (length m.symbols) values first front p ls is (ap (λ ks. extents_of_trips (length m.symbols) (trips_of ks)) (sym same ∙ b.1.loops) ∙ b.1.extents) h

@@ -28,7 +28,7 @@ use Rattle.last_values.specs.Scalars.{scalar}
 use Rattle.last_values.specs.normal_forms.NormalLoops.{is_positive}
 use Rattle.last_values.specs.normal_forms.Texts.{at_least_one}
 use Rattle.scalar_expand.specs.Endings.{HoldSymbols, LastValuesGoOn, TellTurns}
-use Rattle.scalar_expand.specs.Expanded.{as_expression, has_known_end, known_trip, known_trip_at, last_assignment, last_element, last_value, last_values, trip_tests}
+use Rattle.scalar_expand.specs.Expanded.{as_expression, has_known_end, trip_expression, known_trip_at, last_assignment, last_element, last_value, last_values, trip_tests}
 use Rattle.scalar_expand.specs.Flow.{AreTurns, lasts_of}
 use Rattle.scalar_expand.specs.Laws.{IsKept, own_of}
 use Rattle.scalar_expand.specs.Numbers.{turns_to}
@@ -164,13 +164,13 @@ module _ (bits : ℕ) where
         by : AreTests ls is → (b : Bool) → is_positive l.trip ≡ b → AreTests (l ∷ ls) (i ∷ is)
         by rest true e = record {
           truths = rest.truths;
-          are = subst (λ b. AreTrue u (cond b [] (at_least_one (known_trip symbols l) ∷ []) ++ trip_tests symbols ls) rest.truths) (sym e) rest.are;
+          are = subst (λ b. AreTrue u (cond b [] (at_least_one (trip_expression symbols l) ∷ []) ++ trip_tests symbols ls) rest.truths) (sym e) rest.are;
           all = rest.all ∙ ap (λ b. b && all_turn is) (sym (turn_of i (h.1 e)));
         }
         by rest false e = record {
           truths = has_turn i ∷ rest.truths;
-          are = subst (λ b. AreTrue u (cond b [] (at_least_one (known_trip symbols l) ∷ []) ++ trip_tests symbols ls) (has_turn i ∷ rest.truths)) (sym e)
-              (at_least_value u (known_trip symbols l) h.0.0 h.0.1 ∙ ap (λ k. Ok (Truth (has_turn k))) h.0.2, rest.are);
+          are = subst (λ b. AreTrue u (cond b [] (at_least_one (trip_expression symbols l) ∷ []) ++ trip_tests symbols ls) (has_turn i ∷ rest.truths)) (sym e)
+              (at_least_value u (trip_expression symbols l) h.0.0 h.0.1 ∙ ap (λ k. Ok (Truth (has_turn k))) h.0.2, rest.are);
           all = ap (λ b. has_turn i && b) rest.all;
         }
 

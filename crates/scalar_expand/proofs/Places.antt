@@ -13,7 +13,7 @@ use Rattle.meaning.specs.Value.{value_of, subscript_value, subscript_values, cel
 use Rattle.rewrite.specs.Following.{sequential}
 use Rattle.nest_steps.specs.Statements.{cell_of}
 use Rattle.nest_order.proofs.runs.Variables.{place_of}
-use Rattle.scalar_expand.specs.Expanded.{as_expression, element, variable}
+use Rattle.scalar_expand.specs.Expanded.{as_expression, element, loop_subscript}
 use Rattle.scalar_expand.specs.Stores.{AreTurned, element_cell, numbers}
 use Rattle.scalar_expand.specs.declared.privates.Private.{Private}
 use Rattle.scalar_expand.specs.declared.privates.RoundLoop.{RoundLoop}
@@ -22,16 +22,16 @@ module _ (bits : ℕ) (u : Store) where
   scalar_value : (x : List ℕ) (v : Value) → u.bounds x ≡ Some [] → u.held (cell_of x) ≡ v → value_of (sequential bits) (Named x no_subscripts) u ≡ Ok v
   scalar_value x v b h = ap (λ (r : Result Cell Fault). do c ← r; Ok (u.held c)) (place_of x u b) ∙ ap Ok h
 
-  one_value : (l : RoundLoop) (i : ℕ) → u.bounds l.variable ≡ Some [] → u.held (cell_of l.variable) ≡ Int (pos i) → subscript_value (sequential bits) (variable l) u ≡ Ok (pos i)
+  one_value : (l : RoundLoop) (i : ℕ) → u.bounds l.variable ≡ Some [] → u.held (cell_of l.variable) ≡ Int (pos i) → subscript_value (sequential bits) (loop_subscript l) u ≡ Ok (pos i)
   one_value l i b h = ap (λ (r : Result Value Fault). do v ← r; as_number v) (scalar_value l.variable (Int (pos i)) b h)
 
   values_onto : (ls : List RoundLoop) (is : List ℕ) (qs : List Subscript) (zs : List ℤ) → AreTurned ls is u → subscript_values (sequential bits) (subscripts qs) u ≡ Ok zs
-      → subscript_values (sequential bits) (subscripts (reverse_aux (map variable ls) qs)) u ≡ Ok (reverse_aux (map pos is) zs)
+      → subscript_values (sequential bits) (subscripts (reverse_aux (map loop_subscript ls) qs)) u ≡ Ok (reverse_aux (map pos is) zs)
   values_onto [] [] qs zs h e = e
   values_onto [] (i ∷ is) qs zs h e = absurd h
   values_onto (l ∷ ls) [] qs zs h e = absurd h
   values_onto (l ∷ ls) (i ∷ is) qs zs h e =
-      values_onto ls is (variable l ∷ qs) (pos i ∷ zs) h.2
+      values_onto ls is (loop_subscript l ∷ qs) (pos i ∷ zs) h.2
       (ap₂ (λ (r : Result ℤ Fault) (q : Result (List ℤ) Fault). do z ← r; ys ← q; Ok (z ∷ ys)) (one_value l i h.0 h.1) e)
 
   -- the subscripts of an element have the iterations as their values

@@ -16,8 +16,8 @@ use Rattle.nest_order.specs.orders.Lists.{In}
 use Rattle.nest_order.specs.runs.Guarded.{names_of_guard}
 use Rattle.last_values.specs.Occurrences.{stands_in, stands_in_guard, stands_in_left, stands_in_statement}
 use Rattle.last_values.specs.normal_forms.Steps.{◌>>=◌}
-use Rattle.scalar_expand.specs.Extents.{extents_of}
-use Rattle.scalar_expand.specs.Privates.{are_same_loops, array_name, begins_anew, begun_by, has_no_guard, over_loops, private_among, round_loop, scalar_kind, stands_only_in, trips_of}
+use Rattle.scalar_expand.specs.Extents.{extents_of_trips}
+use Rattle.scalar_expand.specs.Privates.{are_same_loops, expanded_name, begins_anew, begun_by, has_no_guard, private_over, private_among, round_loop, scalar_kind, stands_only_in, trips_of}
 use Rattle.scalar_expand.specs.declared.privates.Private.{Private}
 use Rattle.scalar_expand.specs.declared.privates.RoundLoop.{RoundLoop}
 
@@ -98,23 +98,23 @@ same_numbers (l ∷ ls) (k ∷ ks) e =
 
 pub record Over (m : Nest) (x : List ℕ) (ls : List RoundLoop) (p : Private) : Type 0 where
   pub name : p.name ≡ x
-  pub array : p.array ≡ array_name m.number x
+  pub array : p.array ≡ expanded_name m.number x
   pub loops : p.loops ≡ ls
   pub kind : scalar_kind m x ≡ Some p.kind
-  pub extents : extents_of (Rattle.std.specs.Prelude.length m.symbols) (trips_of ls) ≡ Some p.extents
+  pub extents : extents_of_trips (Rattle.std.specs.Prelude.length m.symbols) (trips_of ls) ≡ Some p.extents
 
-over : (m : Nest) (x : List ℕ) (ls : List RoundLoop) (p : Private) → over_loops m x ls ≡ Some p → Over m x ls p
-over m x ls p e = by (scalar_kind m x) refl (extents_of (Rattle.std.specs.Prelude.length m.symbols) (trips_of ls)) refl e
+over : (m : Nest) (x : List ℕ) (ls : List RoundLoop) (p : Private) → private_over m x ls ≡ Some p → Over m x ls p
+over m x ls p e = by (scalar_kind m x) refl (extents_of_trips (Rattle.std.specs.Prelude.length m.symbols) (trips_of ls)) refl e
   where
-    by : (k : Option Kind) → scalar_kind m x ≡ k → (o : Option (List Trip)) → extents_of (Rattle.std.specs.Prelude.length m.symbols) (trips_of ls) ≡ o
-        → (do kind ← k; extents ← o; let r : Option Private = Some (record { name = x; array = array_name m.number x; kind = kind; loops = ls; extents = extents }) in r) ≡ Some p → Over m x ls p
+    by : (k : Option Kind) → scalar_kind m x ≡ k → (o : Option (List Trip)) → extents_of_trips (Rattle.std.specs.Prelude.length m.symbols) (trips_of ls) ≡ o
+        → (do kind ← k; extents ← o; let r : Option Private = Some (record { name = x; array = expanded_name m.number x; kind = kind; loops = ls; extents = extents }) in r) ≡ Some p → Over m x ls p
     by None f o g h = cc
     by (Some k) f None g h = cc
     by (Some k) f (Some es) g h =
-        let same : record { name = x; array = array_name m.number x; kind = k; loops = ls; extents = es } ≡ p = some p h in
+        let same : record { name = x; array = expanded_name m.number x; kind = k; loops = ls; extents = es } ≡ p = some p h in
         subst (Over m x ls) same (record { name = refl; array = refl; loops = refl; kind = f; extents = g })
       where
-        some : (p : Private) → Some (record { name = x; array = array_name m.number x; kind = k; loops = ls; extents = es }) ≡ Some p → record { name = x; array = array_name m.number x; kind = k; loops = ls; extents = es } ≡ p
+        some : (p : Private) → Some (record { name = x; array = expanded_name m.number x; kind = k; loops = ls; extents = es }) ≡ Some p → record { name = x; array = expanded_name m.number x; kind = k; loops = ls; extents = es } ≡ p
         some p h = cc
 
 abbrev pub Stands : List ℕ → Standing → Type 0
@@ -131,7 +131,7 @@ module _ (m : Nest) (x : List ℕ) (p : Private) where
   begun : (s : Standing) (ss : List Standing) → begun_by m x s ss ≡ Some p → (begins_anew x s.statement ≡ true) × (list_all (stands_only_in x s.loops) ss ≡ true) × Over m x (map round_loop s.loops) p
   begun s ss e = by (begins_anew x s.statement) refl (list_all (stands_only_in x s.loops) ss) refl e
     where
-      by : (a : Bool) → begins_anew x s.statement ≡ a → (b : Bool) → list_all (stands_only_in x s.loops) ss ≡ b → cond (a && b) (over_loops m x (map round_loop s.loops)) None ≡ Some p
+      by : (a : Bool) → begins_anew x s.statement ≡ a → (b : Bool) → list_all (stands_only_in x s.loops) ss ≡ b → cond (a && b) (private_over m x (map round_loop s.loops)) None ≡ Some p
           → (begins_anew x s.statement ≡ true) × (list_all (stands_only_in x s.loops) ss ≡ true) × Over m x (map round_loop s.loops) p
       by true f true g h = (f, g, over m x (map round_loop s.loops) p h)
       by true f false g h = cc

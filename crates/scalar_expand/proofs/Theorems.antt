@@ -14,9 +14,9 @@ use Rattle.std.proofs.lemmas.List.{append-nil}
 use Rattle.nest_steps.specs.Leading.{Led}
 use Rattle.nest_steps.proofs.Acts.{Leads-from, Leads-to}
 use Rattle.nest_steps.proofs.Mapped.{wide_enough}
-use Rattle.scalar_expand.specs.Expanded.{declared_privates, expanded, expanded_part, expanding, named_private, with_arrays}
+use Rattle.scalar_expand.specs.Expanded.{declared_privates, expanded, expanded_part, expanding, named_private, with_made_arrays}
 use Rattle.scalar_expand.specs.Flow.{Flows}
-use Rattle.scalar_expand.specs.Privates.{names_written, or_none, private_among, private_scalar, private_scalars, privates_named}
+use Rattle.scalar_expand.specs.Privates.{names_written, private_or_none, private_among, private_scalar, private_scalars, privates_named}
 use Rattle.scalar_expand.specs.Laws.{AreAlike, ExpandedLoopGoesOn, ExpandedNestGoesOn, IsExpandable, IsKept, own_of}
 use Rattle.scalar_expand.specs.Stores.{AreSo, Begun, all_at}
 use Rattle.scalar_expand.specs.declared.privates.Private.{Private}
@@ -83,7 +83,7 @@ in_privates m (x ∷ xs) p i = by (private_scalar m x) refl i (λ j. in_privates
         let o = first_begins m x r f.before f.standing f.behind (ap (private_among m x) (sym f.splits) ∙ e) f.none f.stands in
         ap (private_scalar m) o.1.name ∙ e
 
-    by : (o : Option Private) → private_scalar m x ≡ o → In p (or_none o ++ privates_named m xs) → (In p (privates_named m xs) → private_scalar m p.name ≡ Some p) → private_scalar m p.name ≡ Some p
+    by : (o : Option Private) → private_scalar m x ≡ o → In p (private_or_none o ++ privates_named m xs) → (In p (privates_named m xs) → private_scalar m p.name ≡ Some p) → private_scalar m p.name ≡ Some p
     by None e j r = r j
     by (Some q) e (inl f) r = subst (λ (t : Private). private_scalar m t.name ≡ Some t) (sym f) (one q e)
     by (Some q) e (inr j) r = r j
@@ -92,7 +92,7 @@ pub in_declared : (ps : List Private) (ds : List Declaration) (p : Private) → 
 in_declared ps [] p i = absurd i
 in_declared ps (d ∷ ds) p i = by (named_private ps d.name) refl i (λ j. in_declared ps ds p j)
   where
-    by : (o : Option Private) → named_private ps d.name ≡ o → In p (or_none o ++ declared_privates ps ds) → (In p (declared_privates ps ds) → In p ps) → In p ps
+    by : (o : Option Private) → named_private ps d.name ≡ o → In p (private_or_none o ++ declared_privates ps ds) → (In p (declared_privates ps ds) → In p ps) → In p ps
     by None e j r = r j
     by (Some q) e (inl f) r = subst (λ (t : Private). In t ps) (sym f) (found ps d.name q e).0
     by (Some q) e (inr j) r = r j
@@ -106,7 +106,7 @@ nest_flow bits m limits lasts counters value trip is =
     (b.after, b.behind, b.flows)
 
 expanded-body : (m : Nest) → (expanded m).body ≡ expanded_part m.line (expanding (private_scalars m)) (own_of m) m.body
-unfolding with_arrays with_parts
+unfolding with_made_arrays with_parts
 expanded-body m = refl
 
 pub expanded_nest_goes_on : ExpandedNestGoesOn

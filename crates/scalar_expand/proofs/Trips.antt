@@ -7,7 +7,7 @@ use Rattle.nest.specs.Plain.{Loop}
 use Rattle.nest_order.specs.orders.Lists.{In}
 use Rattle.subscripts.specs.declared.affine.Affine.{Affine}
 use Rattle.last_values.specs.declared.normal_forms.places.Place.TheVariants as place
-use Rattle.last_values.specs.normal_forms.Combinations.{at}
+use Rattle.last_values.specs.normal_forms.Combinations.{number_of_place}
 use Rattle.last_values.specs.normal_forms.NormalLoops.{has_no_loops}
 use Rattle.last_values.specs.normal_forms.Numbers.{number_of_form, products}
 use Rattle.last_values.proofs.NormalForms.Numbers.{products-alike, products-zero}
@@ -28,12 +28,12 @@ each_plain (o ∷ ls) h l (inl e) =
 each_plain (o ∷ ls) h l (inr i) = each_plain ls (both (plain (round_loop o)) (list_all plain (map round_loop ls)) h).1 l i
 
 module _ (n : ℕ) (values : ℕ → ℤ) where
-  no_loops : (F : ℕ → ℤ) (a : Affine) → has_no_loops a ≡ true → products 7 0 (λ k. at a (place.Loop k)) F ≡ pos 0
-  no_loops F a h = products-alike 7 0 (λ k. at a (place.Loop k)) (λ k. pos 0) F (λ k m. loops_zero a.loops k h) ∙ products-zero 7 0 F
+  no_loops : (F : ℕ → ℤ) (a : Affine) → has_no_loops a ≡ true → products 7 0 (λ k. number_of_place a (place.Loop k)) F ≡ pos 0
+  no_loops F a h = products-alike 7 0 (λ k. number_of_place a (place.Loop k)) (λ k. pos 0) F (λ k m. loops_zero a.loops k h) ∙ products-zero 7 0 F
 
   stays : (F G : ℕ → ℤ) (a : Affine) → has_no_loops a ≡ true → number_of_form n F values a ≡ number_of_form n G values a
   stays F G a h =
-      ap (λ z. z +ℤ (products n 0 (λ j. at a (place.Symbol j)) values +ℤ at a place.Constant)) (no_loops F a h ∙ sym (no_loops G a h))
+      ap (λ z. z +ℤ (products n 0 (λ j. number_of_place a (place.Symbol j)) values +ℤ number_of_place a place.Constant)) (no_loops F a h ∙ sym (no_loops G a h))
 
   ends-are : (done : List ℕ) (ls : List Loop) → ends_under n values done (map round_loop ls) ≡ lasts_of (trip_at n values) done ls
   ends-are done [] = refl

@@ -9,8 +9,8 @@ use Rattle.nest.specs.Plain.{Loop, Made, Nest, Part, Run, Turns, no_parts, part}
 use Rattle.nest_rewrite.specs.Assembled.{with_parts}
 use Rattle.last_values.specs.normal_forms.Combinations.{combination}
 use Rattle.last_values.specs.normal_forms.Texts.{trip_text}
-use Rattle.scalar_expand.specs.Expanded.{expanded, with_arrays}
-use Rattle.scalar_expand.specs.Extents.{extent_under, extents_of, greatest, greatest_size, size_under, sized}
+use Rattle.scalar_expand.specs.Expanded.{expanded, with_made_arrays}
+use Rattle.scalar_expand.specs.Extents.{extent_under, extents_of_trips, greatest, greatest_size, size_under, sized}
 
 name : List ℕ → Expression
 name x = Named x no_subscripts
@@ -91,7 +91,7 @@ expanded-pair : expanded pair ≡ nest []
     (part (assigned 4 (place (codes "A") (name outer)) (Binary Mul (item array (name outer)) (Number (pos 2)))) no_parts)))
     (record { name = array; kind = Integer; extents = Number (pos 10) ∷ [] } ∷ [])
     (statement (Assignment 2 None (whole (codes "T")) (item array (Number (pos 10)))) no_statements)
-unfolding with_arrays with_parts extents_of extent_under size_under greatest greatest_size sized combination trip_text name item place whole assigned form none first counting declared nest outer inner array pair
+unfolding with_made_arrays with_parts extents_of_trips extent_under size_under greatest greatest_size sized combination trip_text name item place whole assigned form none first counting declared nest outer inner array pair
 expanded-pair = refl
 
 at-both : Subscripts
@@ -115,5 +115,5 @@ expanded-triangle : expanded triangle ≡ nest (codes "N" ∷ [])
     (part (assigned 2 (whole (codes "T")) (Named array at-both)) no_parts)))) no_parts))
     (record { name = array; kind = Integer; extents = name (codes "N") ∷ name (codes "N") ∷ [] } ∷ [])
     no_statements
-unfolding with_arrays with_parts extents_of extent_under size_under greatest greatest_size sized combination trip_text name item place whole assigned form none first counting declared nest outer inner array at-both triangle
+unfolding with_made_arrays with_parts extents_of_trips extent_under size_under greatest greatest_size sized combination trip_text name item place whole assigned form none first counting declared nest outer inner array at-both triangle
 expanded-triangle = refl

@@ -11,7 +11,7 @@ use Rattle.nest_order.specs.orders.Lists.{In}
 use Rattle.nest_steps.specs.Leading.{Led}
 use Rattle.nest_steps.specs.Statements.{cell_of}
 use Rattle.last_values.specs.normal_forms.NormalLoops.{is_positive}
-use Rattle.scalar_expand.specs.Expanded.{has_known_end, known_trip, last_values}
+use Rattle.scalar_expand.specs.Expanded.{has_known_end, trip_expression, last_values}
 use Rattle.scalar_expand.specs.Laws.{AreAlike, IsExpandable, own_of}
 use Rattle.scalar_expand.specs.Numbers.{turns_to}
 use Rattle.scalar_expand.specs.Privates.{private_scalars}
@@ -25,7 +25,7 @@ TellTurns bits symbols u [] [] = ⊤
 TellTurns bits symbols u [] (i ∷ is) = ⊥
 TellTurns bits symbols u (l ∷ ls) [] = ⊥
 TellTurns bits symbols u (l ∷ ls) (i ∷ is) =
-    ((z : ℤ) × (value_of (sequential bits) (known_trip symbols l) u ≡ Ok (Int z)) × (turns_to z ≡ i))
+    ((z : ℤ) × (value_of (sequential bits) (trip_expression symbols l) u ≡ Ok (Int z)) × (turns_to z ≡ i))
     × (is_positive l.trip ≡ true → 1 ≤ i) × TellTurns bits symbols u ls is
 
 abbrev pub HoldSymbols : List (List ℕ) → (List ℕ → ℤ) → Store → Type 0

@@ -8,36 +8,35 @@ use Rattle.tree.specs.Plain.{Declaration, Expression, Named, Only, Reference, St
 use Rattle.tree.specs.Plain.{Subscript, Subscripts, block, no_subscripts, subscript, subscripts}
 use Rattle.rewrite.specs.Making.{Making}
 use Rattle.nest.specs.Allocations.{block_then}
-use Rattle.nest.specs.Plain.{Guarded, Made, Nest, Part, Run, Turns, Choice, Label, Jump}
-use Rattle.nest.specs.Plain.{Parts, no_parts, part, parts}
+use Rattle.nest.specs.Plain.{Guarded, Made, Nest, Part, Run, Turns, Choice, Label, Jump, Parts, no_parts, part, parts}
 use Rattle.nest_rewrite.specs.Assembled.{with_parts}
 use Rattle.nest_rewrite.specs.Statements.{rewritten_statement}
 use Rattle.last_values.specs.Endings.{where_all_hold}
 use Rattle.last_values.specs.Scalars.{scalar}
 use Rattle.last_values.specs.normal_forms.NormalLoops.{has_no_loops, is_positive}
 use Rattle.last_values.specs.normal_forms.Texts.{at_least_one, trip_text}
-use Rattle.scalar_expand.specs.Privates.{or_none, private_scalars}
+use Rattle.scalar_expand.specs.Privates.{private_or_none, private_scalars}
 use Rattle.scalar_expand.specs.Texts.{extent_texts}
 use Rattle.scalar_expand.specs.declared.privates.Private.{Private}
 use Rattle.scalar_expand.specs.declared.privates.RoundLoop.{RoundLoop}
 
-abbrev pub begins_with : List ℕ → List ℕ → Bool
-begins_with [] ys = true
-begins_with (x ∷ xs) [] = false
-begins_with (x ∷ xs) (y ∷ ys) = x == y && begins_with xs ys
+abbrev pub has_prefix : List ℕ → List ℕ → Bool
+has_prefix [] ys = true
+has_prefix (x ∷ xs) [] = false
+has_prefix (x ∷ xs) (y ∷ ys) = x == y && has_prefix xs ys
 
 -- masks have numbers, in whose order they stand
 abbrev pub is_mask : List ℕ → Bool
-is_mask x = begins_with (codes "FV_MASK_") x
+is_mask x = has_prefix (codes "FV_MASK_") x
 
 -- ---- elements
 
-abbrev pub variable : RoundLoop → Subscript
-variable l = Only (Named l.variable no_subscripts)
+abbrev pub loop_subscript : RoundLoop → Subscript
+loop_subscript l = Only (Named l.variable no_subscripts)
 
 -- the element of the iteration at hand, by the variables of the loops, the innermost one first
 abbrev pub element : Private → Reference
-element p = record { name = p.array; subscripts = subscripts (reverse (map variable p.loops)) }
+element p = record { name = p.array; subscripts = subscripts (reverse (map loop_subscript p.loops)) }
 
 abbrev pub named_private : List Private → List ℕ → Option Private
 named_private [] x = None
@@ -110,15 +109,15 @@ module _ (line : ℕ) where
 -- ---- behind all loops
 
 module _ (symbols : List (List ℕ)) where
-  abbrev pub known_trip : RoundLoop → Expression
-  known_trip l = trip_text [] symbols [] l.trip
+  abbrev pub trip_expression : RoundLoop → Expression
+  trip_expression l = trip_text [] symbols [] l.trip
 
   abbrev pub known_trip_at : RoundLoop → Subscript
-  known_trip_at l = Only (known_trip l)
+  known_trip_at l = Only (trip_expression l)
 
   -- a loop that may have no turn has one
   abbrev pub trip_test : RoundLoop → List Expression
-  trip_test l = if is_positive l.trip then [] else at_least_one (known_trip l) ∷ []
+  trip_test l = if is_positive l.trip then [] else at_least_one (trip_expression l) ∷ []
 
   abbrev pub trip_tests : List RoundLoop → List Expression
   trip_tests [] = []
@@ -168,12 +167,12 @@ module _ (symbols : List (List ℕ)) where
 -- those that the program declares, in byte order as their declarations stand
 abbrev pub declared_privates : List Private → List Declaration → List Private
 declared_privates ps [] = []
-declared_privates ps (d ∷ ds) = or_none (named_private ps d.name) ++ declared_privates ps ds
+declared_privates ps (d ∷ ds) = private_or_none (named_private ps d.name) ++ declared_privates ps ds
 
 -- A nest of loops and statements with these private scalars as arrays. Those that the program declares keep their last
 -- values: behind all loops where the last iteration is known, else at the end of each turn
-unfoldable pub with_arrays : Nest → List Private → Nest
-with_arrays m ps =
+unfoldable pub with_made_arrays : Nest → List Private → Nest
+with_made_arrays m ps =
     let own = declared_privates ps m.declarations in
     with_parts m (expanded_part m.line (expanding ps) own m.body)
     (made_before m.symbols ps m.made ++ made_now m.symbols ps)
@@ -181,4 +180,4 @@ with_arrays m ps =
 
 -- each private scalar of the nest as an array
 abbrev pub expanded : Nest → Nest
-expanded m = with_arrays m (private_scalars m)
+expanded m = with_made_arrays m (private_scalars m)

@@ -14,7 +14,7 @@ use Rattle.indexmap.specs.IndexSet.{insert_key}
 use Rattle.last_values.specs.Occurrences.{stands_in, stands_in_statement}
 use Rattle.last_values.specs.normal_forms.Combinations.{number_form}
 use Rattle.last_values.specs.normal_forms.Steps.{◌>>=◌}
-use Rattle.scalar_expand.specs.Extents.{extents_of}
+use Rattle.scalar_expand.specs.Extents.{extents_of_trips}
 use Rattle.scalar_expand.specs.declared.privates.Private.{Private}
 use Rattle.scalar_expand.specs.declared.privates.RoundLoop.{RoundLoop}
 
@@ -28,8 +28,8 @@ abbrev pub number_behind : ℕ → List ℕ
 number_behind n = if n == 1 then [] else codes "_" ++ decimal n
 
 -- the array for a scalar of the n-th nest of a program; a name that a pass has made stays
-abbrev pub array_name : ℕ → List ℕ → List ℕ
-array_name n x = if is_source x then (codes "FV_EXP_" ++ x) ++ number_behind n else x
+abbrev pub expanded_name : ℕ → List ℕ → List ℕ
+expanded_name n x = if is_source x then (codes "FV_EXP_" ++ x) ++ number_behind n else x
 
 -- ---- kinds
 
@@ -38,13 +38,13 @@ kind_of_scalar (Given []) k = Some k
 kind_of_scalar (Given (b ∷ bs)) k = None
 kind_of_scalar (Later n) k = None
 
-abbrev pub kind_if_scalar : List Expression → Kind → Option Kind
-kind_if_scalar [] k = Some k
-kind_if_scalar (e ∷ es) k = None
+abbrev pub kind_if_bare : List Expression → Kind → Option Kind
+kind_if_bare [] k = Some k
+kind_if_bare (e ∷ es) k = None
 
 abbrev pub made_kind : List Made → List ℕ → Option Kind
 made_kind [] x = None
-made_kind (a ∷ as') x = if bytes_eq a.name x then kind_if_scalar a.extents a.kind else made_kind as' x
+made_kind (a ∷ as') x = if bytes_eq a.name x then kind_if_bare a.extents a.kind else made_kind as' x
 
 -- the kind of a declared name, where it is that of a scalar; of one that isn't declared the other one
 abbrev pub declared_kind : List Declaration → Option Kind → List ℕ → Option Kind
@@ -90,16 +90,16 @@ abbrev pub stands_only_in : List ℕ → List Loop → Standing → Bool
 stands_only_in x ls s = not (stands_in_statement x s.statement) || are_same_loops s.loops ls
 
 -- the scalar x of this kind with an array over these loops
-abbrev pub over_loops : Nest → List ℕ → List RoundLoop → Option Private
-over_loops m x ls = do
+abbrev pub private_over : Nest → List ℕ → List RoundLoop → Option Private
+private_over m x ls = do
   kind ← scalar_kind m x
-  extents ← extents_of (length m.symbols) (trips_of ls)
-  Some (record { name = x; array = array_name m.number x; kind = kind; loops = ls; extents = extents })
+  extents ← extents_of_trips (length m.symbols) (trips_of ls)
+  Some (record { name = x; array = expanded_name m.number x; kind = kind; loops = ls; extents = extents })
 
 abbrev pub begun_by : Nest → List ℕ → Standing → List Standing → Option Private
 begun_by m x s ss =
     if begins_anew x s.statement && list_all (stands_only_in x s.loops) ss
-    then over_loops m x (map round_loop s.loops) else None
+    then private_over m x (map round_loop s.loops) else None
 
 -- The first of the statements in which x stands begins anew with it, and all further ones in which it stands are in the
 -- same loop's own body
@@ -111,14 +111,14 @@ private_among m x (s ∷ ss) = if stands_in_statement x s.statement then begun_b
 abbrev pub private_scalar : Nest → List ℕ → Option Private
 private_scalar m x = private_among m x (nest_statements m)
 
-abbrev pub or_none : Option Private → List Private
-or_none None = []
-or_none (Some p) = p ∷ []
+abbrev pub private_or_none : Option Private → List Private
+private_or_none None = []
+private_or_none (Some p) = p ∷ []
 
 -- those of these names that are private
 abbrev pub privates_named : Nest → List (List ℕ) → List Private
 privates_named m [] = []
-privates_named m (x ∷ xs) = or_none (private_scalar m x) ++ privates_named m xs
+privates_named m (x ∷ xs) = private_or_none (private_scalar m x) ++ privates_named m xs
 
 -- ---- in the order of the text
 

@@ -1,6 +1,5 @@
 -- What the stores of a nest and of the expanded one are to each other, place by place.
-use Rattle.std.specs.Prelude.{◌≡◌, ⊤, Some, None, ℕ, ◌≤◌, ℤ, pos, true, List, [], ◌∷◌, map}
-use Rattle.std.specs.Prelude.{reverse}
+use Rattle.std.specs.Prelude.{◌≡◌, ⊤, Some, None, ℕ, ◌≤◌, ℤ, pos, true, List, [], ◌∷◌, map, reverse}
 use Rattle.tree.specs.declared.ops.Value.TheVariants.{Int}
 use Rattle.meaning.specs.Store.{Store, Cell, is_within}
 use Rattle.meaning.specs.Value.{is_in_range}

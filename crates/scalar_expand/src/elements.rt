@@ -3,7 +3,8 @@ ghost use Rattle.std.specs.Prelude.{◌≡◌, IfOk, map, option_copied, reverse
 ghost use Rattle.std.specs.Option.{option_map};
 ghost use Rattle.tree.specs.Plain.{Only, subscripts};
 ghost use Rattle.tree.specs.View.{expression_of, reference_of, subscript_of};
-ghost use Rattle.scalar_expand.specs.Expanded.{element, expanded_node, expanded_reference, named_private, variable};
+ghost use Rattle.scalar_expand.specs.Expanded.{element, expanded_node, expanded_reference, named_private};
+ghost use Rattle.scalar_expand.specs.Expanded.{loop_subscript};
 ghost use Rattle.scalar_expand.specs.View.{made_or};
 
 use crate::privates::{Private, RoundLoop};
@@ -20,7 +21,7 @@ pub(crate) fn only(expr: Expr) -> Sub
 }
 
 fn variables(alloc: Global, loops: &[RoundLoop]) -> Result<Vec<Sub>, Memory>
-    ensures { IfOk result (λ subs. map subscript_of subs.items ≡ map variable loops.now) }
+    ensures { IfOk result (λ subs. map subscript_of subs.items ≡ map loop_subscript loops.now) }
 {
     let mut subs = Vec::new(alloc);
     for turns in loops {

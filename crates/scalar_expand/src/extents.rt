@@ -2,12 +2,12 @@
 ghost use Rattle.std.specs.Prelude.{◌≡◌, ◌≤◌, ◌<◌, ◌+◌, ◌*◌, ◌++◌, ◌^◌, ◌<ℤ◌, nat_le, int_lt, length, pos, is_some};
 ghost use Rattle.std.specs.Prelude.{All, IfOk, OnOk, IsTrue};
 ghost use Rattle.std.specs.List.{list_all};
-ghost use Rattle.tree.specs.Limits.{array_elements};
+ghost use Rattle.tree.specs.Limits.{most_array_elements};
 ghost use Rattle.last_values.specs.normal_forms.Combinations.{number_form, without_loops};
 ghost use Rattle.last_values.specs.normal_forms.NormalLoops.{loop_form, one_at, trip_of};
-ghost use Rattle.scalar_expand.specs.Extents.{are_counted, are_within, extent_form, extent_under, extents_of};
+ghost use Rattle.scalar_expand.specs.Extents.{are_counted, sizes_fit, extent_form, extent_under, extents_of_trips};
 ghost use Rattle.scalar_expand.specs.Extents.{extents_under, greatest, greatest_from, greatest_size, known_elements};
-ghost use Rattle.scalar_expand.specs.Extents.{known_extent, size_of, size_under, sized, sized_term, sizes_from};
+ghost use Rattle.scalar_expand.specs.Extents.{known_extent, size_of_number, size_under, sized, sized_term, sizes_from};
 ghost use Rattle.scalar_expand.specs.Extents.{sizes_under};
 
 use last_values::normal_forms::{Multiple, Place, combination, is_known, is_positive};
@@ -171,7 +171,7 @@ fn extents_under(
 // ---- their sizes
 
 fn size_of(number: i64) -> i64
-    ensures { result ≡ size_of number }
+    ensures { result ≡ size_of_number number }
 {
     let size = number.unsigned_abs();
     if size <= SMALL {
@@ -291,8 +291,8 @@ fn known_extent(extent: &Trip) -> u64
 // Whether so many times the elements of an array with these extents are few.
 #[tactic(auto, using(crate::proofs::ExtentLaws::count_laws))]
 fn are_few(elements: u64, extents: &[Trip]) -> bool
-    requires { elements ≤ array_elements }
-    ensures { result ≡ nat_le (elements * known_elements extents.now) array_elements }
+    requires { elements ≤ most_array_elements }
+    ensures { result ≡ nat_le (elements * known_elements extents.now) most_array_elements }
 {
     let Some((first, rest)) = extents.split_first() else {
         return true;
@@ -320,9 +320,9 @@ fn are_counted(trips: &[Trip]) -> bool
 
 /// The extents of an array over loops with these trips, from the outside in; `count` is how many symbols there are.
 /// None where one by its size isn't within the limits of linear forms, or the array would have too many elements.
-#[tactic(auto, unfolding(crate::specs::Extents::extents_of))]
+#[tactic(auto, unfolding(crate::specs::Extents::extents_of_trips))]
 pub fn extents_of(alloc: Global, count: u16, trips: &[Trip]) -> Result<Option<Seq<Trip>>, Memory>
-    ensures { IfOk result (λ all. all ≡ extents_of count trips.now) }
+    ensures { IfOk result (λ all. all ≡ extents_of_trips count trips.now) }
 {
     if !are_counted(trips) || !are_sizes_within(alloc, count, Seq::new(alloc), trips)? {
         return Ok(None);

@@ -2,7 +2,7 @@
 ghost use Rattle.std.specs.Prelude.{◌≡◌, ◌++◌, ◌∷◌, [], IfOk, OnOk, map, reverse};
 ghost use Rattle.tree.specs.View.{expression_of};
 ghost use Rattle.nest.specs.View.{made_of};
-ghost use Rattle.scalar_expand.specs.Expanded.{array_of, array_or, begins_with, is_mask, made_before};
+ghost use Rattle.scalar_expand.specs.Expanded.{array_of, array_or, has_prefix, is_mask, made_before};
 ghost use Rattle.scalar_expand.specs.Expanded.{made_now, named_private};
 ghost use Rattle.scalar_expand.specs.Texts.{extent_texts};
 
@@ -14,7 +14,7 @@ use std::alloc::Global;
 use tree::{Expr, Memory, Name, Seq};
 
 fn begins_with(first: &[u8], text: &[u8]) -> bool
-    ensures { result ≡ begins_with first.now text.now }
+    ensures { result ≡ has_prefix first.now text.now }
 {
     let Some((one, first)) = first.split_first() else {
         return true;

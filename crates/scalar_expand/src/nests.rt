@@ -2,7 +2,7 @@
 ghost use Rattle.std.specs.Prelude.{◌≡◌, ◌≤◌, ◌++◌, IfOk, OnOk, length, map};
 ghost use Rattle.tree.specs.View.{declaration_of};
 ghost use Rattle.nest.specs.View.{nest_of};
-ghost use Rattle.scalar_expand.specs.Expanded.{declared_privates, expanded, with_arrays};
+ghost use Rattle.scalar_expand.specs.Expanded.{declared_privates, expanded, with_made_arrays};
 
 use crate::elements::{Expansion, named_private};
 use crate::made::made_arrays;
@@ -32,9 +32,9 @@ fn add_declared(
     add_declared(alloc, privates, rest, own)
 }
 
-#[tactic(auto, unfolding(crate::specs::Expanded::with_arrays))]
+#[tactic(auto, unfolding(crate::specs::Expanded::with_made_arrays))]
 fn with_arrays(alloc: Global, nest: &Nest, privates: Seq<Private>) -> Result<Nest, Memory>
-    ensures { IfOk result (λ new. nest_of new ≡ with_arrays (nest_of nest.now) privates) }
+    ensures { IfOk result (λ new. nest_of new ≡ with_made_arrays (nest_of nest.now) privates) }
 {
     let mut own = Seq::new(alloc);
     add_declared(alloc, privates.as_slice(), nest.decls.as_slice(), &mut own)?;

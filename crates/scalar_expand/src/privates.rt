@@ -11,9 +11,9 @@ ghost use Rattle.nest.specs.statement_loops.Names.{is_among};
 ghost use Rattle.nest.specs.statement_loops.Standings.{standing_of};
 ghost use Rattle.indexmap.specs.IndexSet.{insert_key};
 ghost use Rattle.last_values.specs.Occurrences.{stands_in_guard, stands_in_left, stands_in_statement};
-ghost use Rattle.scalar_expand.specs.Privates.{are_same_loops, array_name, begins_anew, begun_by, declared_kind};
-ghost use Rattle.scalar_expand.specs.Privates.{is_source, kind_if_scalar, kind_of_scalar, made_kind, names_written};
-ghost use Rattle.scalar_expand.specs.Privates.{number_behind, over_loops, private_among, private_scalar};
+ghost use Rattle.scalar_expand.specs.Privates.{are_same_loops, expanded_name, begins_anew, begun_by, declared_kind};
+ghost use Rattle.scalar_expand.specs.Privates.{is_source, kind_if_bare, kind_of_scalar, made_kind, names_written};
+ghost use Rattle.scalar_expand.specs.Privates.{number_behind, private_over, private_among, private_scalar};
 ghost use Rattle.scalar_expand.specs.Privates.{private_scalars, privates_named, round_loop, scalar_kind};
 ghost use Rattle.scalar_expand.specs.Privates.{stands_only_in, trip_or_none, trips_of};
 
@@ -90,7 +90,7 @@ fn add_number(text: &mut Vec<u8>, number: u32) -> Result<(), Memory>
 
 #[tactic(auto, using(crate::proofs::NameLaws::array_is_name))]
 fn array_name(alloc: Global, number: u32, name: Name) -> Result<Name, Memory>
-    ensures { IfOk result (λ array. array ≡ array_name number name) }
+    ensures { IfOk result (λ array. array ≡ expanded_name number name) }
 {
     if !is_source(name) {
         return Ok(name);
@@ -118,7 +118,7 @@ fn kind_of_scalar(extent: &Extent, kind: Kind) -> Option<Kind>
 }
 
 fn kind_if_scalar(extents: &[Expr], kind: Kind) -> Option<Kind>
-    ensures { result ≡ kind_if_scalar (map expression_of extents.now) kind }
+    ensures { result ≡ kind_if_bare (map expression_of extents.now) kind }
 {
     if extents.is_empty() { Some(kind) } else { None }
 }
@@ -282,7 +282,7 @@ fn over_loops(
     loops: Seq<RoundLoop>,
 ) -> Result<Option<Private>, Memory>
     requires { length nest.now.symbols ≤ 1000 }
-    ensures { IfOk result (λ private. private ≡ over_loops (nest_of nest.now) name loops) }
+    ensures { IfOk result (λ private. private ≡ private_over (nest_of nest.now) name loops) }
 {
     let Some(kind) = scalar_kind(nest, name) else {
         return Ok(None);

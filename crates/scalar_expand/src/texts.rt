@@ -6,9 +6,9 @@ ghost use Rattle.tree.specs.View.{expression_of};
 ghost use Rattle.linear_forms.specs.Expressed.{minus_term, plus_term, term, variable, with_constant, with_term};
 ghost use Rattle.linear_forms.specs.Expressed.{with_terms};
 ghost use Rattle.linear_forms.specs.View.{text_so_far};
-ghost use Rattle.last_values.specs.normal_forms.Texts.{quotient};
-ghost use Rattle.scalar_expand.specs.Texts.{extent_text, extent_texts, form_text, texts_with, with_each_symbol};
-ghost use Rattle.scalar_expand.specs.Texts.{with_symbol};
+ghost use Rattle.last_values.specs.normal_forms.Texts.{quotient_text};
+ghost use Rattle.scalar_expand.specs.Texts.{made_extent_text, extent_texts, extent_form_text, texts_with};
+ghost use Rattle.scalar_expand.specs.Texts.{with_each_symbol, with_symbol_term};
 
 use nest::Trip;
 use std::alloc::Global;
@@ -108,7 +108,7 @@ fn more_symbol(
     term: (u16, i64),
     symbols: &[Name],
 ) -> Result<Option<Expr>, Memory>
-    ensures { IfOk result (λ o. text_so_far o ≡ with_symbol symbols.now (text_so_far so_far) term) }
+    ensures { IfOk result (λ o. text_so_far o ≡ with_symbol_term symbols.now (text_so_far so_far) term) }
 {
     match name_at(symbols, usize::from(term.0)) {
         Some(name) => more(alloc, so_far, term.1, bare(alloc, name)),
@@ -175,7 +175,7 @@ fn last(alloc: Global, so_far: Option<Expr>, constant: i64) -> Result<Expr, Memo
 
 fn form_text(alloc: Global, symbols: &[Name], texts: &[Expr], form: &Affine) -> Result<Expr, Memory>
     ensures { IfOk result (λ e. expression_of e
-        ≡ form_text symbols.now (map expression_of texts.now) form.now) }
+        ≡ extent_form_text symbols.now (map expression_of texts.now) form.now) }
 {
     let sum = more_symbols(alloc, None, &form.syms, symbols)?;
     let sum = more_texts(alloc, sum, &form.loops, texts)?;
@@ -186,7 +186,7 @@ fn form_text(alloc: Global, symbols: &[Name], texts: &[Expr], form: &Affine) -> 
 
 #[tactic(auto, using(tree::proofs::Equations::expression_equations))]
 fn quotient(alloc: Global, expr: Expr, by: i64) -> Result<Expr, Memory>
-    ensures { IfOk result (λ e. expression_of e ≡ quotient (expression_of expr) by) }
+    ensures { IfOk result (λ e. expression_of e ≡ quotient_text (expression_of expr) by) }
 {
     if by == 1 {
         return Ok(expr);
@@ -201,7 +201,7 @@ fn extent_text(
     extent: &Trip,
 ) -> Result<Expr, Memory>
     ensures { IfOk result (λ e. expression_of e
-        ≡ extent_text symbols.now (map expression_of texts.now) extent.now) }
+        ≡ made_extent_text symbols.now (map expression_of texts.now) extent.now) }
 {
     let text = form_text(alloc, symbols, texts, &extent.top)?;
     quotient(alloc, text, extent.by)

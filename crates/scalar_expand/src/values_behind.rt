@@ -7,7 +7,7 @@ ghost use Rattle.nest.specs.Allocations.{block_then};
 ghost use Rattle.last_values.specs.Endings.{all_hold, only_where, where_all_hold};
 ghost use Rattle.last_values.specs.Scalars.{scalar};
 ghost use Rattle.last_values.specs.normal_forms.NormalLoops.{has_no_loops};
-ghost use Rattle.scalar_expand.specs.Expanded.{as_expression, has_known_end, known_trip, known_trip_at};
+ghost use Rattle.scalar_expand.specs.Expanded.{as_expression, has_known_end, trip_expression, known_trip_at};
 ghost use Rattle.scalar_expand.specs.Expanded.{last_assignment, last_element};
 ghost use Rattle.scalar_expand.specs.Expanded.{last_value, last_values, trip_test, trip_tests};
 
@@ -44,7 +44,7 @@ pub(crate) fn has_known_end(private: &Private) -> bool
 // ---- the last element
 
 fn known_trip(alloc: Global, symbols: &Seq<Name>, turns: &RoundLoop) -> Result<Expr, Memory>
-    ensures { IfOk result (λ e. expression_of e ≡ known_trip symbols.now turns.now) }
+    ensures { IfOk result (λ e. expression_of e ≡ trip_expression symbols.now turns.now) }
 {
     trip_text(alloc, &[], symbols, &[], &turns.trip)
 }

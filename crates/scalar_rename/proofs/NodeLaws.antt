@@ -10,7 +10,7 @@ use Rattle.nest.specs.Plain.{Guarded, Nest}
 use Rattle.statement_passes.specs.MadeNames.{with_made}
 use Rattle.statement_passes.specs.Passes.{mapped_nest}
 use Rattle.statement_passes.specs.Texts.{with_nodes}
-use Rattle.scalar_rename.specs.Renamed.{bare_name, each_renamed, made_of_webs, name_in, names_at, renamed_statement, renaming, with_left_name, with_names}
+use Rattle.scalar_rename.specs.Renamed.{bare_name, each_renamed, made_of_webs, name_by, names_at, renamed_statement, renaming, with_left_name, with_names}
 use Rattle.scalar_rename.specs.declared.ranges.Web.{Web}
 
 by_subs : (x : List ℕ) (ss : List Sub) → (ss ≡ [] → ⊥) → bare_name (Named x (subscripts (map subscript_of ss))) ≡ None
@@ -37,6 +37,6 @@ pub some_webs : (m : Nest) (ws : List Web) → (ws ≡ [] → ⊥) → with_name
 some_webs m [] n = absurd (n refl)
 some_webs m (w ∷ ws) n = refl
 
-pub both_sides : (ws : List Web) (k : ℕ) (g h : Guarded) (left : List ℕ) → h ≡ with_nodes (renaming (names_at ws k)) g → left ≡ name_in (names_at ws (k + 1)) g.left.name
+pub both_sides : (ws : List Web) (k : ℕ) (g h : Guarded) (left : List ℕ) → h ≡ with_nodes (renaming (names_at ws k)) g → left ≡ name_by (names_at ws (k + 1)) g.left.name
     → with_left_name h left ≡ renamed_statement ws k g
 both_sides ws k g h left e f = ap₂ with_left_name e f

@@ -23,9 +23,9 @@ abbrev pub names_at : List Web → ℕ → List NewName
 names_at ws k = map (λ (w : Web). new_name w k) ws
 
 -- the name that x has by these; its own where it isn't among them
-abbrev pub name_in : List NewName → List ℕ → List ℕ
-name_in [] x = x
-name_in (n ∷ ns) x = if bytes_eq n.old x then n.new else name_in ns x
+abbrev pub name_by : List NewName → List ℕ → List ℕ
+name_by [] x = x
+name_by (n ∷ ns) x = if bytes_eq n.old x then n.new else name_by ns x
 
 -- the name of a variable without subscripts
 abbrev pub bare_name : Expression → Option (List ℕ)
@@ -38,7 +38,7 @@ named_or None e = e
 named_or (Some x) e = Named x no_subscripts
 
 abbrev pub renamed_node : List NewName → Expression → Expression
-renamed_node ns e = named_or (option_map (name_in ns) (bare_name e)) e
+renamed_node ns e = named_or (option_map (name_by ns) (bare_name e)) e
 
 abbrev pub renaming : List NewName → Making
 renaming ns = record { expression = λ first e. renamed_node ns e; left = λ l. l }
@@ -51,7 +51,7 @@ with_left_name g x = record g { left = record { name = x; subscripts = g.left.su
 -- what is read has the name from before the statement, what is assigned the one from behind it
 abbrev pub renamed_statement : List Web → ℕ → Guarded → Guarded
 renamed_statement ws k g =
-    with_left_name (with_nodes (renaming (names_at ws k)) g) (name_in (names_at ws (k + 1)) g.left.name)
+    with_left_name (with_nodes (renaming (names_at ws k)) g) (name_by (names_at ws (k + 1)) g.left.name)
 
 abbrev pub each_renamed : List Web → List Loop → ℕ → Guarded → List Guarded
 each_renamed ws ls k g = renamed_statement ws k g ∷ []

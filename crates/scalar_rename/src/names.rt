@@ -2,7 +2,7 @@
 ghost use Rattle.std.specs.Prelude.{◌≡◌, ◌+◌, ◌<◌, ◌^◌, IfOk, map};
 ghost use Rattle.nest.specs.View.{guarded_of};
 ghost use Rattle.scalar_rename.specs.Ranges.{owner_at};
-ghost use Rattle.scalar_rename.specs.Renamed.{bare_name, name_in, names_at, renamed_node, renamed_statement};
+ghost use Rattle.scalar_rename.specs.Renamed.{bare_name, name_by, names_at, renamed_node, renamed_statement};
 ghost use Rattle.scalar_rename.specs.Renamed.{with_left_name};
 ghost use Rattle.tree.specs.Plain.{Named, no_subscripts};
 ghost use Rattle.tree.specs.View.{expression_of, reference_of};
@@ -46,7 +46,7 @@ fn names_at(alloc: Global, webs: &[Web], place: usize) -> Result<Seq<NewName>, M
 }
 
 fn name_in(names: &[NewName], name: Name) -> Name
-    ensures { result ≡ name_in names.now name }
+    ensures { result ≡ name_by names.now name }
 {
     let Some((first, rest)) = names.split_first() else {
         return name;
@@ -145,7 +145,7 @@ fn with_left_name(stmt: GuardedStmt, name: Name) -> GuardedStmt
 // The name that a left side has by the names at a place.
 #[tactic(auto, using(tree::proofs::Equations::expression_equations))]
 fn left_name(alloc: Global, webs: &[Web], place: usize, left: &Ref) -> Result<Name, Memory>
-    ensures { IfOk result (λ name. name ≡ name_in (names_at webs.now place) (reference_of left.now).name) }
+    ensures { IfOk result (λ name. name ≡ name_by (names_at webs.now place) (reference_of left.now).name) }
 {
     let names = names_at(alloc, webs, place)?;
     Ok(name_in(names.as_slice(), left.name))

@@ -3,8 +3,7 @@ ghost use Rattle.std.specs.List.{list_all};
 ghost use Rattle.std.specs.Prelude.{◌≡◌, ◌+◌, ◌<◌, ◌^◌, ◌++◌, IfOk, OnOk, map, nat_le};
 ghost use Rattle.nest.specs.View.{made_of, nest_of};
 ghost use Rattle.scalar_rename.specs.Ranges.{HaveFewRanges, most_ranges};
-ghost use Rattle.scalar_rename.specs.Renamed.{each_renamed, made_from, made_of_web, made_of_webs, renamed};
-ghost use Rattle.scalar_rename.specs.Renamed.{with_names};
+ghost use Rattle.scalar_rename.specs.Renamed.{each_renamed, made_from, made_of_web, made_of_webs, renamed, with_names};
 ghost use Rattle.statement_passes.specs.MadeNames.{with_made};
 ghost use Rattle.statement_passes.specs.Passes.{mapped_nest};
 

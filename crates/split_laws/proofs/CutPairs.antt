@@ -2,7 +2,7 @@
 use Rattle.std.proofs.Common.{◌≡◌, inl, inr, refl, sym, ap, ℕ, ◌/◌, ℤ, pos, ◌+ℤ◌, ◌*ℤ◌, List, [], ◌∷◌, true, get_or, arith}
 use Rattle.std.proofs.lemmas.Int.{ints}
 use Rattle.std.proofs.Math.IntN.{*ℤ-zero, *ℤ_comm}
-use Rattle.components.specs.Lists.{In}
+use Rattle.components.specs.Lists.{IsMember}
 use Rattle.dependence_graph.specs.declared.nest_references.occurrences.Occurrence.{Occurrence}
 use Rattle.index_split.proofs.CoupleLaws.{separable_has_loop, some_side}
 use Rattle.index_split.specs.Gathered.{only_one}
@@ -44,8 +44,8 @@ meets_at a b n h = let x = pos n *ℤ front a in omega (arith, ints, h)
 
 -- ---- points
 
-module _ (n : Nest) (points : List ℕ) (t from to : ℕ) (o u : Occurrence) (cut : AreCutPoints n points) (considered : IsConsidered n t) (io : In o cut.references)
-    (iu : In u cut.references) (s : Sides) (piece : IsPiece points t from to) (symbols : s.first.syms ≡ s.second.syms) (gives : (x : ℕ) → GivesPoint t s x → CoupleGives t o u x) where
+module _ (n : Nest) (points : List ℕ) (t from to : ℕ) (o u : Occurrence) (cut : AreCutPoints n points) (considered : IsConsidered n t) (io : IsMember o cut.references)
+    (iu : IsMember u cut.references) (s : Sides) (piece : IsPiece points t from to) (symbols : s.first.syms ≡ s.second.syms) (gives : (x : ℕ) → GivesPoint t s x → CoupleGives t o u x) where
   has_point : (x : ℕ) → IsPoint t s x → HasPoint points t x
   has_point x p low high =
       (cut.each x).1 (

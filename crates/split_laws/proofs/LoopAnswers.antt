@@ -1,7 +1,7 @@
 -- The loops of a program and their answers, beside each other.
 use Rattle.std.proofs.Common.{◌≡◌, ◌⊎◌, inl, inr, refl, sym, ap, subst, ◌∙◌, ℕ, zero, suc, ◌+◌, ◌<◌, ◌≤◌, ℤ, Bool, true, false, cond, Option, Some, None, is_some, List, [], ◌∷◌, ◌++◌, append_assoc, length, drop, get_or, arith, nat_lt, add-one}
 use Rattle.std.proofs.lemmas.List.{get_or-drop, length-drop}
-use Rattle.components.specs.Lists.{In}
+use Rattle.components.specs.Lists.{IsMember}
 use Rattle.std.proofs.lemmas.List.{append-nil}
 use Rattle.std.proofs.lemmas.Bool.Decides.{Decides-ltb}
 use Rattle.find_nests.proofs.Outermost.{looked_at-is}
@@ -11,7 +11,7 @@ use Rattle.find_nests.specs.Loops.{Numbered, SourceLoop, as_statement}
 use Rattle.find_nests.specs.LookedAt.{is_kept, reason_of}
 use Rattle.find_nests.specs.Walk.{nests_among, outermost_in, outermost_in_arms, outermost_in_block}
 use Rattle.find_nests.specs.declared.reasons.Reason.{Reason}
-use Rattle.find_nests.specs.nest_parts.Numbers.{after, after_arms, after_block, next}
+use Rattle.find_nests.specs.nest_parts.Numbers.{number_after, after_arms, after_block, next_loop_number}
 use Rattle.index_split.specs.Answers.{AreAnswersTo, AreUsed, IsAnswerTo, cut_by, whole_or}
 use Rattle.index_split.specs.Filled.{after_loop, answer_at, filled, filled_arms, filled_in, filled_loop, used, used_arms, used_block}
 use Rattle.index_split.specs.Filled as walk
@@ -63,7 +63,7 @@ module _ (p : Program) (number : ℕ) (l : Numbered) where
           first : (xs : List ℕ) → h.2.points ≡ xs → 1 ≤ length h.2.points → IsOfNest a
           first [] e some = absurd (let s = ap length e in omega (arith, s, some))
           first (x ∷ xs) e some =
-              let g = (h.2.are.each x).0 (subst (λ (ys : List ℕ). In x ys) (sym e) (inl refl)) in
+              let g = (h.2.are.each x).0 (subst (λ (ys : List ℕ). IsMember x ys) (sym e) (inl refl)) in
               let c = h.2.used g.0 _ u g.1 refl in
               λ f. cut_isnt _ _ c.first _ (sym c.is ∙ f)
 
@@ -131,7 +131,7 @@ module _ (p : Program) (answers : List Answer) where
   by_reason : (i k n line : ℕ) (x : List ℕ) (a b c : Expression) (body : Block) (rest : List Found) (o : Option Reason)
       → reason_of ds (record { line = line; variable = x; first = a; last = b; step = c; body = body }) ≡ o → (left : List Answer) → drop i answers ≡ left
       → Left (found_among p n (outermost_in ds k (Do line x a b c body)) ++ rest) i
-      → ((j : ℕ) → Left (found_among p n (outermost_in_block ds (next k) body) ++ rest) j → Goes rest (used_block answers j body) (IsBlockSplit p body (filled_in answers j body)))
+      → ((j : ℕ) → Left (found_among p n (outermost_in_block ds (next_loop_number k) body) ++ rest) j → Goes rest (used_block answers j body) (IsBlockSplit p body (filled_in answers j body)))
       → Goes rest (used answers i (Do line x a b c body)) (IsSplit p (Do line x a b c body) (filled answers i (Do line x a b c body)))
   by_reason i k n line x a b c body rest None e left f h go = nest left f (subst (AreAnswersTo (InNest m ∷ rest)) f (subst (λ (fs : List Found). Left fs i) found h))
     where
@@ -142,14 +142,14 @@ module _ (p : Program) (answers : List Answer) where
       place = record { before = k; loop = l }
 
       m : Nest
-      m = nest_of_loop p (next n) place
+      m = nest_of_loop p (next_loop_number n) place
 
       kept : is_kept ds l ≡ false
       kept = ap is_some e
 
       found : found_among p n (outermost_in ds k (Do line x a b c body)) ++ rest ≡ InNest m ∷ rest
       found =
-          ap (λ (t : Bool). found_among p n (place ∷ cond t (outermost_in_block ds (next k) body) []) ++ rest) kept
+          ap (λ (t : Bool). found_among p n (place ∷ cond t (outermost_in_block ds (next_loop_number k) body) []) ++ rest) kept
           ∙ ap (λ (o : Option Reason). (found_as p n place o ∷ found_among p (nests_with n o) []) ++ rest) e
 
       nest : (as' : List Answer) → drop i answers ≡ as' → AreAnswersTo (InNest m ∷ rest) as'
@@ -157,7 +157,7 @@ module _ (p : Program) (answers : List Answer) where
       nest [] g are = absurd are
       nest (r ∷ as') g are =
           let q = first_left i r as' g in
-          let of' = answer_of_nest p (next n) place r are.0 in
+          let of' = answer_of_nest p (next_loop_number n) place r are.0 in
           let inside = block (filled_in answers (walk.next answers i) body) in
           record {
             is = inr (
@@ -178,7 +178,7 @@ module _ (p : Program) (answers : List Answer) where
                 (subst (AreAnswersTo rest) (sym q.2) are.1);
           }
   by_reason i k n line x a b c body rest (Some r) e left f h go =
-      outer left f (subst (AreAnswersTo (Kept line r ∷ (found_among p n (outermost_in_block ds (next k) body) ++ rest))) f (subst (λ (fs : List Found). Left fs i) found h))
+      outer left f (subst (AreAnswersTo (Kept line r ∷ (found_among p n (outermost_in_block ds (next_loop_number k) body) ++ rest))) f (subst (λ (fs : List Found). Left fs i) found h))
       go
     where
       l : SourceLoop
@@ -190,20 +190,20 @@ module _ (p : Program) (answers : List Answer) where
       kept : is_kept ds l ≡ true
       kept = ap is_some e
 
-      found : found_among p n (outermost_in ds k (Do line x a b c body)) ++ rest ≡ Kept line r ∷ (found_among p n (outermost_in_block ds (next k) body) ++ rest)
+      found : found_among p n (outermost_in ds k (Do line x a b c body)) ++ rest ≡ Kept line r ∷ (found_among p n (outermost_in_block ds (next_loop_number k) body) ++ rest)
       found =
-          ap (λ (t : Bool). found_among p n (place ∷ cond t (outermost_in_block ds (next k) body) []) ++ rest) kept
-          ∙ ap (λ (o : Option Reason). (found_as p n place o ∷ found_among p (nests_with n o) (outermost_in_block ds (next k) body)) ++ rest) e
+          ap (λ (t : Bool). found_among p n (place ∷ cond t (outermost_in_block ds (next_loop_number k) body) []) ++ rest) kept
+          ∙ ap (λ (o : Option Reason). (found_as p n place o ∷ found_among p (nests_with n o) (outermost_in_block ds (next_loop_number k) body)) ++ rest) e
 
-      outer : (as' : List Answer) → drop i answers ≡ as' → AreAnswersTo (Kept line r ∷ (found_among p n (outermost_in_block ds (next k) body) ++ rest)) as'
-          → ((j : ℕ) → Left (found_among p n (outermost_in_block ds (next k) body) ++ rest) j → Goes rest (used_block answers j body) (IsBlockSplit p body (filled_in answers j body)))
+      outer : (as' : List Answer) → drop i answers ≡ as' → AreAnswersTo (Kept line r ∷ (found_among p n (outermost_in_block ds (next_loop_number k) body) ++ rest)) as'
+          → ((j : ℕ) → Left (found_among p n (outermost_in_block ds (next_loop_number k) body) ++ rest) j → Goes rest (used_block answers j body) (IsBlockSplit p body (filled_in answers j body)))
           → Goes rest (used answers i (Do line x a b c body)) (IsSplit p (Do line x a b c body) (filled answers i (Do line x a b c body)))
       outer [] g are go = absurd are
       outer (u ∷ as') g are go =
           let q = first_left i u as' g in
           let is : answer_at answers i ≡ Outer = q.0 ∙ are.0 in
           let at = walk.next answers i in
-          let f = go at (subst (λ (j : ℕ). Left (found_among p n (outermost_in_block ds (next k) body) ++ rest) j) (sym q.1) (subst (AreAnswersTo (found_among p n (outermost_in_block ds (next k) body) ++ rest)) (sym q.2) are.1)) in
+          let f = go at (subst (λ (j : ℕ). Left (found_among p n (outermost_in_block ds (next_loop_number k) body) ++ rest) j) (sym q.1) (subst (AreAnswersTo (found_among p n (outermost_in_block ds (next_loop_number k) body) ++ rest)) (sym q.2) are.1)) in
           record {
             is = inl (kept, (filled_in answers at body, ap (λ (v : Answer). filled_loop answers v line x a b c body (block (filled_in answers at body))) is, f.is));
             left = subst (λ (j : ℕ). Left rest j) (sym (ap (λ (v : Answer). after_loop answers v at (used_block answers at body)) is)) f.left;
@@ -221,7 +221,7 @@ module _ (p : Program) (answers : List Answer) where
         record { is = (filled_arms answers i arms, filled_in answers (used_arms answers i arms) other, refl, f.is, g.is); left = g.left }
     goes i k n (Do line x a b c body) rest h =
         let l : SourceLoop = record { line = line; variable = x; first = a; last = b; step = c; body = body } in
-        by_reason i k n line x a b c body rest (reason_of ds l) refl (drop i answers) refl h (λ j g. goes_block j (next k) n body rest g)
+        by_reason i k n line x a b c body rest (reason_of ds l) refl (drop i answers) refl h (λ j g. goes_block j (next_loop_number k) n body rest g)
     goes i k n (Label m) rest h = record { is = refl; left = h }
     goes i k n (GoTo line m) rest h = record { is = refl; left = h }
     goes i k n (Stop line) rest h = record { is = refl; left = h }
@@ -243,9 +243,9 @@ module _ (p : Program) (answers : List Answer) where
         → Goes rest (used_block answers i b) (IsBlockSplit p b (filled_in answers i b))
     goes_block i k n no_statements rest h = record { is = refl; left = h }
     goes_block i k n (statement s cs) rest h =
-        let f = goes i k n s (found_among p (nests_among ds n (outermost_in ds k s)) (outermost_in_block ds (after k s) cs) ++ rest)
-        (apart n (outermost_in ds k s) (outermost_in_block ds (after k s) cs) rest i h) in
-        let g = goes_block (used answers i s) (after k s) (nests_among ds n (outermost_in ds k s)) cs rest f.left in
+        let f = goes i k n s (found_among p (nests_among ds n (outermost_in ds k s)) (outermost_in_block ds (number_after k s) cs) ++ rest)
+        (apart n (outermost_in ds k s) (outermost_in_block ds (number_after k s) cs) rest i h) in
+        let g = goes_block (used answers i s) (number_after k s) (nests_among ds n (outermost_in ds k s)) cs rest f.left in
         record { is = (filled answers i s, filled_in answers (used answers i s) cs, refl, f.is, g.is); left = g.left }
 
 pub split_program_is_split : SplitProgramIsSplit

@@ -1,6 +1,6 @@
 -- What the points of a nest do to the pairs of subscripts that gave them.
 use Rattle.std.specs.Prelude.{◌≡◌, ◌≤◌, ℕ, ℤ, pos, List, [], ◌∷◌}
-use Rattle.components.specs.Lists.{In}
+use Rattle.components.specs.Lists.{IsMember}
 use Rattle.dependence_graph.specs.declared.nest_references.occurrences.Occurrence.{Occurrence}
 use Rattle.index_split.specs.Points.{AreCutPoints, CoupleGives, IsConsidered}
 use Rattle.index_split.specs.declared.points.Sides.{Sides}
@@ -18,5 +18,5 @@ NeverMeet s from to = (v : ℕ → ℤ) (i j : ℕ) → from ≤ i → i ≤ to 
 -- point, or to the last iteration
 abbrev pub CutPairsNeverMeet : Type 0
 CutPairsNeverMeet = (n : Nest) (points : List ℕ) (t x from to : ℕ) (first second : Occurrence)
-    → (cut : AreCutPoints n points) → IsConsidered n t → In first cut.references → In second cut.references
+    → (cut : AreCutPoints n points) → IsConsidered n t → IsMember first cut.references → IsMember second cut.references
     → (gave : CoupleGives t first second x) → IsPiece points t from to → NeverMeet gave.pair from to

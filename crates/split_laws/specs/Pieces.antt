@@ -1,7 +1,6 @@
 -- A loop run as loops over pieces of its iterations, one after another (Allen and Kennedy, "Optimizing Compilers for
 -- Modern Architectures", sections 5.8 and 5.9; ANSI X3.9-1978, section 11.10).
-use Rattle.std.specs.Prelude.{◌≡◌, ◌≤◌, ⊤, Ok, Option, ℕ, suc, ◌+◌, ℤ, pos, ◌+ℤ◌, ◌*ℤ◌, false, IsTrue}
-use Rattle.std.specs.Prelude.{List, [], ◌∷◌}
+use Rattle.std.specs.Prelude.{◌≡◌, ◌≤◌, ⊤, Ok, Option, ℕ, suc, ◌+◌, ℤ, pos, ◌+ℤ◌, ◌*ℤ◌, false, IsTrue, List, [], ◌∷◌}
 use Rattle.linear_forms.specs.Expressed.{expressed, variables}
 use Rattle.linear_forms.specs.Laws.{AreSized}
 use Rattle.linear_forms.specs.Linear.{Form, HaveValues, is_limited, number_at}

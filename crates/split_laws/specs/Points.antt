@@ -2,7 +2,7 @@
 -- and 5.9): before and behind the iteration that a weak-zero dependence comes from or leads to, and where a crossing
 -- dependence crosses.
 use Rattle.std.specs.Prelude.{◌≡◌, ◌≢◌, ◌≤◌, ◌<◌, ℕ, suc, ◌/◌, ℤ, pos, ◌+ℤ◌, ◌-ℤ◌, ◌*ℤ◌, List}
-use Rattle.components.specs.Lists.{In}
+use Rattle.components.specs.Lists.{IsMember}
 
 -- a linear subscript, by its coefficient and what is added
 pub record Side : Type 0 where
@@ -16,11 +16,11 @@ at f i = pos i *ℤ f.by +ℤ f.more
 pub record IsPiece (points : List ℕ) (t from to : ℕ) : Type 0 where
   pub first : 1 ≤ from
   pub last : to ≤ t
-  pub uncut : (p : ℕ) → In p points → from ≤ p → ¬ (p < to)
+  pub uncut : (p : ℕ) → IsMember p points → from ≤ p → ¬ (p < to)
 
 -- the point is among them if it is from 1 to t - 1
 abbrev pub HasPoint : List ℕ → ℕ → ℕ → Type 0
-HasPoint points t p = 1 ≤ p → p < t → In p points
+HasPoint points t p = 1 ≤ p → p < t → IsMember p points
 
 -- no two different iterations of the piece make the sides equal
 abbrev pub AreApart : Side → Side → ℕ → ℕ → Type 0

@@ -6,7 +6,7 @@ use Rattle.std.specs.List.{AllPairs}
 use Rattle.std.proofs.lemmas.Bool.{leb-true, le-leb}
 use Rattle.std.proofs.lemmas.Bool.Decides.{Decides-int_eq}
 use Rattle.std.proofs.lemmas.List.Kept.{AllPairs-from_increasing}
-use Rattle.components.specs.Lists.{In}
+use Rattle.components.specs.Lists.{IsMember}
 use Rattle.find_nests.specs.Found.{InNest, nest_of_loop}
 use Rattle.find_nests.specs.Loops.{Numbered, as_statement}
 use Rattle.index_split.proofs.CutLaws.{considered_once}
@@ -49,12 +49,12 @@ use Rattle.tree.specs.declared.ops.Value.{Value}
 
 -- ---- pieces that end behind points
 
-pub behind_first : (x : ℕ) (xs : List ℕ) → ((k : ℕ) → k < length xs → x < get_or xs k 0) → (y : ℕ) → In y xs → x < y
+pub behind_first : (x : ℕ) (xs : List ℕ) → ((k : ℕ) → k < length xs → x < get_or xs k 0) → (y : ℕ) → IsMember y xs → x < y
 behind_first x [] f y i = absurd i
 behind_first x (z ∷ zs) f y (inl e) = subst (λ w. x < w) (sym e) (f 0 (omega arith))
 behind_first x (z ∷ zs) f y (inr i) = behind_first x zs (λ k h. f (suc k) (omega (arith, h))) y i
 
-end_with : (before : ℕ) (points : List ℕ) (t : ℕ) → AllPairs (λ x y. x < y) points → ((x : ℕ) → In x points → before < x) → ((x : ℕ) → In x points → x < t) → before < t
+end_with : (before : ℕ) (points : List ℕ) (t : ℕ) → AllPairs (λ x y. x < y) points → ((x : ℕ) → IsMember x points → before < x) → ((x : ℕ) → IsMember x points → x < t) → before < t
     → EndWith before (points ++ t ∷ []) t
 end_with before [] t rise low high less = (less, refl)
 end_with before (x ∷ xs) t rise low high less = (
@@ -75,11 +75,11 @@ used_points ps points f = by (nat_le 1 (length points)) (nat_le (length points) 
     by true false e g = absurd (uncut ps (f (λ u. clash (nat_le (length points) 16) (le-leb (length points) 16 u.few) g)))
     by false c e g = absurd (uncut ps (f (λ u. clash (nat_le 1 (length points)) (le-leb 1 (length points) u.some) e)))
 
-first_of : (xs : List ℕ) → 1 ≤ length xs → (x : ℕ) × In x xs
+first_of : (xs : List ℕ) → 1 ≤ length xs → (x : ℕ) × IsMember x xs
 first_of [] h = absurd (omega (arith, h))
 first_of (x ∷ xs) h = (x, inl refl)
 
-pub within_points : (m : Nest) (points : List ℕ) (t : ℕ) → AreCutPoints m points → IsConsidered m t → (y : ℕ) → In y points → (1 ≤ y) × (y < t)
+pub within_points : (m : Nest) (points : List ℕ) (t : ℕ) → AreCutPoints m points → IsConsidered m t → (y : ℕ) → IsMember y points → (1 ≤ y) × (y < t)
 within_points m points t are considered y i =
     let g = (are.each y).0 i in
     let same : g.0 ≡ t = considered_once m g.0 t g.1 considered in

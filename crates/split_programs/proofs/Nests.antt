@@ -4,7 +4,7 @@ use Rattle.std.specs.Prelude.{IsTrue}
 use Rattle.dependence_graph.specs.nest_graph.Trips as tested
 use Rattle.find_nests.specs.Found.{nest_of_loop}
 use Rattle.find_nests.specs.Loops.{Numbered}
-use Rattle.find_nests.specs.nest_parts.Numbers.{next}
+use Rattle.find_nests.specs.nest_parts.Numbers.{next_loop_number}
 use Rattle.find_nests.specs.nest_parts.Statements.{parts_of_block, source_loop}
 use Rattle.index_split.specs.Points.{IsConsidered}
 use Rattle.last_values.proofs.NormalForms.LoopNumbers.{normal_loop_has_numbers}
@@ -44,14 +44,14 @@ unfolding counting
 counting_trip symbols round l r = refl
 
 abbrev pub loop_of : Numbered → Loop
-loop_of place = source_loop (next place.before) place.loop.variable place.loop.first place.loop.last place.loop.step
+loop_of place = source_loop (next_loop_number place.before) place.loop.variable place.loop.first place.loop.last place.loop.step
 
 module _ (p : Program) (number : ℕ) (place : Numbered) (m : Nest) (e : normalised (nest_of_loop p number place) ≡ Some m) (t : ℕ) (considered : IsConsidered m t) where
   abbrev n : Nest
   n = nest_of_loop p number place
 
   abbrev inside : Parts
-  inside = parts (parts_of_block (next place.before) place.loop.body)
+  inside = parts (parts_of_block (next_loop_number place.before) place.loop.body)
 
   made : IsMadeOf (nest_of_loop p number place) m
   made = made_of (nest_of_loop p number place) m e
@@ -94,7 +94,7 @@ module _ (p : Program) (number : ℕ) (place : Numbered) (m : Nest) (e : normali
   forms = loop_made n.symbols [] (loop_of place) counted.form counted.normal
 
   constant : is_constant counted.form.trip.top ≡ true
-  constant = subst (λ (x : Trip). IsTrue (tested.is_constant x)) counted.trip considered.turns.constant
+  constant = subst (λ (x : Trip). IsTrue (tested.has_constant_top x)) counted.trip considered.turns.constant
 
   -- whatever the symbols are, the quotient is the trip
   pub quotient_is : (values : ℕ → ℤ) (a b : ℤ) → number_at forms.first_form (values_from (length (nest_of_loop p number place).symbols) 0 values) ≡ a

@@ -12,7 +12,7 @@ use Rattle.index_split.specs.declared.answers.Answer.TheVariants.{Cut, Outer, Wh
 use Rattle.index_split.specs.declared.pieces.Bounds.{Bounds}
 use Rattle.index_split.specs.declared.pieces.Pieces.{Pieces}
 use Rattle.linear_forms.specs.Texts.{text_of}
-use Rattle.meaning.specs.Blocks.{Surroundings, before_labels, blocks_in, blocks_in_arms, blocks_of, label_of, labels_of, outermost, statements_in, within_loop}
+use Rattle.meaning.specs.Blocks.{Surroundings, before_labels, blocks_in, blocks_in_arms, blocks_of, label_of, labels_of, outermost, statement_count_in, within_loop}
 use Rattle.meaning.specs.Calls.{calls_in, calls_in_arms, calls_in_block, calls_in_statement, names_called}
 use Rattle.meaning.specs.Dialect.{Dialect}
 use Rattle.meaning.specs.Labels.{IsWithoutRepeats, all_labels_in, all_labels_in_arms, all_labels_of, has_arm, targets_in, targets_in_arms, targets_of}
@@ -310,7 +310,7 @@ module _ (own : Dialect) (p : Program) (is : IsProgram77 own p) (cs : List State
   named None h = tt
   named (Some x) h = (h.0, h.1, λ c. not_there x (calls_in_block (block cs)) ((whole (λ y. ¬ (y ≡ x))).calls (each_other x (calls_in_block p.body) h.2)) c)
 
-  of_profile : statements_in (block cs) < 2 ^ 31 → IsProgram77 own (record p { body = block cs })
+  of_profile : statement_count_in (block cs) < 2 ^ 31 → IsProgram77 own (record p { body = block cs })
   of_profile few =
       let f = whole (λ y. Unit {0}) in
       let fb = f.blocks in
@@ -328,4 +328,4 @@ module _ (own : Dialect) (p : Program) (is : IsProgram77 own p) (cs : List State
 pub split_program_is_of_profile : SplitProgramIsOfProfile
 split_program_is_of_profile own p q is split =
     let parts = split_program_is_split p q split in
-    subst (IsProgram77 own) (sym parts.1) (of_profile own p is parts.0 parts.2 (subst (λ (r : Program). statements_in r.body < 2 ^ 31) parts.1 split.few))
+    subst (IsProgram77 own) (sym parts.1) (of_profile own p is parts.0 parts.2 (subst (λ (r : Program). statement_count_in r.body < 2 ^ 31) parts.1 split.few))

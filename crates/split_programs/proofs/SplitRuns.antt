@@ -8,12 +8,14 @@ use Rattle.index_split.specs.Split.{IsSplitTo}
 use Rattle.index_split.specs.declared.answers.Answer.{Answer}
 use Rattle.index_split.specs.declared.answers.Answer.TheVariants.{Cut, Outer, Whole}
 use Rattle.meaning.proofs.Kept.{Keeps}
+use Rattle.meaning.proofs.Widths.{widest}
 use Rattle.meaning.specs.Blocks.{Surroundings, before_labels, labels_of, outermost, within_loop}
 use Rattle.meaning.specs.Array.{array_run}
 use Rattle.meaning.specs.Dialect.{Dialect, fortran77}
 use Rattle.meaning.specs.Profile77.{AreArms, AreDeclarations, IsBlock, IsStatement}
 use Rattle.meaning.specs.Run.{Act, State, chooses, does, does_all, opening_state, run}
 use Rattle.meaning.specs.Sequential.{EndsWell, sequential_run}
+use Rattle.tree.specs.declared.width.Width.{Width}
 use Rattle.meaning.specs.Store.{Agree, Store}
 use Rattle.meaning.specs.Value.{truth_of}
 use Rattle.meaning_laws.proofs.dialects.Runs.{source_has_one_run}
@@ -134,13 +136,13 @@ other_body p b x y a = record { bounds = a.bounds; held = a.held; kinds = a.kind
 same_names : (p s : Program) (x y : Store) → IsSplitTo p s → Agree s x y → Agree p x y
 same_names p s x y split a = other_body p (block (filled_in split.answers 0 p.body)) x y (subst (λ (r : Program). Agree r x y) split.is a)
 
-pub meaning_is_handed_on : MeaningIsHandedOn
-meaning_is_handed_on p s q input is split k =
-    let e : sequential_run s input ≡ sequential_run p input = split_program_runs_as_source fortran77 fortran77 None p s input (omega arith) is split in
+pub meaning_is_handed_on : (width : Width) → MeaningIsHandedOn width
+meaning_is_handed_on width p s q input is split k =
+    let e : sequential_run width s input ≡ sequential_run width p input = split_program_runs_as_source (fortran77 width) (fortran77 width) None p s input (widest width) is split in
     record {
       ends = λ w. k.ends (subst EndsWell (sym e) w);
       output = λ w. ap (λ (u : State). u.written) (sym e) ∙ k.output (subst EndsWell (sym e) w);
       store = λ w.
-          subst (λ (u : State). Agree p u.store (array_run q input).store) e
-          (same_names p s (sequential_run s input).store (array_run q input).store split (k.store (subst EndsWell (sym e) w)));
+          subst (λ (u : State). Agree p u.store (array_run width q input).store) e
+          (same_names p s (sequential_run width s input).store (array_run width q input).store split (k.store (subst EndsWell (sym e) w)));
     }

@@ -11,10 +11,11 @@ use Rattle.linear_forms.proofs.Storeless.{storeless}
 use Rattle.linear_forms.specs.Laws.{AreSized}
 use Rattle.linear_forms.specs.Linear.{Form, all_small, as_constant, constant_of, is_limited, is_small, known, no_store, not_zero, number_at, weighted}
 use Rattle.meaning.specs.Dialect.{Dialect, fortran77}
+use Rattle.tree.specs.declared.width.Width.TheVariants.{Plain}
 use Rattle.meaning.specs.Store.{Store}
 use Rattle.meaning.specs.Value.{as_count, exact, increment_of, trip_count, value_of}
 use Rattle.nest_order.proofs.runs.Results.{after_ok}
-use Rattle.nest_reasons.specs.Increments.{is_suitable, step_of, suitable_or_none}
+use Rattle.nest_reasons.specs.Increments.{is_suitable_increment, step_of, suitable_or_none}
 use Rattle.find_nests.specs.nest_parts.Statements.{step_or_zero}
 use Rattle.tree.specs.Operators.{as_number, fits}
 use Rattle.tree.specs.Plain.{Expression}
@@ -75,16 +76,16 @@ as_value (Err f) z h = let no : ⊥ = cc in absurd no
 not_zero_there : is_zero (pos 0) ≡ false → ⊥
 not_zero_there h = cc
 
-constant_step : (c : Expression) → is_zero (step_or_zero (step_of c)) ≡ false → value_of fortran77 c no_store ≡ Ok (Int (step_or_zero (step_of c)))
+constant_step : (c : Expression) → is_zero (step_or_zero (step_of c)) ≡ false → value_of (fortran77 Plain) c no_store ≡ Ok (Int (step_or_zero (step_of c)))
 constant_step c h = by (constant_of c) refl h
   where
-    at : (z : ℤ) (b : Bool) → constant_of c ≡ Some z → is_zero (step_or_zero (cond b (Some z) None)) ≡ false → value_of fortran77 c no_store ≡ Ok (Int (step_or_zero (cond b (Some z) None)))
-    at z true e k = as_value (value_of fortran77 c no_store) z e
+    at : (z : ℤ) (b : Bool) → constant_of c ≡ Some z → is_zero (step_or_zero (cond b (Some z) None)) ≡ false → value_of (fortran77 Plain) c no_store ≡ Ok (Int (step_or_zero (cond b (Some z) None)))
+    at z true e k = as_value (value_of (fortran77 Plain) c no_store) z e
     at z false e k = absurd (not_zero_there k)
 
-    by : (o : Option ℤ) → constant_of c ≡ o → is_zero (step_or_zero (suitable_or_none o)) ≡ false → value_of fortran77 c no_store ≡ Ok (Int (step_or_zero (suitable_or_none o)))
+    by : (o : Option ℤ) → constant_of c ≡ o → is_zero (step_or_zero (suitable_or_none o)) ≡ false → value_of (fortran77 Plain) c no_store ≡ Ok (Int (step_or_zero (suitable_or_none o)))
     by None e k = absurd (not_zero_there k)
-    by (Some z) e k = at z (is_suitable z) e k
+    by (Some z) e k = at z (is_suitable_increment z) e k
 
 -- a suitable increment has its number in every store
 pub increment_is : (lang : Dialect) (c : Expression) (s : Store) → is_zero (step_or_zero (step_of c)) ≡ false → increment_of lang c s ≡ Ok (step_or_zero (step_of c))

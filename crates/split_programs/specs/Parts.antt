@@ -1,7 +1,7 @@
 -- The pieces of a loop that is cut, by the turns with which they end, and what they do to the pairs of subscripts that
 -- gave its points.
 use Rattle.std.specs.Prelude.{◌≡◌, ◌⊎◌, ℕ, ◌+◌, List, [], ◌∷◌, ◌++◌}
-use Rattle.components.specs.Lists.{In}
+use Rattle.components.specs.Lists.{IsMember}
 use Rattle.dependence_graph.specs.declared.nest_references.occurrences.Occurrence.{Occurrence}
 use Rattle.index_split.specs.Points.{AreCutPoints, CoupleGives, IsConsidered}
 use Rattle.nest.specs.Plain.{Nest}
@@ -17,5 +17,5 @@ IsPieceOf before (end ∷ ends) from to = ((from ≡ before + 1) × (to ≡ end)
 -- equal that gave one of them
 abbrev pub PiecesPartPairs : Type 0
 PiecesPartPairs = (n : Nest) (points : List ℕ) (t x from to : ℕ) (first second : Occurrence)
-    → (cut : AreCutPoints n points) → IsConsidered n t → In first cut.references → In second cut.references
+    → (cut : AreCutPoints n points) → IsConsidered n t → IsMember first cut.references → IsMember second cut.references
     → (gave : CoupleGives t first second x) → IsPieceOf 0 (points ++ t ∷ []) from to → NeverMeet gave.pair from to

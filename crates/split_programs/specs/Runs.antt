@@ -3,6 +3,7 @@ use Rattle.std.specs.Prelude.{◌≡◌, ◌≤◌, Option, ℕ, List}
 use Rattle.index_split.specs.Split.{IsSplitTo}
 use Rattle.meaning.specs.Dialect.{Dialect, fortran77}
 use Rattle.meaning.specs.Keeping.{KeepsMeaning}
+use Rattle.tree.specs.declared.width.Width.{Width}
 use Rattle.meaning.specs.Profile77.{IsProgram77}
 use Rattle.meaning.specs.Run.{run}
 use Rattle.tree.specs.Plain.{Program}
@@ -14,6 +15,6 @@ SplitProgramRunsAsSource = (lang own : Dialect) (limit : Option ℕ) (p q : Prog
     → lang.bits ≤ 63 → IsProgram77 own p → IsSplitTo p q → run lang limit q input ≡ run lang limit p input
 
 -- so what keeps the meaning of the split program keeps that of its source
-abbrev pub MeaningIsHandedOn : Type 0
-MeaningIsHandedOn = (p s q : Program) (input : List ℕ) → IsProgram77 fortran77 p → IsSplitTo p s
-    → KeepsMeaning s q input → KeepsMeaning p q input
+abbrev pub MeaningIsHandedOn : Width → Type 0
+MeaningIsHandedOn width = (p s q : Program) (input : List ℕ) → IsProgram77 (fortran77 width) p → IsSplitTo p s
+    → KeepsMeaning width s q input → KeepsMeaning width p q input

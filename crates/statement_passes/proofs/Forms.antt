@@ -12,9 +12,9 @@ use Rattle.linear_forms.specs.Expressed.{variable, variables, with_constant, wit
 use Rattle.linear_forms.specs.Linear.{all_small, is_small, not_zero}
 use Rattle.linear_forms.specs.Places.{padded, terms_from}
 use Rattle.linear_forms.specs.Texts.{places_behind, with_place, with_symbols}
-use Rattle.last_values.specs.normal_forms.Texts.{quotient, trip_text}
+use Rattle.last_values.specs.normal_forms.Texts.{quotient_text, trip_text}
 use Rattle.statement_passes.specs.Laws.{ShiftedHasText, ShiftedTripHasText, ShiftedIsForm, ShiftedIsAffine, ShiftedHasNumber, with_zero}
-use Rattle.statement_passes.specs.Symbols.{place_of, shifted_place, shifted_term}
+use Rattle.statement_passes.specs.Symbols.{place_among, shifted_place, shifted_term}
 use Rattle.statement_passes.proofs.Names.{place_of-within}
 use Rattle.statement_passes.proofs.Placing.{found-inserted, weighted-inserted}
 
@@ -55,7 +55,7 @@ module _ (terms : List Expression) (at : ℕ) (v : Expression) (within : at ≤ 
 
 pub shifted_has_text : ShiftedHasText
 shifted_has_text loops symbols trips x a =
-    let k = place_of symbols x in
+    let k = place_among symbols x in
     let h = place_of-within symbols x in
     let n = behind-length symbols trips in
     let few : k ≤ length (places_behind symbols trips) = omega (arith, h, n) in
@@ -65,7 +65,7 @@ shifted_has_text loops symbols trips x a =
 
 pub shifted_trip_has_text : ShiftedTripHasText
 unfolding trip_text
-shifted_trip_has_text loops symbols trips x t = ap (λ e. quotient e t.by) (shifted_has_text loops symbols trips x t.top)
+shifted_trip_has_text loops symbols trips x t = ap (λ e. quotient_text e t.by) (shifted_has_text loops symbols trips x t.top)
 
 pub shifted_has_number : ShiftedHasNumber
 shifted_has_number k f xs v h = ap (λ s. s +ℤ f.constant) (weighted-inserted k f.coefficients xs v h)

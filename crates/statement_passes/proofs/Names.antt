@@ -10,7 +10,7 @@ use Rattle.std.proofs.lemmas.Cmp.{nat_list_cmp_total}
 use Rattle.std.proofs.lemmas.Map.Text.{is_eq-slice_cmp}
 use Rattle.std.proofs.lemmas.Slice.Eq.{bytes_eq-Decides}
 use Rattle.meaning.specs.Names.{IsInByteOrder, is_among}
-use Rattle.statement_passes.specs.Symbols.{place_by, place_of, with_name}
+use Rattle.statement_passes.specs.Symbols.{place_by, place_among, with_name_placed}
 use Rattle.statement_passes.specs.Laws.{NamesStayInOrder}
 
 same_name : (x y : List ℕ) → slice_cmp nat_cmp x y ≡ Equal → x ≡ y
@@ -29,9 +29,9 @@ place_within Less k n h = omega (arith, h)
 place_within Equal k n h = omega arith
 place_within Greater k n h = omega arith
 
-pub place_of-within : (xs : List (List ℕ)) (x : List ℕ) → place_of xs x ≤ length xs
+pub place_of-within : (xs : List (List ℕ)) (x : List ℕ) → place_among xs x ≤ length xs
 place_of-within [] x = omega arith
-place_of-within (y ∷ ys) x = let h = place_within (slice_cmp nat_cmp y x) (place_of ys x) (length ys) (place_of-within ys x) in omega (arith, h)
+place_of-within (y ∷ ys) x = let h = place_within (slice_cmp nat_cmp y x) (place_among ys x) (length ys) (place_of-within ys x) in omega (arith, h)
 
 -- by where the first name stands
 abbrev placed_by : Ordering → List ℕ → List ℕ → List (List ℕ) → List (List ℕ) → List (List ℕ)
@@ -80,6 +80,6 @@ ordered_by Greater x y ys behind q h b other more =
 pub names_stay_in_order : NamesStayInOrder
 names_stay_in_order [] x h n = (tt, tt)
 names_stay_in_order (y ∷ ys) x h n =
-    subst IsInByteOrder (sym (by_order (slice_cmp nat_cmp y x) x y ys (place_of ys x)))
-    (ordered_by (slice_cmp nat_cmp y x) x y ys (with_name ys x) refl h (names_stay_in_order ys x h.1 (not_rest (bytes_eq x y) (is_among ys x) n)) (not_first (bytes_eq x y) (is_among ys x) n)
-    (λ l. all_inserted (Follows y) ys (place_of ys x) x l h.0))
+    subst IsInByteOrder (sym (by_order (slice_cmp nat_cmp y x) x y ys (place_among ys x)))
+    (ordered_by (slice_cmp nat_cmp y x) x y ys (with_name_placed ys x) refl h (names_stay_in_order ys x h.1 (not_rest (bytes_eq x y) (is_among ys x) n)) (not_first (bytes_eq x y) (is_among ys x) n)
+    (λ l. all_inserted (Follows y) ys (place_among ys x) x l h.0))

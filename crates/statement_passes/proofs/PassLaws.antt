@@ -14,7 +14,7 @@ use Rattle.nest.specs.declared.parts.Part.{Part}
 use Rattle.nest.specs.declared.parts.Part.TheVariants as variants
 use Rattle.nest.proofs.Equations.{part_of-run, part_of-turns, part_of-choice, part_of-label, part_of-jump}
 use Rattle.nest.proofs.statement_loops.StandingLaws.{one_more}
-use Rattle.nest_steps.specs.Mapped.{count_of, count_in, mapped, mapped_in}
+use Rattle.nest_steps.specs.Mapped.{count_of, count_in, mapped_parts_of, mapped_in}
 use Rattle.nest_rewrite.specs.Assembled.{with_parts}
 use Rattle.statement_passes.specs.MadeNames.{with_made}
 use Rattle.statement_passes.specs.Passes.{mapped_body, mapped_nest}
@@ -56,19 +56,19 @@ counted-jump n = ap count_of (part_of-jump n)
 
 module _ (each : List P.Loop → ℕ → P.Guarded → List P.Guarded) where
   in-append : (ls : List P.Loop) (k : ℕ) (ps : List P.Part) (p : P.Part)
-      → mapped_in each ls k (P.parts (ps ++ p ∷ [])) ≡ mapped_in each ls k (P.parts ps) ++ mapped each ls (k + count_in (P.parts ps)) p
+      → mapped_in each ls k (P.parts (ps ++ p ∷ [])) ≡ mapped_in each ls k (P.parts ps) ++ mapped_parts_of each ls (k + count_in (P.parts ps)) p
   in-append ls k [] p =
       let none : k ≡ k + 0 = omega arith in
-      append-nil (mapped each ls k p) ∙ ap (λ m. mapped each ls m p) none
+      append-nil (mapped_parts_of each ls k p) ∙ ap (λ m. mapped_parts_of each ls m p) none
   in-append ls k (q ∷ ps) p =
       let sum : (k + count_of q) + count_in (P.parts ps) ≡ k + (count_of q + count_in (P.parts ps)) = omega arith in
-      ap (λ xs. mapped each ls k q ++ xs) (in-append ls (k + count_of q) ps p)
-      ∙ sym (append_assoc (mapped each ls k q) (mapped_in each ls (k + count_of q) (P.parts ps)) (mapped each ls ((k + count_of q) + count_in (P.parts ps)) p))
-      ∙ ap (λ m. (mapped each ls k q ++ mapped_in each ls (k + count_of q) (P.parts ps)) ++ mapped each ls m p) sum
+      ap (λ xs. mapped_parts_of each ls k q ++ xs) (in-append ls (k + count_of q) ps p)
+      ∙ sym (append_assoc (mapped_parts_of each ls k q) (mapped_in each ls (k + count_of q) (P.parts ps)) (mapped_parts_of each ls ((k + count_of q) + count_in (P.parts ps)) p))
+      ∙ ap (λ m. (mapped_parts_of each ls k q ++ mapped_in each ls (k + count_of q) (P.parts ps)) ++ mapped_parts_of each ls m p) sum
 
   in_more : (ls : List P.Loop) (k : ℕ) (list : List Part) (i : ℕ) (x : Part) → i < length list → x ≡ get_or list i x
       → mapped_in each ls k (P.parts (map part_of (take (i + 1) list)))
-      ≡ mapped_in each ls k (P.parts (map part_of (take i list))) ++ mapped each ls (k + count_in (P.parts (map part_of (take i list)))) (part_of x)
+      ≡ mapped_in each ls k (P.parts (map part_of (take i list))) ++ mapped_parts_of each ls (k + count_in (P.parts (map part_of (take i list)))) (part_of x)
   in_more ls k list i x h e =
       ap (λ xs. mapped_in each ls k (P.parts (map part_of xs))) (one_more list i x h e)
       ∙ ap (λ xs. mapped_in each ls k (P.parts xs)) (map-append part_of (take i list) (x ∷ []))
@@ -77,35 +77,35 @@ module _ (each : List P.Loop → ℕ → P.Guarded → List P.Guarded) where
   pub added-more : (same : List P.Loop → ℕ → P.Guarded → List P.Guarded) (ls : List P.Loop) (list : List Part) (i : ℕ) (x : Part) (k next : ℕ)
       (first old new : List P.Part) → i < length list → x ≡ get_or list i x → same ≡ each
       → old ≡ first ++ mapped_in each ls k (P.parts (map part_of (take i list)))
-      → next ≡ k + count_in (P.parts (map part_of (take i list))) → new ≡ old ++ mapped same ls next (part_of x)
+      → next ≡ k + count_in (P.parts (map part_of (take i list))) → new ≡ old ++ mapped_parts_of same ls next (part_of x)
       → new ≡ first ++ mapped_in each ls k (P.parts (map part_of (take (i + 1) list)))
   added-more same ls list i x k next first old new h e alike before count now =
-      now ∙ ap (λ f. old ++ mapped f ls next (part_of x)) alike
-      ∙ ap (λ xs. xs ++ mapped each ls next (part_of x)) before
-      ∙ ap (λ m. (first ++ mapped_in each ls k (P.parts (map part_of (take i list)))) ++ mapped each ls m (part_of x)) count
-      ∙ append_assoc first (mapped_in each ls k (P.parts (map part_of (take i list)))) (mapped each ls (k + count_in (P.parts (map part_of (take i list)))) (part_of x))
+      now ∙ ap (λ f. old ++ mapped_parts_of f ls next (part_of x)) alike
+      ∙ ap (λ xs. xs ++ mapped_parts_of each ls next (part_of x)) before
+      ∙ ap (λ m. (first ++ mapped_in each ls k (P.parts (map part_of (take i list)))) ++ mapped_parts_of each ls m (part_of x)) count
+      ∙ append_assoc first (mapped_in each ls k (P.parts (map part_of (take i list)))) (mapped_parts_of each ls (k + count_in (P.parts (map part_of (take i list)))) (part_of x))
       ∙ ap (λ xs. first ++ xs) (sym (in_more ls k list i x h e))
 
-  pub mapped-run : (ls : List P.Loop) (k : ℕ) (s : GuardedStmt) → mapped each ls k (part_of (variants.Run s)) ≡ map P.Run (each ls k (guarded_of s))
-  mapped-run ls k s = ap (mapped each ls k) (part_of-run s)
+  pub mapped-run : (ls : List P.Loop) (k : ℕ) (s : GuardedStmt) → mapped_parts_of each ls k (part_of (variants.Run s)) ≡ map P.Run (each ls k (guarded_of s))
+  mapped-run ls k s = ap (mapped_parts_of each ls k) (part_of-run s)
 
   pub mapped-turns : (ls : List P.Loop) (k : ℕ) (l : Loop) (ps : Seq Part)
-      → mapped each ls k (part_of (variants.Turns l ps)) ≡ P.Turns (loop_of l) (P.parts (mapped_in each (ls ++ loop_of l ∷ []) k (P.parts (map part_of ps)))) ∷ []
-  mapped-turns ls k l ps = ap (mapped each ls k) (part_of-turns l ps)
+      → mapped_parts_of each ls k (part_of (variants.Turns l ps)) ≡ P.Turns (loop_of l) (P.parts (mapped_in each (ls ++ loop_of l ∷ []) k (P.parts (map part_of ps)))) ∷ []
+  mapped-turns ls k l ps = ap (mapped_parts_of each ls k) (part_of-turns l ps)
 
-  pub mapped-choice : (ls : List P.Loop) (k : ℕ) (bs : Seq NestArm) (ps : Seq Part) → mapped each ls k (part_of (variants.Choice bs ps)) ≡ part_of (variants.Choice bs ps) ∷ []
-  mapped-choice ls k bs ps = ap (mapped each ls k) (part_of-choice bs ps) ∙ ap (λ (p : P.Part). p ∷ []) (sym (part_of-choice bs ps))
+  pub mapped-choice : (ls : List P.Loop) (k : ℕ) (bs : Seq NestArm) (ps : Seq Part) → mapped_parts_of each ls k (part_of (variants.Choice bs ps)) ≡ part_of (variants.Choice bs ps) ∷ []
+  mapped-choice ls k bs ps = ap (mapped_parts_of each ls k) (part_of-choice bs ps) ∙ ap (λ (p : P.Part). p ∷ []) (sym (part_of-choice bs ps))
 
-  pub mapped-label : (ls : List P.Loop) (k n : ℕ) → mapped each ls k (part_of (variants.Label n)) ≡ part_of (variants.Label n) ∷ []
-  mapped-label ls k n = ap (mapped each ls k) (part_of-label n) ∙ ap (λ (p : P.Part). p ∷ []) (sym (part_of-label n))
+  pub mapped-label : (ls : List P.Loop) (k n : ℕ) → mapped_parts_of each ls k (part_of (variants.Label n)) ≡ part_of (variants.Label n) ∷ []
+  mapped-label ls k n = ap (mapped_parts_of each ls k) (part_of-label n) ∙ ap (λ (p : P.Part). p ∷ []) (sym (part_of-label n))
 
-  pub mapped-jump : (ls : List P.Loop) (k n : ℕ) → mapped each ls k (part_of (variants.Jump n)) ≡ part_of (variants.Jump n) ∷ []
-  mapped-jump ls k n = ap (mapped each ls k) (part_of-jump n) ∙ ap (λ (p : P.Part). p ∷ []) (sym (part_of-jump n))
+  pub mapped-jump : (ls : List P.Loop) (k n : ℕ) → mapped_parts_of each ls k (part_of (variants.Jump n)) ≡ part_of (variants.Jump n) ∷ []
+  mapped-jump ls k n = ap (mapped_parts_of each ls k) (part_of-jump n) ∙ ap (λ (p : P.Part). p ∷ []) (sym (part_of-jump n))
 
   -- a loop, under which stands what was made of its body
   pub turns-added : (ls inner : List P.Loop) (k : ℕ) (l : Loop) (ps : Seq Part) (body old new : List P.Part) → inner ≡ ls ++ loop_of l ∷ []
       → body ≡ mapped_in each inner k (P.parts (map part_of ps)) → new ≡ old ++ P.Turns (loop_of l) (P.parts body) ∷ []
-      → new ≡ old ++ mapped each ls k (part_of (variants.Turns l ps))
+      → new ≡ old ++ mapped_parts_of each ls k (part_of (variants.Turns l ps))
   turns-added ls inner k l ps body old new within are now =
       now ∙ ap (λ (b : List P.Part). old ++ P.Turns (loop_of l) (P.parts b) ∷ []) (are ∙ ap (λ ms. mapped_in each ms k (P.parts (map part_of ps))) within)
       ∙ ap (λ xs. old ++ xs) (sym (mapped-turns ls k l ps))

@@ -4,12 +4,12 @@ use Rattle.std.proofs.lemmas.List.{append-nil, map-append}
 use Rattle.nest.specs.Bodies.{Standing, loops_in_branches, loops_in_parts, loops_of, statements_in, statements_in_branches, statements_in_parts}
 use Rattle.nest.specs.Plain.{Branches, no_branches, branch, Guarded, Loop, Part, Run, Turns, Choice, Label, Jump, Parts, no_parts, part, parts}
 use Rattle.nest_order.specs.shapes.Shapes.{ArePlain, IsPlain}
-use Rattle.nest_steps.specs.Mapped.{count_in, count_of, mapped, mapped_in}
+use Rattle.nest_steps.specs.Mapped.{count_in, count_of, mapped_parts_of, mapped_in}
 use Rattle.statement_passes.specs.Laws.{MappedNestHas, SymbolLeavesNest}
 use Rattle.statement_passes.specs.Passes.{mapped_body}
 use Rattle.statement_passes.specs.Shifted.{shifted_branches, shifted_loop, shifted_part, shifted_parts}
 use Rattle.statement_passes.specs.Standings.{IsLoop, mapped_standings, shifted_standing, standings}
-use Rattle.statement_passes.specs.Symbols.{place_of}
+use Rattle.statement_passes.specs.Symbols.{place_among}
 
 -- ---- lists of parts
 
@@ -62,7 +62,7 @@ module _ (each : List Loop → ℕ → Guarded → List Guarded) where
       ∙ ap (λ m. (standings x.loops (each x.loops k x.statement) ++ mapped_standings each (k + 1) xs) ++ mapped_standings each m ys) same
 
   mutual
-    part-stands : (ls : List Loop) (k : ℕ) (p : Part) → IsPlain p → statements_in_parts ls (parts (mapped each ls k p)) ≡ mapped_standings each k (statements_in ls p)
+    part-stands : (ls : List Loop) (k : ℕ) (p : Part) → IsPlain p → statements_in_parts ls (parts (mapped_parts_of each ls k p)) ≡ mapped_standings each k (statements_in ls p)
     part-stands ls k (Run g) h = runs-are ls (each ls k g) ∙ sym (append-nil (standings ls (each ls k g)))
     part-stands ls k (Turns l ps) h =
         append-nil (statements_in_parts (ls ++ l ∷ []) (parts (mapped_in each (ls ++ l ∷ []) k ps))) ∙ parts-stand (ls ++ l ∷ []) k ps h.1
@@ -73,13 +73,13 @@ module _ (each : List Loop → ℕ → Guarded → List Guarded) where
     parts-stand : (ls : List Loop) (k : ℕ) (ps : Parts) → ArePlain ps → statements_in_parts ls (parts (mapped_in each ls k ps)) ≡ mapped_standings each k (statements_in_parts ls ps)
     parts-stand ls k no_parts h = refl
     parts-stand ls k (part p ps) h =
-        statements-append ls (mapped each ls k p) (mapped_in each ls (k + count_of p) ps)
+        statements-append ls (mapped_parts_of each ls k p) (mapped_in each ls (k + count_of p) ps)
         ∙ ap₂ (λ (xs ys : List Standing). xs ++ ys) (part-stands ls k p h.0)
         (parts-stand ls (k + count_of p) ps h.1 ∙ ap (λ m. mapped_standings each (k + m) (statements_in_parts ls ps)) (sym (count-part ls p h.0)))
         ∙ sym (mapped-append k (statements_in ls p) (statements_in_parts ls ps))
 
   mutual
-    part-loops : (ls : List Loop) (k : ℕ) (p : Part) → IsPlain p → loops_in_parts (parts (mapped each ls k p)) ≡ loops_of p
+    part-loops : (ls : List Loop) (k : ℕ) (p : Part) → IsPlain p → loops_in_parts (parts (mapped_parts_of each ls k p)) ≡ loops_of p
     part-loops ls k (Run g) h = no-loops (each ls k g)
     part-loops ls k (Turns l ps) h = ap (λ ms. l ∷ ms) (append-nil (loops_in_parts (parts (mapped_in each (ls ++ l ∷ []) k ps))) ∙ parts-loops (ls ++ l ∷ []) k ps h.1)
     part-loops ls k (Choice bs ps) h = absurd h
@@ -89,11 +89,11 @@ module _ (each : List Loop → ℕ → Guarded → List Guarded) where
     parts-loops : (ls : List Loop) (k : ℕ) (ps : Parts) → ArePlain ps → loops_in_parts (parts (mapped_in each ls k ps)) ≡ loops_in_parts ps
     parts-loops ls k no_parts h = refl
     parts-loops ls k (part p ps) h =
-        loops-append (mapped each ls k p) (mapped_in each ls (k + count_of p) ps)
+        loops-append (mapped_parts_of each ls k p) (mapped_in each ls (k + count_of p) ps)
         ∙ ap₂ (λ (xs ys : List Loop). xs ++ ys) (part-loops ls k p h.0) (parts-loops ls (k + count_of p) ps h.1)
 
   mutual
-    part-plain : (ls : List Loop) (k : ℕ) (p : Part) → IsPlain p → ArePlain (parts (mapped each ls k p))
+    part-plain : (ls : List Loop) (k : ℕ) (p : Part) → IsPlain p → ArePlain (parts (mapped_parts_of each ls k p))
     part-plain ls k (Run g) h = runs-plain (each ls k g)
     part-plain ls k (Turns l ps) h = ((h.0, parts-plain (ls ++ l ∷ []) k ps h.1), tt)
     part-plain ls k (Choice bs ps) h = absurd h
@@ -102,7 +102,7 @@ module _ (each : List Loop → ℕ → Guarded → List Guarded) where
 
     parts-plain : (ls : List Loop) (k : ℕ) (ps : Parts) → ArePlain ps → ArePlain (parts (mapped_in each ls k ps))
     parts-plain ls k no_parts h = tt
-    parts-plain ls k (part p ps) h = plain-append (mapped each ls k p) (mapped_in each ls (k + count_of p) ps) (part-plain ls k p h.0) (parts-plain ls (k + count_of p) ps h.1)
+    parts-plain ls k (part p ps) h = plain-append (mapped_parts_of each ls k p) (mapped_in each ls (k + count_of p) ps) (part-plain ls k p h.0) (parts-plain ls (k + count_of p) ps h.1)
 
   record Stands (p q : Part) : Type 0 where
     pub plain : IsPlain q
@@ -191,7 +191,7 @@ module _ (at : ℕ) where
 
 pub symbol_leaves_nest : SymbolLeavesNest
 symbol_leaves_nest n x h = record {
-  plain = plain-shifted (place_of n.symbols x) n.body h;
-  loops = loops-shifted (place_of n.symbols x) n.body;
-  statements = part-shifted (place_of n.symbols x) [] n.body;
+  plain = plain-shifted (place_among n.symbols x) n.body h;
+  loops = loops-shifted (place_among n.symbols x) n.body;
+  statements = part-shifted (place_among n.symbols x) [] n.body;
 }

@@ -13,9 +13,9 @@ use Rattle.nest.specs.declared.parts.Trip.{Trip}
 use Rattle.nest_order.specs.shapes.Shapes.{IsPlain}
 use Rattle.last_values.specs.normal_forms.Texts.{trip_text}
 use Rattle.statement_passes.specs.Passes.{mapped_nest}
-use Rattle.statement_passes.specs.Shifted.{shifted_part, with_symbol}
+use Rattle.statement_passes.specs.Shifted.{shifted_part, with_nest_symbol}
 use Rattle.statement_passes.specs.Standings.{IsLoop, IsMappedFrom, IsShiftedFrom}
-use Rattle.statement_passes.specs.Symbols.{place_of, shifted, shifted_trip, with_name}
+use Rattle.statement_passes.specs.Symbols.{place_among, shifted, shifted_trip, with_name_placed}
 
 -- ---- nests
 
@@ -27,7 +27,7 @@ MappedNestHas = (each : List Loop → ℕ → Guarded → List Guarded) (n : Nes
 -- statements stay, and loops but for the places in their trips; it is run as it was
 abbrev pub SymbolLeavesNest : Type 0
 SymbolLeavesNest = (n : Nest) (x : List ℕ) → IsPlain n.body
-    → IsShiftedFrom (place_of n.symbols x) n (with_symbol n x)
+    → IsShiftedFrom (place_among n.symbols x) n (with_nest_symbol n x)
 
 abbrev pub ShiftedRunsAlike : Type 0
 ShiftedRunsAlike = (line at : ℕ) (p : Part) → statement_of_part line (shifted_part at p) ≡ statement_of_part line p
@@ -37,18 +37,19 @@ ShiftedRunsAlike = (line at : ℕ) (p : Part) → statement_of_part line (shifte
 -- a name that wasn't there comes in at its place in byte order
 abbrev pub NamesStayInOrder : Type 0
 NamesStayInOrder = (xs : List (List ℕ)) (x : List ℕ) → IsInByteOrder xs → is_among xs x ≡ false
-    → IsInByteOrder (with_name xs x)
+    → IsInByteOrder (with_name_placed xs x)
 
 -- ---- forms
 
 -- by the new list a form is written as it was, and so is a trip
 abbrev pub ShiftedHasText : Type 0
 ShiftedHasText = (loops symbols : List (List ℕ)) (trips : List Expression) (x : List ℕ) (a : Affine)
-    → text_of loops (with_name symbols x) trips (shifted (place_of symbols x) a) ≡ text_of loops symbols trips a
+    → text_of loops (with_name_placed symbols x) trips (shifted (place_among symbols x) a)
+    ≡ text_of loops symbols trips a
 
 abbrev pub ShiftedTripHasText : Type 0
 ShiftedTripHasText = (loops symbols : List (List ℕ)) (trips : List Expression) (x : List ℕ) (t : Trip)
-    → trip_text loops (with_name symbols x) trips (shifted_trip (place_of symbols x) t)
+    → trip_text loops (with_name_placed symbols x) trips (shifted_trip (place_among symbols x) t)
     ≡ trip_text loops symbols trips t
 
 -- it stays a form, with symbols in rising order

@@ -4,7 +4,7 @@ use Rattle.std.specs.Option.{option_map}
 use Rattle.nest.specs.Plain.{Loop, Part, Run, Turns, Choice, Label, Jump, Parts, no_parts, part, Branches, no_branches}
 use Rattle.nest.specs.Plain.{branch, Nest}
 use Rattle.nest.specs.View.{Branch}
-use Rattle.statement_passes.specs.Symbols.{place_of, shifted_trip, with_name}
+use Rattle.statement_passes.specs.Symbols.{place_among, shifted_trip, with_name_placed}
 
 module _ (at : ℕ) where
   abbrev pub shifted_loop : Loop → Loop
@@ -29,11 +29,11 @@ module _ (at : ℕ) where
   abbrev pub shifted_branch : Branch → Branch
   shifted_branch b = record { test = b.test; body = shifted_parts b.body }
 
-abbrev pub with_symbol : Nest → List ℕ → Nest
-with_symbol n x =
-    record n { symbols = with_name n.symbols x; body = shifted_part (place_of n.symbols x) n.body }
+abbrev pub with_nest_symbol : Nest → List ℕ → Nest
+with_nest_symbol n x =
+    record n { symbols = with_name_placed n.symbols x; body = shifted_part (place_among n.symbols x) n.body }
 
 -- one after the other
-abbrev pub with_symbols : Nest → List (List ℕ) → Nest
-with_symbols n [] = n
-with_symbols n (x ∷ xs) = with_symbols (with_symbol n x) xs
+abbrev pub with_nest_symbols : Nest → List (List ℕ) → Nest
+with_nest_symbols n [] = n
+with_nest_symbols n (x ∷ xs) = with_nest_symbols (with_nest_symbol n x) xs

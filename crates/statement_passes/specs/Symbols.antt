@@ -17,13 +17,13 @@ place_by Equal k = 0
 place_by Greater k = 0
 
 -- how many of the names, which are in byte order, stand before x
-abbrev pub place_of : List (List ℕ) → List ℕ → ℕ
-place_of [] x = 0
-place_of (y ∷ ys) x = place_by (slice_cmp nat_cmp y x) (place_of ys x)
+abbrev pub place_among : List (List ℕ) → List ℕ → ℕ
+place_among [] x = 0
+place_among (y ∷ ys) x = place_by (slice_cmp nat_cmp y x) (place_among ys x)
 
 -- with x at its place
-abbrev pub with_name : List (List ℕ) → List ℕ → List (List ℕ)
-with_name xs x = insert xs (place_of xs x) x
+abbrev pub with_name_placed : List (List ℕ) → List ℕ → List (List ℕ)
+with_name_placed xs x = insert xs (place_among xs x) x
 
 -- ---- forms, where a symbol has come in at a place
 

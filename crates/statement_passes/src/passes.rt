@@ -2,7 +2,7 @@
 ghost use Rattle.std.specs.Prelude.{◌≡◌, ◌+◌, ◌++◌, ◌∷◌, [], ℕ, List, IfOk, OnOk, map};
 ghost use Rattle.nest.specs.Plain as plain;
 ghost use Rattle.nest.specs.View.{guarded_of, loop_of, nest_of, part_of};
-ghost use Rattle.nest_steps.specs.Mapped.{count_in, count_of, mapped, mapped_in};
+ghost use Rattle.nest_steps.specs.Mapped.{count_in, count_of, mapped_parts_of, mapped_in};
 ghost use Rattle.statement_passes.specs.Passes.{mapped_body, mapped_nest};
 
 use crate::made_names::copy_made;
@@ -92,7 +92,7 @@ fn add_part<S: StatementPass>(
     made: &mut Seq<Part>,
 ) -> Result<u32, Memory>
     ensures added { OnOk result (map part_of made.new ≡ map part_of made.old
-        ++ mapped (S.each pass.old) (map loop_of loops.now) number (part_of part.now)) }
+        ++ mapped_parts_of (S.each pass.old) (map loop_of loops.now) number (part_of part.now)) }
     ensures counted { IfOk result (λ next. next ≡ number + count_of (part_of part.now)) }
     ensures same { S.each pass.new ≡ S.each pass.old }
 {

@@ -3,9 +3,9 @@ ghost use Rattle.std.specs.Prelude.{◌≡◌, ◌≤◌, IfOk, length, map};
 ghost use Rattle.std.specs.Option.{option_map};
 ghost use Rattle.nest.specs.Plain as plain;
 ghost use Rattle.nest.specs.View.{branch_of, branches, loop_of, nest_of, part_of};
-ghost use Rattle.statement_passes.specs.Symbols.{place_of, shifted, shifted_term, shifted_trip, with_name};
+ghost use Rattle.statement_passes.specs.Symbols.{place_among, shifted, shifted_term, shifted_trip, with_name_placed};
 ghost use Rattle.statement_passes.specs.Shifted.{shifted_branch, shifted_branches, shifted_loop, shifted_part};
-ghost use Rattle.statement_passes.specs.Shifted.{shifted_parts, with_symbol, with_symbols};
+ghost use Rattle.statement_passes.specs.Shifted.{shifted_parts, with_nest_symbol, with_nest_symbols};
 
 use crate::made_names::copy_made;
 use nest::{Loop, Nest, NestArm, Part, Trip};
@@ -16,7 +16,7 @@ use tree::{Memory, Name, Seq, both, copy_decls};
 
 /// How many of the names, which are in byte order, stand before this one.
 pub fn place_of(names: &[Name], name: Name) -> usize
-    ensures place { result ≡ place_of names.now name }
+    ensures place { result ≡ place_among names.now name }
     ensures within { result ≤ length names.now }
 {
     let Some((first, rest)) = names.split_first() else {
@@ -30,7 +30,7 @@ pub fn place_of(names: &[Name], name: Name) -> usize
 
 /// The names, which are in byte order, with this one at its place.
 pub fn with_name(alloc: Global, names: &Seq<Name>, name: Name) -> Result<Seq<Name>, Memory>
-    ensures { IfOk result (λ all. all ≡ with_name names.now name) }
+    ensures { IfOk result (λ all. all ≡ with_name_placed names.now name) }
 {
     let place = place_of(names.as_slice(), name);
     let mut all = Vec::from_slice(alloc, names.as_slice())?;
@@ -158,7 +158,7 @@ fn shifted_arms(alloc: Global, at: usize, arms: &Seq<NestArm>) -> Result<Seq<Nes
 /// The nest with one symbol more, at its place in byte order. Places of symbols in the trips of loops are those of the
 /// new list.
 pub fn with_symbol(alloc: Global, nest: &Nest, name: Name) -> Result<Nest, Memory>
-    ensures { IfOk result (λ new. nest_of new ≡ with_symbol (nest_of nest.now) name) }
+    ensures { IfOk result (λ new. nest_of new ≡ with_nest_symbol (nest_of nest.now) name) }
 {
     let at = place_of(nest.symbols.as_slice(), name);
     let symbols = with_name(alloc, &nest.symbols, name)?;
@@ -181,7 +181,7 @@ pub fn with_symbol(alloc: Global, nest: &Nest, name: Name) -> Result<Nest, Memor
 
 /// The nest with these symbols more, one after the other.
 pub fn with_symbols(alloc: Global, nest: &Nest, names: &[Name]) -> Result<Nest, Memory>
-    ensures { IfOk result (λ new. nest_of new ≡ with_symbols (nest_of nest.now) names.now) }
+    ensures { IfOk result (λ new. nest_of new ≡ with_nest_symbols (nest_of nest.now) names.now) }
 {
     let Some((first, rest)) = names.split_first() else {
         return nest.copy(alloc);

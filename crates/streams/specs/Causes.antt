@@ -2,12 +2,12 @@
 use Rattle.std.specs.Prelude.{ℕ, ◌+◌, ◌-◌, ◌^◌, ◌≤◌, min}
 
 -- what a u64 shows of a count
-abbrev pub counted : ℕ → ℕ
-counted n = min n (2 ^ 64 - 1)
+abbrev pub shown_count : ℕ → ℕ
+shown_count n = min n (2 ^ 64 - 1)
 
 -- the count after one more
 abbrev pub next_count : ℕ → ℕ
-next_count before = counted (before + 1)
+next_count before = shown_count (before + 1)
 
 -- something was counted since: the count has risen, or stands at its end
 abbrev pub Rose : ℕ → ℕ → Type 0

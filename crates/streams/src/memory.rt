@@ -1,8 +1,7 @@
 // Sources and sinks over memory.
-ghost use Rattle.std.specs.Prelude.{◌≡◌, ◌≢◌, ◌-◌, ◌<◌, ◌↔◌, ◌⊎◌, [], Some, None, Ok, length, min, IfOk};
-ghost use Rattle.std.specs.Prelude.{Contains};
+ghost use Rattle.std.specs.Prelude.{◌≡◌, ◌≢◌, ◌-◌, ◌<◌, ◌↔◌, ◌⊎◌, [], Some, None, Ok, length, min, IfOk, Contains};
 ghost use Rattle.std.proofs.Common.{rules};
-ghost use Rattle.streams.specs.Causes.{counted, next_count};
+ghost use Rattle.streams.specs.Causes.{shown_count, next_count};
 ghost use Rattle.streams.specs.Turns.{TakesFront, TakesCount, TakesExactly, GivesFront, GivesCount, GivesExactly};
 
 use crate::schedule::Schedule;
@@ -103,7 +102,7 @@ impl MemSource {
 impl Source for MemSource {
     ghost left = { λ s. Some s.left };
 
-    ghost faults = { λ s. counted s.faults };
+    ghost faults = { λ s. shown_count s.faults };
 
     ghost faults_fit = { Prim.search rules };
 
@@ -185,7 +184,7 @@ impl Sink for MemSink {
 
     ghost held = { λ _. [] };
 
-    ghost faults = { λ s. counted s.faults };
+    ghost faults = { λ s. shown_count s.faults };
 
     ghost faults_fit = { Prim.search rules };
 

@@ -1,7 +1,7 @@
 // The edge to the system: std's readers and writers. No clause can say which bytes a file or a terminal gives or takes.
 ghost use Rattle.std.specs.Prelude.{◌≡◌, ◌≢◌, ◌<◌, [], None, Ok, length};
 ghost use Rattle.std.proofs.Common.{rules};
-ghost use Rattle.streams.specs.Causes.{counted, next_count};
+ghost use Rattle.streams.specs.Causes.{shown_count, next_count};
 ghost use Rattle.streams.specs.Standard.{took_of, gave_of, ReadsFront, WritesFront};
 ghost use Rattle.streams.specs.Turns.{TakesCount, GivesCount};
 
@@ -36,7 +36,7 @@ impl<R> StdSource<R> {
 impl<R: Read> Source for StdSource<R> {
     ghost left = { λ _. None };
 
-    ghost faults = { λ s. counted s.faults };
+    ghost faults = { λ s. shown_count s.faults };
 
     ghost faults_fit = { Prim.search rules };
 
@@ -95,7 +95,7 @@ impl<W: Write> Sink for StdSink<W> {
 
     ghost held = { λ _. [] };
 
-    ghost faults = { λ s. counted s.faults };
+    ghost faults = { λ s. shown_count s.faults };
 
     ghost faults_fit = { Prim.search rules };
 

@@ -1,6 +1,5 @@
 // All bytes of a source, and a whole text to a sink.
-ghost use Rattle.std.specs.Prelude.{◌≡◌, [], ◌-◌, ◌^◌, ◌≤◌, ◌<◌, length, take, IfOk, OnOk, OnErr};
-ghost use Rattle.std.specs.Prelude.{IsErrOf};
+ghost use Rattle.std.specs.Prelude.{◌≡◌, [], ◌-◌, ◌^◌, ◌≤◌, ◌<◌, length, take, IfOk, OnOk, OnErr, IsErrOf};
 ghost use Rattle.std.specs.Io.KnownBytes.{IsAtEnd};
 ghost use Rattle.streams.specs.Causes.{Rose};
 ghost use Rattle.streams.specs.Streams.{Takes, TakesMoreThan, Gives, GivesPart};

@@ -1,7 +1,6 @@
 //! Whether pairings, directions and groups keep what callers have to keep.
 ghost use Rattle.std.specs.List.Sorted.{IsStrictlyIncreasing};
-ghost use Rattle.std.specs.Prelude.{◌≡◌, ◌≢◌, ℕ, ◌≤◌, ◌<◌, ◌↔◌, All, IsSome, IsTrue, length, map, pos};
-ghost use Rattle.std.specs.Prelude.{slice_index_or};
+ghost use Rattle.std.specs.Prelude.{◌≡◌, ◌≢◌, ℕ, ◌≤◌, ◌<◌, ◌↔◌, All, IsSome, IsTrue, length, map, pos, slice_index_or};
 ghost use Rattle.subscripts.specs.Iterations.{once};
 ghost use Rattle.subscripts.specs.Classes.{IsZiv};
 ghost use Rattle.subscripts.specs.Shapes.{AreDirsOf, AreSpans, AreSymbols, IsBeside, IsForm, IsGroup, IsPairing};

@@ -4,7 +4,7 @@ use Rattle.linear_forms.specs.Canonical.{canonising}
 use Rattle.nest.specs.Plain.{Guarded, Loop, Nest}
 use Rattle.nest_rewrite.specs.Statements.{rewritten_statement}
 use Rattle.statement_passes.specs.Passes.{mapped_nest}
-use Rattle.statement_passes.specs.Shifted.{with_symbols}
+use Rattle.statement_passes.specs.Shifted.{with_nest_symbols}
 use Rattle.symbols_anew.specs.Found.{new_symbols}
 
 -- a statement in canonical text, by the variables of the loops round it and these symbols
@@ -20,7 +20,7 @@ with_texts n = mapped_nest (each_canonised n.symbols) n
 -- with these symbols more; without any it stays as it is
 abbrev pub with_new : Nest → List (List ℕ) → Nest
 with_new n [] = n
-with_new n (x ∷ xs) = with_texts (with_symbols n (x ∷ xs))
+with_new n (x ∷ xs) = with_texts (with_nest_symbols n (x ∷ xs))
 
 -- m with all its symbols, where a pass has made it of n
 unfoldable pub with_symbols_found : Nest → Nest → Nest

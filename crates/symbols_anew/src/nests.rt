@@ -1,7 +1,7 @@
 //! Nests with all their symbols.
 ghost use Rattle.std.specs.Prelude.{◌≡◌, IfOk};
 ghost use Rattle.nest.specs.View.{nest_of};
-ghost use Rattle.statement_passes.specs.Shifted.{with_symbols};
+ghost use Rattle.statement_passes.specs.Shifted.{with_nest_symbols};
 ghost use Rattle.symbols_anew.specs.Nests.{with_new, with_symbols_found, with_texts};
 
 use crate::found::new_symbols;
@@ -20,7 +20,7 @@ fn with_texts(alloc: Global, nest: &Nest) -> Result<Nest, Memory>
 }
 
 fn with_more(alloc: Global, nest: &Nest, names: &[Name]) -> Result<Box<Nest>, Memory>
-    ensures { IfOk result (λ new. nest_of new.value ≡ with_texts (with_symbols (nest_of nest.now) names.now)) }
+    ensures { IfOk result (λ new. nest_of new.value ≡ with_texts (with_nest_symbols (nest_of nest.now) names.now)) }
 {
     let more = Box::new(alloc, with_symbols(alloc, nest, names)?)?;
     Ok(Box::new(alloc, with_texts(alloc, &more)?)?)

@@ -8,7 +8,7 @@ use normal_loops::normalise;
 use std::alloc::Global;
 use std::test::Fail;
 use subscripts::{Dir, Dirs, Point, Test};
-use tree::{Line, Name, Program77, Seq};
+use tree::{Line, Name, Program77, Seq, Width};
 
 const DECK: &[u8] =
     b"      INTEGER A(9), B(9)\n      DO 10 I = 1, 9\n      DO 20 J = 1, N\n   20 A(J) = 0\n   \
@@ -138,7 +138,7 @@ fn text_of(alloc: Global, program: &Program77) -> Result<Vec<u8>, Fail> {
 // Edges and drops stand among one another, by their references.
 #[test]
 fn lines_of_a_nest(rt: HostRuntime) -> Result<(), Fail> {
-    let program = read77(rt.alloc(), DECK)?;
+    let program = read77(rt.alloc(), DECK, Width::Plain)?;
     let text = text_of(rt.alloc(), &program)?;
     assert_eq!(rt; text.as_slice(), WANTED);
     Ok(())

@@ -13,7 +13,7 @@ use f90_statement::Statement;
 use f90_trees::{Functions, tree};
 use std::alloc::Global;
 use std::test::Fail;
-use tree::{Expr, Name, Op, Ref, Seq};
+use tree::{Expr, Name, Op, Ref, Seq, Width};
 
 // A card has room for 658.
 #[test]
@@ -64,7 +64,7 @@ fn constants_without_values(rt: HostRuntime) -> Result<(), Fail> {
     for card in statements(rt.alloc(), deck)?.as_slice() {
         text.push(labelled(rt.alloc(), card)?)?;
     }
-    let constants = constants_of(rt.alloc(), text.as_slice())?;
+    let constants = constants_of(rt.alloc(), text.as_slice(), Width::Plain)?;
     for name in [b"M", b"N"] {
         let name = Name::read(name).ok_or("a name")?;
         assert_eq!(rt; constants.value(name), None);

@@ -5,7 +5,7 @@ use meaning::End;
 use run77::Machine77;
 use std::test::Fail;
 use streams::MemSink;
-use tree::Fault;
+use tree::{Fault, Width};
 
 const SQUARES: &[u8] =
     b"      PROGRAM SQUARE\n      INTEGER A(3), I\n      DO 10 I = 1, 3\n   10 A(I) = I * I\n\
@@ -13,8 +13,8 @@ const SQUARES: &[u8] =
 
 #[test]
 fn runs_twice(rt: HostRuntime) -> Result<(), Fail> {
-    let program = read77(rt.alloc(), SQUARES)?;
-    let mut machine = Machine77::new(rt.alloc(), program)?;
+    let program = read77(rt.alloc(), SQUARES, Width::Plain)?;
+    let mut machine = Machine77::new(rt.alloc(), program, Width::Plain)?;
     let mut out = MemSink::new(rt.alloc(), 1000, 7, Vec::new(rt.alloc()))?;
     let first = machine.run(b" -12 /\r\n", &mut out, None);
     machine.show(&mut out)?;

@@ -6,7 +6,7 @@ use linear_forms::{express, linear};
 use rewrite::{rewrite, substitute};
 use std::alloc::Global;
 use std::test::Fail;
-use tree::{Expr, Name, Op, Program77, Program90, Ref, Seq, Stmt, Sub};
+use tree::{Expr, Name, Op, Program77, Program90, Ref, Seq, Stmt, Sub, Width};
 
 fn name(text: &[u8]) -> Result<Name, Fail> {
     Ok(Name::read(text).ok_or("name")?)
@@ -91,7 +91,11 @@ fn replaces_scalars(rt: HostRuntime) -> Result<(), Fail> {
 // A divided trip stands behind the symbols.
 #[test]
 fn writes_divided_trips(rt: HostRuntime) -> Result<(), Fail> {
-    let program = read77(rt.alloc(), b"      K = (N - 1) / 2\n      END\n")?;
+    let program = read77(
+        rt.alloc(),
+        b"      K = (N - 1) / 2\n      END\n",
+        Width::Plain,
+    )?;
     let text = with_trip(rt.alloc(), &program)?;
     assert_eq!(rt; text.as_slice(), b"N + 3 * ((N - 1) / 2) + 1".as_slice());
     Ok(())
@@ -101,7 +105,7 @@ fn writes_divided_trips(rt: HostRuntime) -> Result<(), Fail> {
 #[test]
 fn keeps_the_names_of_items(rt: HostRuntime) -> Result<(), Fail> {
     let deck = b"      INTEGER A(9), T\n      READ *, T, A(T)\n      END\n";
-    let program = read77(rt.alloc(), deck)?;
+    let program = read77(rt.alloc(), deck, Width::Plain)?;
     let text = with_other_name(rt.alloc(), &program)?;
     let wanted = b"PROGRAM FV_PROGRAM\nIMPLICIT NONE\nREAD *, T, A(T_1)\nEND\n";
     assert_eq!(rt; text.as_slice(), wanted.as_slice());

@@ -167,7 +167,8 @@ fn the_first_event_decides(rt: HostRuntime) -> Result<(), Fail> {
 }
 
 const USAGE: &str =
-    "fvec: usage: vectorise | graph | run77 [--final] [--steps N] | run90 [--final] [--steps N] | make N\n";
+    "fvec: usage: vectorise [--wide] | graph [--wide] | run77 [--wide] [--final] [--steps N] | \
+    run90 [--wide] [--final] [--steps N] | make N\n";
 
 // Words of each kind that are no command.
 const NO_COMMANDS: &[&[&str]] = &[

@@ -6,7 +6,7 @@ use Rattle.tree.specs.declared.refusals.Refusal.{Refusal}
 use Rattle.f90_grammar.specs.Blocks.{Placed}
 use Rattle.f90_grammar.specs.Bounds.{declared_up_to}
 use Rattle.f90_grammar.specs.Declared.{declarations_of}
-use Rattle.f90_grammar.specs.Order.{Place, IsPlaceIn}
+use Rattle.f90_grammar.specs.Order.{Place90, IsPlaceIn}
 use Rattle.f90_grammar.specs.Refusals.{Conforms90, IsRefusable, PassesNames}
 use Rattle.f90_grammar.specs.Refusals.IsRefusable.{For, ForNames}
 use Rattle.f90_laws.proofs.read_back.OneProgram.{once_read}
@@ -15,7 +15,7 @@ use Rattle.f90_laws.proofs.unrefused.Declarations.{declared_both}
 use Rattle.tool.specs.Translates.{IsAccepted, IsForNames}
 
 -- what is declared up to a place is no more than all
-up_to : (ps : List Placed) (p : Place) → IsPlaceIn ps p → length (declared_up_to p) ≤ length (declarations_of ps)
+up_to : (ps : List Placed) (p : Place90) → IsPlaceIn ps p → length (declared_up_to p) ≤ length (declarations_of ps)
 up_to ps p place =
     let parts : declarations_of ps ≡ declared_up_to p ++ declarations_of p.after =
     ap declarations_of place ∙ (ap declarations_of (sym (append_assoc p.before (p.here ∷ []) p.after)) ∙ declared_both (p.before ++ p.here ∷ []) p.after) in

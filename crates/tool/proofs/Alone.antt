@@ -8,12 +8,12 @@ use Rattle.emission.specs.emission_pieces.Nests.{loops_at}
 use Rattle.listing.specs.programs.Causes.{listed_holds}
 use Rattle.listing_laws.specs.reader.Lists.{Lists}
 use Rattle.listing_laws.specs.told_nests.Graphs.{graph_told}
-use Rattle.listing_laws.specs.told_nests.Nests.{Tells, ToldNest, by_entries, nests_of}
+use Rattle.listing_laws.specs.told_nests.Nests.{Tells, ToldNest, by_entries, nests_listed}
 use Rattle.meaning_laws.proofs.arrays.Members.{cases_of, in_map, nowhere}
 use Rattle.nest.specs.Bodies.{nest_statements}
 use Rattle.nest.specs.Plain.{Nest}
 use Rattle.tree.specs.Plain.{Program}
-use Rattle.translation.specs.program_marks.Marks.{StandsMarked, numbers_of, within, without_line}
+use Rattle.translation.specs.program_marks.Marks.{StandsMarked, mark_numbers_of, within, without_line}
 use Rattle.tool.specs.Marked.{IsMarkedBy}
 use Rattle.tool.specs.Vectorises.{IsAlone, IsArrayStatement}
 
@@ -45,14 +45,14 @@ formed : (n : Nest) (s k : ℕ) → k ≤ length (loops_at n s) → marked_at n 
 formed n s k h = ap (λ b. cond b (formed_at n s k) (kept_at n s)) (le-leb k (length (loops_at n s)) h)
 
 module _ (p q : Program) (lines : List (List ℕ)) (l : Lists p lines) (tells : Tells p lines l)
-    (marked : IsMarkedBy p (map by_entries (nests_of p lines l)) q) where
-  pub one_array : (t : ToldNest) (s k : ℕ) → Contains (nests_of p lines l) t → s < length (nest_statements t.last) → IsAlone t s k
+    (marked : IsMarkedBy p (map by_entries (nests_listed p lines l)) q) where
+  pub one_array : (t : ToldNest) (s k : ℕ) → Contains (nests_listed p lines l) t → s < length (nest_statements t.last) → IsAlone t s k
       → IsArrayStatement t s q
   one_array t s k c inside alone =
       by (subst (λ hs. IsLevel t.last (graph_told t.entries).edges hs s stands.at.level) (sym (tells.holds t c)) stands.at.is_level)
     where
       stands : StandsMarked q.body (by_entries t) s
-      stands = marked.marked.marks.each (by_entries t) s (in_map by_entries (nests_of p lines l) t c) inside
+      stands = marked.marked.marks.each (by_entries t) s (in_map by_entries (nests_listed p lines l) t c) inside
 
       by : IsLevel t.last (graph_told t.entries).edges (listed_holds t.entries) s stands.at.level → IsArrayStatement t s q
       by (inl least) = record {
@@ -62,6 +62,6 @@ module _ (p q : Program) (lines : List (List ℕ)) (l : Lists p lines) (tells : 
         stands = stands.stands;
         outer = stands.at.outer;
         is = stands.at.is ∙ ap (λ (x : Marked). without_line (within stands.at.outer x)) (formed t.last s stands.at.level least.alone.last);
-        only = λ x i e. one_of numbers_of (marked_in [] q.body) x stands.it marked.marked.marks.once i stands.stands e;
+        only = λ x i e. one_of mark_numbers_of (marked_in [] q.body) x stands.it marked.marked.marks.once i stands.stands e;
       }
       by (inr never) = absurd (never.never k alone)

@@ -12,6 +12,7 @@ use Rattle.meaning.specs.Array.{array_run}
 use Rattle.meaning.specs.Relined.{SameButLines, AlikeButLine}
 use Rattle.meaning.specs.Profile77.{IsProgram77}
 use Rattle.meaning.proofs.Relines.{relined, relined_ends_well}
+use Rattle.meaning.proofs.Widths.{widest}
 use Rattle.f77_read.proofs.SourceLaws.{read_is_source_program}
 use Rattle.f90_grammar.specs.PrintedText.{IsNote, with_line_feed, printed90, program_lines}
 use Rattle.f90_laws.specs.read_back.ReadBack.{IsReadAs as IsTextOf}
@@ -28,6 +29,7 @@ use Rattle.meaning.proofs.decks.Written.{IsSourceLine, source_alone, input_alone
 use Rattle.tool.specs.declared.commands.commands.Command.TheVariants.{Graph, Vectorise}
 use Rattle.tool.specs.Decks.{IsReadAs}
 use Rattle.meaning.specs.Keeping.{KeepsMeaning}
+use Rattle.tree.specs.declared.width.Width.{Width}
 use Rattle.translation.specs.nest_blocks.Answers.{nests_by}
 use Rattle.translation.specs.program_translation.Laws.{IsGoodTranslation}
 use Rattle.translation.proofs.ProgramTranslation.Good.{translation_is_good}
@@ -37,7 +39,7 @@ use Rattle.listing_laws.proofs.notes.Listed.{listing_lines_are_notes}
 use Rattle.listing_laws.proofs.read_back.SourceListings.{source_listing_is_caused, source_listing_is_expanded, source_listing_is_read}
 use Rattle.listing_laws.proofs.read_back.SourceListings.{source_listing_is_substituted, source_listing_text_lists}
 use Rattle.listing_laws.specs.reader.Lists.{Lists}
-use Rattle.listing_laws.specs.told_nests.Nests.{by_entries, nests_of}
+use Rattle.listing_laws.specs.told_nests.Nests.{by_entries, nests_listed}
 use Rattle.listing_laws.proofs.told_nests.Nests.{lines_tell_nests, nests_are_told}
 use Rattle.translation.proofs.NestBlocks.Blocks.{answers_are_blocks}
 use Rattle.translation.proofs.NestBlocks.Listed.{answers_are_listed}
@@ -52,13 +54,13 @@ use Rattle.tool.specs.Translates.{IsAccepted, Translates}
 use Rattle.tool.specs.Vectorises.{Vectorises, VectorisesDeck}
 
 -- a program keeps the meaning of another one where it is read with other line numbers, too
-relined_keeps : (p q r : Program) (input : List ℕ) → SameButLines q r → KeepsMeaning p q input → KeepsMeaning p r input
-relined_keeps p q r input same keeps =
-    let alike : AlikeButLine (array_run q input) (array_run r input) = relined fortran90 None q r input same in
+relined_keeps : (width : Width) (p q r : Program) (input : List ℕ) → SameButLines q r → KeepsMeaning width p q input → KeepsMeaning width p r input
+relined_keeps width p q r input same keeps =
+    let alike : AlikeButLine (array_run width q input) (array_run width r input) = relined (fortran90 width) None q r input same in
     record {
-      ends = λ well. relined_ends_well (array_run q input) (array_run r input) alike (keeps.ends well);
+      ends = λ well. relined_ends_well (array_run width q input) (array_run width r input) alike (keeps.ends well);
       output = λ well. keeps.output well ∙ alike.written;
-      store = λ well. subst (Agree p (sequential_run p input).store) alike.store (keeps.store well);
+      store = λ well. subst (Agree p (sequential_run width p input).store) alike.store (keeps.store well);
     }
 
 -- the text is read back where the program stands alone
@@ -77,14 +79,14 @@ module _ (ls : List (List ℕ)) (plain : AllByRecursion IsSourceLine ls) where
 abbrev ListNests : Program → List ListedNest → List (List ℕ) → Type 0
 ListNests p ts lines = (l : Lists p lines) × (listed_nests no_counts (found_in p) l.listing.entries l.listing.are ≡ ts)
 
-pub record Holds (deck text : List ℕ) : Type 0 where
-  pub translates : Translates deck text
-  pub listed : IsListedBeside deck text
-  pub marked : IsMarked deck text
-  pub printed : IsPrinted deck text
-  pub vectorised : VectorisesDeck deck text
+pub record Holds (width : Width) (deck text : List ℕ) : Type 0 where
+  pub translates : Translates width deck text
+  pub listed : IsListedBeside width deck text
+  pub marked : IsMarked width deck text
+  pub printed : IsPrinted width deck text
+  pub vectorised : VectorisesDeck width deck text
 
-module _ (deck text : List ℕ) (p : Program) (h : IsReadAs Vectorise deck p)
+module _ (width : Width) (deck text : List ℕ) (p : Program) (h : IsReadAs (Vectorise width) deck p)
     (written : IsTranslationText p (has_data data_line77 deck) (input_of data_line77 deck) text) where
   abbrev there : Bool
   there = has_data data_line77 deck
@@ -104,17 +106,17 @@ module _ (deck text : List ℕ) (p : Program) (h : IsReadAs Vectorise deck p)
   abbrev nests : List ListedNest
   nests = nests_by v.answers.answers
 
-  source : IsProgram77 fortran77 p
-  source = read_is_source_program fortran77 (source_of data_line77 deck) h.reads.source.cards p (omega arith) h.reads.source.are_cards h.reads.source.program
+  source : IsProgram77 (fortran77 width) p
+  source = read_is_source_program (fortran77 width) (source_of data_line77 deck) h.reads.source.cards p (let l = widest width in omega arith) h.reads.source.are_cards h.reads.source.program
 
   listing : (l : IsListing p notes) × (listed_nests no_counts (found_in p) l.entries l.are ≡ nests)
   listing = answers_are_listed p notes v.blocks v.made v.answers
 
-  good : IsGoodTranslation p q
-  good = translation_is_good p q v.blocks v.made source (answers_are_blocks p notes v.blocks v.made source v.answers) v.placed v.limits
+  good : IsGoodTranslation width p q
+  good = translation_is_good width p q v.blocks v.made source (answers_are_blocks width p notes v.blocks v.made source v.answers) v.placed v.limits
 
   are_notes : AllByRecursion IsNote notes
-  are_notes = listing_lines_are_notes p notes source listing.0
+  are_notes = listing_lines_are_notes width p notes source listing.0
 
   plain : AllByRecursion IsSourceLine (program_lines q notes)
   plain = program_lines_are_source q notes good.program are_notes
@@ -140,10 +142,10 @@ module _ (deck text : List ℕ) (p : Program) (h : IsReadAs Vectorise deck p)
       subst (ListNests p nests) (sym listed_is) (
         record {
           listing = listing.0;
-          read = source_listing_is_read (source_of data_line77 deck) p notes h.reads.source listing.0;
-          private_names = source_listing_is_expanded (source_of data_line77 deck) p notes h.reads.source listing.0;
-          inductions = source_listing_is_substituted (source_of data_line77 deck) p notes h.reads.source listing.0;
-          causes = source_listing_is_caused (source_of data_line77 deck) p notes h.reads.source listing.0;
+          read = source_listing_is_read width (source_of data_line77 deck) p notes h.reads.source listing.0;
+          private_names = source_listing_is_expanded width (source_of data_line77 deck) p notes h.reads.source listing.0;
+          inductions = source_listing_is_substituted width (source_of data_line77 deck) p notes h.reads.source listing.0;
+          causes = source_listing_is_caused width (source_of data_line77 deck) p notes h.reads.source listing.0;
         },
         listing.1,
       )
@@ -154,22 +156,22 @@ module _ (deck text : List ℕ) (p : Program) (h : IsReadAs Vectorise deck p)
     body = sym read.same.body ∙ ap block_without_numbers v.placed.body;
     marked =
         marked_on_other_lines nests v.blocks q.body read.program.body (same_marks q.body read.program.body read.same.body)
-        (translation_is_marked p q v.answers.answers v.blocks v.made source v.answers.are v.answers.placed v.placed);
+        (translation_is_marked width p q v.answers.answers v.blocks v.made source v.answers.are v.answers.placed v.placed);
   }
 
   abbrev lists : Lists p (listed_lines text)
   lists = listed_nests_are.0
 
-  keeps : (given : List ℕ) → KeepsMeaning p read.program given
-  keeps given = relined_keeps p q read.program given (same_but_lines q read.program read.same) (good.keeps given)
+  keeps : (given : List ℕ) → KeepsMeaning width p read.program given
+  keeps given = relined_keeps width p q read.program given (same_but_lines q read.program read.same) (good.keeps given)
 
   -- by the entries of the notes
-  marks_by_entries : IsMarkedBy p (map by_entries (nests_of p (listed_lines text) lists)) read.program
+  marks_by_entries : IsMarkedBy p (map by_entries (nests_listed p (listed_lines text) lists)) read.program
   marks_by_entries =
       subst (λ (ts : List ListedNest). IsMarkedBy p ts read.program)
       (sym (nests_are_told p (listed_lines text) lists.listing ∙ listed_nests_are.1)) marks
 
-  vectorised : Vectorises p text
+  vectorised : Vectorises width p text
   vectorised =
       let tells = lines_tell_nests p (listed_lines text) lists in
       record {
@@ -185,7 +187,7 @@ module _ (deck text : List ℕ) (p : Program) (h : IsReadAs Vectorise deck p)
   same_input : input_of data_line90 text ≡ input_of data_line77 deck
   same_input = ap (input_of data_line90) written.printed ∙ input_behind (program_lines q notes) plain there input (no_input data_line77 deck)
 
-  pub holds : Holds deck text
+  pub holds : Holds width deck text
   holds = record {
     translates = record {
       program = p;
@@ -210,7 +212,7 @@ module _ (deck text : List ℕ) (p : Program) (h : IsReadAs Vectorise deck p)
 
 -- ---- a text that is written for a listing
 
-pub listing_holds : (deck text : List ℕ) (p : Program) → IsReadAs Graph deck p → IsListingText p text → IsListingOf deck text
-listing_holds deck text p h listing =
-    let w = source_listing_text_lists (source_of data_line77 deck) p text h.reads.source listing in
+pub listing_holds : (width : Width) (deck text : List ℕ) (p : Program) → IsReadAs (Graph width) deck p → IsListingText p text → IsListingOf width deck text
+listing_holds width deck text p h listing =
+    let w = source_listing_text_lists width (source_of data_line77 deck) p text h.reads.source listing in
     record { program = p; read = h; lists = w.0; tells = lines_tell_nests p (lines text) w.0; ended = w.1 }

@@ -10,6 +10,7 @@ use Rattle.meaning.specs.Dialect.{fortran77}
 use Rattle.meaning.specs.Profile77.{IsProgram77}
 use Rattle.meaning.specs.Run.{State, Way, Going, Jumping, Stopped, Failed, Cut, run}
 use Rattle.meaning.specs.Sequential.{sequential_run, ending, end_of, EndsWell}
+use Rattle.tree.specs.declared.width.Width.TheVariants.{Plain}
 use Rattle.meaning.specs.declared.End.{End}
 use Rattle.meaning.specs.declared.End.TheVariants as end
 use Rattle.meaning.proofs.Arriving.{every_run_ends}
@@ -31,28 +32,28 @@ use Rattle.tool.proofs.Statuses as tells
 -- ---- the sequential run of a deck that is read
 
 -- it ends, and where it doesn't end well it ends by a fault
-into_fault : (deck : List ℕ) (p : Program) → IsReadAs Vectorise deck p → (EndsWell (sequential_run p (input_of data_line77 deck)) → ⊥) → RunsIntoFault deck
-into_fault deck p read unwell = by (sequential_run p input).way refl
+into_fault : (deck : List ℕ) (p : Program) → IsReadAs (Vectorise Plain) deck p → (EndsWell (sequential_run Plain p (input_of data_line77 deck)) → ⊥) → RunsIntoFault deck
+into_fault deck p read unwell = by (sequential_run Plain p input).way refl
   where
     input : List ℕ
     input = input_of data_line77 deck
 
-    source : IsProgram77 fortran77 p
-    source = read_is_source_program fortran77 (source_of data_line77 deck) read.reads.source.cards p (omega arith) read.reads.source.are_cards read.reads.source.program
+    source : IsProgram77 (fortran77 Plain) p
+    source = read_is_source_program (fortran77 Plain) (source_of data_line77 deck) read.reads.source.cards p (omega arith) read.reads.source.are_cards read.reads.source.program
 
-    some : IsSome (end_of (sequential_run p input).way)
-    some = every_run_ends fortran77 None p input (jumps_forward p source)
+    some : IsSome (end_of (sequential_run Plain p input).way)
+    some = every_run_ends (fortran77 Plain) None p input (jumps_forward Plain p source)
 
-    by : (w : Way) → (sequential_run p input).way ≡ w → RunsIntoFault deck
+    by : (w : Way) → (sequential_run Plain p input).way ≡ w → RunsIntoFault deck
     by Going e = absurd (unwell (ap end_of e))
     by (Jumping n) e = let none : IsSome (end_of (Jumping n)) = subst (λ (w : Way). IsSome (end_of w)) e some in absurd (cc)
     by Stopped e = absurd (unwell (ap end_of e))
     by (Failed fault line) e = record { program = p; read = read; fault = fault; line = line; ends = ap end_of e }
-    by Cut e = absurd (whole_run_is_not_cut fortran77 p input e)
+    by Cut e = absurd (whole_run_is_not_cut (fortran77 Plain) p input e)
 
 -- ---- of a summary
 
-not_refused : (deck text : List ℕ) → IsSummary deck text → (r : Refusal) → IsRefused Vectorise deck r → ⊥
+not_refused : (deck text : List ℕ) → IsSummary deck text → (r : Refusal) → IsRefused (Vectorise Plain) deck r → ⊥
 not_refused deck text h r refused = h.translates.0.read.accepted r refused
 
 -- a run that ends by a fault isn't one that ends well
@@ -66,7 +67,7 @@ not_well deck fault line text h well =
 
 faults_too : (deck : List ℕ) (fault : Kind) (line : ℕ) (text : List ℕ) → IsFaultedSummary fault line deck text → RunsIntoFault deck
 faults_too deck fault line text h =
-    let d : Translates deck h.summary.translation = h.summary.translates.0 in
+    let d : Translates Plain deck h.summary.translation = h.summary.translates.0 in
     into_fault deck d.program d.read (λ well. not_well deck fault line text h (record { program = d.program; reads = d.read.reads; ends = well }))
 
 -- ---- by how the work ended
@@ -109,13 +110,13 @@ module _ (deck : List ℕ) (before now : Option (List ℕ)) (f f' : ℕ) where
   pub little : (o : Outcome) (s : ℕ) → s ≡ status_of o → Ended o → s ≡ 7 → GivesAtMostSummary deck before now
   little o s e h q = at_outcome o OutOfMemory (tells.is_out_of_memory o s e q) h
 
-  pub refused : (o : Outcome) (s : ℕ) → s ≡ status_of o → Ended o → s ≡ 2 → (r : Refusal) × IsRefusedFor Vectorise r deck
+  pub refused : (o : Outcome) (s : ℕ) → s ≡ status_of o → Ended o → s ≡ 2 → (r : Refusal) × IsRefusedFor (Vectorise Plain) r deck
   refused o s e h q =
       let g = tells.is_refused o s e q in
       let given : Ended (Refused g.0) = at_outcome o (Refused g.0) g.1 h in
       (g.0, given.0)
 
-  pub never_done : (o : Outcome) (s : ℕ) → s ≡ status_of o → Ended o → (r : Refusal) → IsRefused Vectorise deck r → IsOneOf (2 ∷ 7 ∷ []) s
+  pub never_done : (o : Outcome) (s : ℕ) → s ≡ status_of o → Ended o → (r : Refusal) → IsRefused (Vectorise Plain) deck r → IsOneOf (2 ∷ 7 ∷ []) s
   never_done Done s e h r refused = absurd (not_refused deck h.0 h.1.summary r refused)
   never_done Usage s e h r refused = absurd h
   never_done (Refused q) s e h r refused = inl e

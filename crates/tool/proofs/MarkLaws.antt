@@ -14,63 +14,64 @@ use Rattle.std.proofs.lemmas.Str.{IsUtf8-from_ascii}
 use Rattle.std.proofs.lemmas.Str.Ascii.{IsAscii-nil, IsAscii-cons}
 use Rattle.std.proofs.lemmas.List.Sums.{sum_by-cons}
 use Rattle.meaning.specs.Deck.{lines_of}
-use Rattle.tool.specs.ArrayMarks.{behind, begins, numbers_listed, loops_listed, first_listed, loops_round, is_blank}
-use Rattle.tool.specs.commands.Command.{number_of}
+use Rattle.tool.specs.ArrayMarks.{part_behind, begins, numbers_listed, loops_listed, first_listed, loops_round}
+use Rattle.reading.specs.Characters.{is_blank}
+use Rattle.tool.specs.commands.Command.{number_of_word}
 use Rattle.std.specs.Borrow.{Bor}
 
 -- ---- what stands behind a front
 
-front_taken : (front line : List ℕ) → bytes_eq (take (length front) line) front ≡ true → behind front line ≡ Some (drop (length front) line)
+front_taken : (front line : List ℕ) → bytes_eq (take (length front) line) front ≡ true → part_behind front line ≡ Some (drop (length front) line)
 front_taken [] line e = refl
 front_taken (c ∷ front) [] e = absurd (cc)
 front_taken (c ∷ front) (b ∷ line) e = by (nat_eq b c) e (front_taken front line)
   where
-    by : (t : Bool) → (t && bytes_eq (take (length front) line) front) ≡ true → (bytes_eq (take (length front) line) front ≡ true → behind front line ≡ Some (drop (length front) line))
-        → cond t (behind front line) None ≡ Some (drop (length front) line)
+    by : (t : Bool) → (t && bytes_eq (take (length front) line) front) ≡ true → (bytes_eq (take (length front) line) front ≡ true → part_behind front line ≡ Some (drop (length front) line))
+        → cond t (part_behind front line) None ≡ Some (drop (length front) line)
     by true e next = next e
     by false e next = absurd (cc)
 
-front_missed : (front line : List ℕ) → bytes_eq (take (length front) line) front ≡ false → behind front line ≡ None
+front_missed : (front line : List ℕ) → bytes_eq (take (length front) line) front ≡ false → part_behind front line ≡ None
 front_missed [] line e = absurd (cc)
 front_missed (c ∷ front) [] e = refl
 front_missed (c ∷ front) (b ∷ line) e = by (nat_eq b c) e (front_missed front line)
   where
-    by : (t : Bool) → (t && bytes_eq (take (length front) line) front) ≡ false → (bytes_eq (take (length front) line) front ≡ false → behind front line ≡ None)
-        → cond t (behind front line) None ≡ None
+    by : (t : Bool) → (t && bytes_eq (take (length front) line) front) ≡ false → (bytes_eq (take (length front) line) front ≡ false → part_behind front line ≡ None)
+        → cond t (part_behind front line) None ≡ None
     by true e next = next e
     by false e next = refl
 
 pub stripped : (front line : List ℕ) (r : Option (Bor (List ℕ)))
     → MatchOption r (bytes_eq (take (length front) line) front ≡ false) (λ x. (bytes_eq (take (length front) line) front ≡ true) × (x.now ≡ drop (length front) line) × (length x.now + length front ≡ length line))
-    → option_copied r ≡ behind front line
+    → option_copied r ≡ part_behind front line
 stripped front line None h = sym (front_missed front line h)
 stripped front line (Some x) h = ap Some h.1 ∙ sym (front_taken front line h.0)
 
-behind-append : (xs ys line : List ℕ) → behind (xs ++ ys) line ≡ option_and_then (behind ys) (behind xs line)
-behind-append [] ys line = refl
-behind-append (x ∷ xs) ys [] = refl
-behind-append (x ∷ xs) ys (b ∷ line) = by (b == x) (behind-append xs ys line)
+part_behind-append : (xs ys line : List ℕ) → part_behind (xs ++ ys) line ≡ option_and_then (part_behind ys) (part_behind xs line)
+part_behind-append [] ys line = refl
+part_behind-append (x ∷ xs) ys [] = refl
+part_behind-append (x ∷ xs) ys (b ∷ line) = by (b == x) (part_behind-append xs ys line)
   where
-    by : (t : Bool) → behind (xs ++ ys) line ≡ option_and_then (behind ys) (behind xs line)
-        → cond t (behind (xs ++ ys) line) None ≡ option_and_then (behind ys) (cond t (behind xs line) None)
+    by : (t : Bool) → part_behind (xs ++ ys) line ≡ option_and_then (part_behind ys) (part_behind xs line)
+        → cond t (part_behind (xs ++ ys) line) None ≡ option_and_then (part_behind ys) (cond t (part_behind xs line) None)
     by true next = next
     by false next = refl
 
 module _ (a b c line : List ℕ) where
-  three : behind (a ++ b ++ c) line ≡ option_and_then (behind c) (option_and_then (behind b) (behind a line))
-  three = behind-append (a ++ b) c line ∙ ap (option_and_then (behind c)) (behind-append a b line)
+  three : part_behind (a ++ b ++ c) line ≡ option_and_then (part_behind c) (option_and_then (part_behind b) (part_behind a line))
+  three = part_behind-append (a ++ b) c line ∙ ap (option_and_then (part_behind c)) (part_behind-append a b line)
 
-  pub no_first : behind a line ≡ None → behind (a ++ b ++ c) line ≡ None
-  no_first e = three ∙ ap (λ (o : Option (List ℕ)). option_and_then (behind c) (option_and_then (behind b) o)) e
+  pub no_first : part_behind a line ≡ None → part_behind (a ++ b ++ c) line ≡ None
+  no_first e = three ∙ ap (λ (o : Option (List ℕ)). option_and_then (part_behind c) (option_and_then (part_behind b) o)) e
 
-  pub after_first_part : (x : List ℕ) → behind a line ≡ Some x → behind (a ++ b ++ c) line ≡ option_and_then (behind c) (behind b x)
-  after_first_part x e = three ∙ ap (λ (o : Option (List ℕ)). option_and_then (behind c) (option_and_then (behind b) o)) e
+  pub after_first_part : (x : List ℕ) → part_behind a line ≡ Some x → part_behind (a ++ b ++ c) line ≡ option_and_then (part_behind c) (part_behind b x)
+  after_first_part x e = three ∙ ap (λ (o : Option (List ℕ)). option_and_then (part_behind c) (option_and_then (part_behind b) o)) e
 
-  pub no_second : (x : List ℕ) → behind a line ≡ Some x → behind b x ≡ None → behind (a ++ b ++ c) line ≡ None
-  no_second x e d = after_first_part x e ∙ ap (option_and_then (behind c)) d
+  pub no_second : (x : List ℕ) → part_behind a line ≡ Some x → part_behind b x ≡ None → part_behind (a ++ b ++ c) line ≡ None
+  no_second x e d = after_first_part x e ∙ ap (option_and_then (part_behind c)) d
 
-  pub after_both : (x y : List ℕ) → behind a line ≡ Some x → behind b x ≡ Some y → behind (a ++ b ++ c) line ≡ behind c y
-  after_both x y e d = after_first_part x e ∙ ap (option_and_then (behind c)) d
+  pub after_both : (x y : List ℕ) → part_behind a line ≡ Some x → part_behind b x ≡ Some y → part_behind (a ++ b ++ c) line ≡ part_behind c y
+  after_both x y e d = after_first_part x e ∙ ap (option_and_then (part_behind c)) d
 
 pub ruleset behind_laws = (no_first, no_second, after_both)
 
@@ -166,10 +167,10 @@ digits_are_ascii (d ∷ ds) e =
 digits_are_text : (ds : List ℕ) → list_all is_ascii_digit ds ≡ true → IsUtf8 ds
 digits_are_text ds e = IsUtf8-from_ascii ds (digits_are_ascii ds e)
 
-pub no_number : (ds : List ℕ) → (IsUtf8 ds → ⊥) → number_of ds ≡ None
+pub no_number : (ds : List ℕ) → (IsUtf8 ds → ⊥) → number_of_word ds ≡ None
 no_number ds h = by (list_all is_ascii_digit ds) refl
   where
-    by : (t : Bool) → list_all is_ascii_digit ds ≡ t → number_of ds ≡ None
+    by : (t : Bool) → list_all is_ascii_digit ds ≡ t → number_of_word ds ≡ None
     by true e = absurd (h (digits_are_text ds e))
     by false e = none_of (list_all is_ascii_digit ds) _ _ _ _ e
 

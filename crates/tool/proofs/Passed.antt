@@ -39,8 +39,8 @@ module _ (before now : Option (List ℕ)) (f f' f'' : ℕ) where
   comes_unpassed e text OutOfMemory all later fault h = absurd h
 
   without_later : (k : Command) (deck : List ℕ) → WithoutMemory k deck old → WithoutMemory k deck new
-  without_later Vectorise deck h = h
-  without_later Graph deck h = h
+  without_later (Vectorise w) deck h = h
+  without_later (Graph w) deck h = h
   without_later (Run77 options) deck h = h
   without_later (Run90 options) deck (inl same) = inl same
   without_later (Run90 options) deck (inr h) = inr (record { program = h.program; read = h.read; text = h.text; has_text = h.has_text; front = h.front })

@@ -11,7 +11,7 @@ use Rattle.tree.specs.declared.refusals.Refused.{Refused}
 use Rattle.tree.specs.declared.refusals.Refused.TheVariants as refused
 use Rattle.streams.specs.Causes.{Rose}
 use Rattle.streams.specs.Streams.{Gives, GivesPart}
-use Rattle.meaning.specs.Deck.{source_of, input_of, has_data, data_line77, data_line90, joined, lines_before, whole_lines, is_line}
+use Rattle.meaning.specs.Deck.{source_of, input_of, has_data, data_line77, data_line90, text_of_lines, lines_before, whole_lines, is_line}
 use Rattle.meaning.proofs.decks.Parts.{joined_lines}
 use Rattle.f90_grammar.specs.PrintedText.{printed90}
 use Rattle.meaning.specs.decks.Parts.{is_there, bytes_in}
@@ -19,6 +19,7 @@ use mathlib.Core.Path.{ap₂}
 use Rattle.meaning.specs.Run.{State, run}
 use Rattle.meaning.specs.Sequential.{ending}
 use Rattle.meaning.specs.Dialect.{fortran77}
+use Rattle.tree.specs.declared.width.Width.{Width}
 use Rattle.meaning.specs.declared.End.{End}
 use Rattle.meaning.specs.declared.End.TheVariants as end
 use Rattle.f77_grammar.specs.Reading77.{Reads77, Refused77}
@@ -41,13 +42,13 @@ use Rattle.tool.specs.Works.{Writing, Works, WithoutMemory, Comes, ComesOrStops,
 
 -- ---- a source is no longer than its deck
 
-before_is_shorter : (mark : List ℕ) (ls : List (List ℕ)) → length (joined (lines_before mark ls)) ≤ length (joined ls)
+before_is_shorter : (mark : List ℕ) (ls : List (List ℕ)) → length (text_of_lines (lines_before mark ls)) ≤ length (text_of_lines ls)
 before_is_shorter mark [] = omega arith
 before_is_shorter mark (l ∷ ls) = by (is_line mark l) (before_is_shorter mark ls)
   where
-    by : (b : Bool) → length (joined (lines_before mark ls)) ≤ length (joined ls) → length (joined (cond b [] (l ∷ lines_before mark ls))) ≤ length (l ++ joined ls)
+    by : (b : Bool) → length (text_of_lines (lines_before mark ls)) ≤ length (text_of_lines ls) → length (text_of_lines (cond b [] (l ∷ lines_before mark ls))) ≤ length (l ++ text_of_lines ls)
     by true h = omega arith
-    by false h = omega (arith, h, length-append l (joined (lines_before mark ls)), length-append l (joined ls))
+    by false h = omega (arith, h, length-append l (text_of_lines (lines_before mark ls)), length-append l (text_of_lines ls))
 
 source_is_shorter : (mark deck : List ℕ) → length (source_of mark deck) ≤ length deck
 source_is_shorter mark deck = subst (λ (t : List ℕ). length (source_of mark deck) ≤ length t) (joined_lines deck) (before_is_shorter mark (whole_lines deck))
@@ -61,47 +62,47 @@ source_fits deck source within at = omega (arith, source_within deck source with
 -- ---- the source of a deck, by command
 
 abbrev Tree : Command → Type 0
-Tree Vectorise = Program77
-Tree Graph = Program77
+Tree (Vectorise w) = Program77
+Tree (Graph w) = Program77
 Tree (Run77 options) = Program77
 Tree (Run90 options) = Program90
 
 abbrev program_in : (c : Command) → Tree c → Program
-program_in Vectorise t = program_of t
-program_in Graph t = program_of t
+program_in (Vectorise w) t = program_of t
+program_in (Graph w) t = program_of t
 program_in (Run77 options) t = program_of t
 program_in (Run90 options) t = program_of_90 t
 
 abbrev ReadsSource : Command → List ℕ → Program → Type 0
-ReadsSource Vectorise = Reads77 fortran77
-ReadsSource Graph = Reads77 fortran77
-ReadsSource (Run77 options) = Reads77 fortran77
+ReadsSource (Vectorise w) = Reads77 (fortran77 w)
+ReadsSource (Graph w) = Reads77 (fortran77 w)
+ReadsSource (Run77 options) = Reads77 (fortran77 options.width)
 ReadsSource (Run90 options) = Reads90
 
 abbrev RefusesSource : Command → List ℕ → Refusal → Type 0
-RefusesSource Vectorise = Refused77 fortran77
-RefusesSource Graph = Refused77 fortran77
-RefusesSource (Run77 options) = Refused77 fortran77
+RefusesSource (Vectorise w) = Refused77 (fortran77 w)
+RefusesSource (Graph w) = Refused77 (fortran77 w)
+RefusesSource (Run77 options) = Refused77 (fortran77 options.width)
 RefusesSource (Run90 options) = Refused90
 
 abbrev source_for : Command → List ℕ → List ℕ
 source_for c deck = source_of (data_line_of c) deck
 
 deck_read : (c : Command) (deck : List ℕ) (p : Program) → length deck ≤ most_bytes c → ReadsSource c (source_for c deck) p → Reads c deck p
-deck_read Vectorise deck p within h = record { within = within; source = h }
-deck_read Graph deck p within h = record { within = within; source = h }
+deck_read (Vectorise w) deck p within h = record { within = within; source = h }
+deck_read (Graph w) deck p within h = record { within = within; source = h }
 deck_read (Run77 options) deck p within h = record { within = within; source = h }
 deck_read (Run90 options) deck p within h = record { within = within; source = h }
 
 source_read : (c : Command) (deck : List ℕ) (p : Program) → Reads c deck p → ReadsSource c (source_for c deck) p
-source_read Vectorise deck p h = h.source
-source_read Graph deck p h = h.source
+source_read (Vectorise w) deck p h = h.source
+source_read (Graph w) deck p h = h.source
 source_read (Run77 options) deck p h = h.source
 source_read (Run90 options) deck p h = h.source
 
 deck_refused : (c : Command) (deck : List ℕ) (r : Refusal) → length deck ≤ most_bytes c → RefusesSource c (source_for c deck) r → IsRefused c deck r
-deck_refused Vectorise deck r within h = OfSource77 r within h
-deck_refused Graph deck r within h = OfSource77 r within h
+deck_refused (Vectorise w) deck r within h = OfSource77 r within h
+deck_refused (Graph w) deck r within h = OfSource77 r within h
 deck_refused (Run77 options) deck r within h = OfSource77 r within h
 deck_refused (Run90 options) deck r within h = OfSource90 r within h
 
@@ -111,7 +112,7 @@ not_both n m a b = omega (arith, a, b)
 abbrev IsUnrefused : Command → List ℕ → Type 0
 IsUnrefused c deck = (r : Refusal) → RefusesSource c (source_for c deck) r → ⊥
 
-not_refused77 : (o : Options) (deck : List ℕ) (r : Refusal) → length deck ≤ most_bytes (Run77 o) → IsUnrefused (Run77 o) deck → RefusedDeck77 deck r → ⊥
+not_refused77 : (o : Options) (deck : List ℕ) (r : Refusal) → length deck ≤ most_bytes (Run77 o) → IsUnrefused (Run77 o) deck → RefusedDeck77 o.width deck r → ⊥
 not_refused77 o deck _ within h (TooLong77 long) = not_both (length deck) (most_bytes (Run77 o)) within long
 not_refused77 o deck r within h (OfSource77 _ _ refused) = h r refused
 
@@ -120,8 +121,8 @@ not_refused90 o deck _ within h (TooLong90 long) = not_both (length deck) (most_
 not_refused90 o deck r within h (OfSource90 _ _ refused) = h r refused
 
 not_refused : (c : Command) (deck : List ℕ) (r : Refusal) → length deck ≤ most_bytes c → IsUnrefused c deck → IsRefused c deck r → ⊥
-not_refused Vectorise deck r within h refused = not_refused77 no_options deck r within h refused
-not_refused Graph deck r within h refused = not_refused77 no_options deck r within h refused
+not_refused (Vectorise w) deck r within h refused = not_refused77 (record no_options { width = w }) deck r within h refused
+not_refused (Graph w) deck r within h refused = not_refused77 (record no_options { width = w }) deck r within h refused
 not_refused (Run77 options) deck r within h refused = not_refused77 options deck r within h refused
 not_refused (Run90 options) deck r within h refused = not_refused90 options deck r within h refused
 
@@ -167,8 +168,8 @@ refused_unread c source o r e only p reads = by (subst (OnlyReads c source) e on
     by (inr other) = cc
 
 without_memory : (c : Command) (deck : List ℕ) (w : Writing) → w.now ≡ w.before → WithoutMemory c deck w
-without_memory Vectorise deck w same = same
-without_memory Graph deck w same = same
+without_memory (Vectorise v) deck w same = same
+without_memory (Graph v) deck w same = same
 without_memory (Run77 options) deck w same = same
 without_memory (Run90 options) deck w same = inl same
 
@@ -197,14 +198,14 @@ abbrev RunComesOrStops : Command → List ℕ → Program → Writing → Outcom
 RunComesOrStops c input p w x = ComesOrStops (ending (run_on c input p)) (run_text (options_in c) p (run_on c input p)) w x
 
 pub run_ends : (c : Command) (deck : List ℕ) (p : Program) → IsRun c → ending (run_of c deck p) ≡ ending_of c deck p
-run_ends Vectorise deck p is = absurd is
-run_ends Graph deck p is = absurd is
+run_ends (Vectorise w) deck p is = absurd is
+run_ends (Graph w) deck p is = absurd is
 run_ends (Run77 options) deck p is = refl
 run_ends (Run90 options) deck p is = refl
 
 has_run_text : (c : Command) (deck : List ℕ) (p : Program) → IsRun c → HasText c deck p (text_of_run c deck p)
-has_run_text Vectorise deck p is = absurd is
-has_run_text Graph deck p is = absurd is
+has_run_text (Vectorise w) deck p is = absurd is
+has_run_text (Graph w) deck p is = absurd is
 has_run_text (Run77 options) deck p is = refl
 has_run_text (Run90 options) deck p is = refl
 
@@ -271,14 +272,14 @@ pub record IsTextFor (c : Command) (deck text : List ℕ) : Type 0 where
   pub has_text : HasText c deck program text
 
 -- what is translated of it is a translation of the deck
-pub translated : (deck source : List ℕ) (input : Option (List ℕ)) (o : Result Program77 Refused) (p : Program77) (text : List ℕ) → length deck ≤ most_bytes Vectorise
-    → source ≡ source_for Vectorise deck → bytes_in input ≡ input_of data_line77 deck → is_there input ≡ has_data data_line77 deck
-    → o ≡ Ok p → ReadsSource Vectorise source (program_of p) → OnlyReads Vectorise source o → OnlyRefuses Vectorise source o
+pub translated : (width : Width) (deck source : List ℕ) (input : Option (List ℕ)) (o : Result Program77 Refused) (p : Program77) (text : List ℕ) → length deck ≤ most_bytes (Vectorise width)
+    → source ≡ source_for (Vectorise width) deck → bytes_in input ≡ input_of data_line77 deck → is_there input ≡ has_data data_line77 deck
+    → o ≡ Ok p → ReadsSource (Vectorise width) source (program_of p) → OnlyReads (Vectorise width) source o → OnlyRefuses (Vectorise width) source o
     → IsTranslationText (program_of p) (is_there input) (bytes_in input) text
-    → IsTranslationOf deck text
-translated deck source input o p text within at after there e reads only_reads only_refuses written = record {
+    → IsTranslationOf width deck text
+translated width deck source input o p text within at after there e reads only_reads only_refuses written = record {
   program = program_of p;
-  read = read_as Vectorise deck source o p within at e reads only_reads only_refuses;
+  read = read_as (Vectorise width) deck source o p within at e reads only_reads only_refuses;
   written = record {
     notes = written.notes;
     translated = written.translated;
@@ -287,41 +288,41 @@ translated deck source input o p text within at after there e reads only_reads o
   };
 }
 
-pub not_translated : (deck source : List ℕ) (o : Result Program77 Refused) (x : Refused) → length deck ≤ most_bytes Vectorise → source ≡ source_for Vectorise deck → o ≡ Err x
-    → ((r : Refusal) → o ≡ Err (refused.Refusal r) → RefusesSource Vectorise source r) → OnlyReads Vectorise source o → IsUntranslated deck (outcome_for x)
-not_translated deck source o (refused.Refusal r) within at e refuses only = record {
-  refused = deck_refused Vectorise deck r within (subst (λ (s : List ℕ). RefusesSource Vectorise s r) at (refuses r e));
-  unread = λ p reads. refused_unread Vectorise source o r e only p (subst (λ (s : List ℕ). ReadsSource Vectorise s p) (sym at) (source_read Vectorise deck p reads));
+pub not_translated : (width : Width) (deck source : List ℕ) (o : Result Program77 Refused) (x : Refused) → length deck ≤ most_bytes (Vectorise width) → source ≡ source_for (Vectorise width) deck → o ≡ Err x
+    → ((r : Refusal) → o ≡ Err (refused.Refusal r) → RefusesSource (Vectorise width) source r) → OnlyReads (Vectorise width) source o → IsUntranslated width deck (outcome_for x)
+not_translated width deck source o (refused.Refusal r) within at e refuses only = record {
+  refused = deck_refused (Vectorise width) deck r within (subst (λ (s : List ℕ). RefusesSource (Vectorise width) s r) at (refuses r e));
+  unread = λ p reads. refused_unread (Vectorise width) source o r e only p (subst (λ (s : List ℕ). ReadsSource (Vectorise width) s p) (sym at) (source_read (Vectorise width) deck p reads));
 }
-not_translated deck source o refused.Memory within at e refuses only = tt
+not_translated width deck source o refused.Memory within at e refuses only = tt
 
-pub untranslated_works : (deck : List ℕ) (taken : Option (List ℕ)) (f f' : ℕ) (o : Outcome) → IsUntranslated deck o
-    → Works Vectorise deck (record { before = taken; now = taken; faults_before = f; faults_now = f' }) o
-untranslated_works deck taken f f' Done h = absurd h
-untranslated_works deck taken f f' Usage h = h
-untranslated_works deck taken f f' (Denied r) h = (h, refl)
-untranslated_works deck taken f f' (Faulted fault line) h = absurd h
-untranslated_works deck taken f f' StepLimit h = absurd h
-untranslated_works deck taken f f' ReadFault h = h
-untranslated_works deck taken f f' WriteFault h = absurd h
-untranslated_works deck taken f f' OutOfMemory h = refl
+pub untranslated_works : (width : Width) (deck : List ℕ) (taken : Option (List ℕ)) (f f' : ℕ) (o : Outcome) → IsUntranslated width deck o
+    → Works (Vectorise width) deck (record { before = taken; now = taken; faults_before = f; faults_now = f' }) o
+untranslated_works width deck taken f f' Done h = absurd h
+untranslated_works width deck taken f f' Usage h = h
+untranslated_works width deck taken f f' (Denied r) h = (h, refl)
+untranslated_works width deck taken f f' (Faulted fault line) h = absurd h
+untranslated_works width deck taken f f' StepLimit h = absurd h
+untranslated_works width deck taken f f' ReadFault h = h
+untranslated_works width deck taken f f' WriteFault h = absurd h
+untranslated_works width deck taken f f' OutOfMemory h = refl
 
-pub translation_text : (deck text items : List ℕ) → IsTranslationOf deck items → text ≡ items → IsTextFor Vectorise deck text
-translation_text deck text items h same = record {
+pub translation_text : (width : Width) (deck text items : List ℕ) → IsTranslationOf width deck items → text ≡ items → IsTextFor (Vectorise width) deck text
+translation_text width deck text items h same = record {
   program = h.program;
   read = h.read;
   ends = refl;
   has_text = subst (IsTranslationText h.program (has_data data_line77 deck) (input_of data_line77 deck)) (sym same) h.written;
 }
 
-pub listed : (deck source : List ℕ) (o : Result Program77 Refused) (p : Program77) (text items : List ℕ) → length deck ≤ most_bytes Graph
-    → source ≡ source_for Graph deck
-    → o ≡ Ok p → ReadsSource Graph source (program_of p) → OnlyReads Graph source o → OnlyRefuses Graph source o
+pub listed : (width : Width) (deck source : List ℕ) (o : Result Program77 Refused) (p : Program77) (text items : List ℕ) → length deck ≤ most_bytes (Graph width)
+    → source ≡ source_for (Graph width) deck
+    → o ≡ Ok p → ReadsSource (Graph width) source (program_of p) → OnlyReads (Graph width) source o → OnlyRefuses (Graph width) source o
     → IsListingText (program_of p) items → text ≡ items
-    → IsTextFor Graph deck text
-listed deck source o p text items within at e reads only_reads only_refuses listing same = record {
+    → IsTextFor (Graph width) deck text
+listed width deck source o p text items within at e reads only_reads only_refuses listing same = record {
   program = program_of p;
-  read = read_as Graph deck source o p within at e reads only_reads only_refuses;
+  read = read_as (Graph width) deck source o p within at e reads only_reads only_refuses;
   ends = refl;
   has_text = subst (IsListingText (program_of p)) (sym same) listing;
 }

@@ -1,5 +1,5 @@
 -- What a machine's run, and the showing of its store, have given of the run's text.
-use Rattle.std.proofs.Common.{◌≡◌, ◌≤◌, ◌++◌, ℕ, List, [], Bool, true, false, Option, Some, refl, ap, sym, ◌∙◌, subst, append_assoc}
+use Rattle.std.proofs.Common.{◌≡◌, ◌≤◌, ◌++◌, ℕ, List, [], Bool, true, false, Option, Some, refl, ap, sym, ◌∙◌, subst, append_assoc, append-nil}
 use Rattle.std.specs.Prelude.{not, cond}
 use Rattle.streams.proofs.Chained.{gives_more, both_none}
 use Rattle.streams.proofs.Counts.{later_then_rose}
@@ -51,6 +51,23 @@ asked options e = by options.final_store e
     by : (b : Bool) → not b ≡ false → b ≡ true
     by true e = refl
     by false e = absurd (cc)
+
+-- the run ended so, and no store is shown
+pub run_whole : (options : Options) (p : Program) (s : State) (m : Seen) (w : Writing) (e : End) → final_part options p s (Some e) ≡ [] → EndsWith s m w.before w.now e
+    → GaveAll (ending s) (run_text options p s) w e
+run_whole options p s m w e none h = record {
+  ending_is = h.ending;
+  all = subst (λ (t : List ℕ). Gives w.before t w.now)
+      (sym (ap (λ o. s.written ++ final_part options p s o) h.ending ∙ ap (λ t. s.written ++ t) none ∙ append-nil s.written)) h.taken;
+}
+
+-- the final store isn't asked for
+pub unasked : (options : Options) (p : Program) (s : State) → not options.final_store ≡ true → final_part options p s (Some end.Done) ≡ []
+unasked options p s e = by options.final_store e
+  where
+    by : (b : Bool) → not b ≡ true → cond b (final_lines p s.store) [] ≡ []
+    by true e = absurd (cc)
+    by false e = refl
 
 -- the run's text, where the final store is asked for
 shown_text : (options : Options) (p : Program) (s : State) (store : Store) → not options.final_store ≡ false → ending s ≡ Some end.Done → store ≡ s.store

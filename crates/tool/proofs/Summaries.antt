@@ -12,6 +12,7 @@ use Rattle.meaning.specs.Deck.{source_of, input_of, data_line77, data_line90}
 use Rattle.meaning.specs.Dialect.{fortran90}
 use Rattle.meaning.specs.Run.{State}
 use Rattle.meaning.specs.Sequential.{sequential_run, ending, EndsWell}
+use Rattle.tree.specs.declared.width.Width.TheVariants.{Plain}
 use Rattle.meaning.specs.declared.End.{End}
 use Rattle.meaning.specs.declared.End.TheVariants as end
 use Rattle.f90_grammar.specs.Refusals.{Conforms90}
@@ -35,25 +36,25 @@ use Rattle.tool.proofs.Limits.{exceeded}
 -- ---- a translation
 
 -- what is given for a deck by `vectorise` is one
-pub is_translated : (deck text : List ℕ) → IsTranslationOf deck text → IsTranslated deck text
+pub is_translated : (deck text : List ℕ) → IsTranslationOf Plain deck text → IsTranslated Plain deck text
 is_translated deck text h =
-    let all : Holds deck text = holds deck text h.program h.read h.written in
+    let all : Holds Plain deck text = holds Plain deck text h.program h.read h.written in
     (all.translates, all.listed, all.marked, all.printed, all.vectorised)
 
 -- its array run ends without fault where the deck's run does
-pub translation_runs_well : (deck text : List ℕ) (q : Program) → IsTranslated deck text → Conforms90 (source_of data_line90 text) q → RunsWell deck → EndsWell (run_in text q)
+pub translation_runs_well : (deck text : List ℕ) (q : Program) → IsTranslated Plain deck text → Conforms90 (source_of data_line90 text) q → RunsWell deck → EndsWell (run_in text q)
 translation_runs_well deck text q all conforms well =
-    let h : Translates deck text = all.0 in
+    let h : Translates Plain deck text = all.0 in
     let input : List ℕ = input_of data_line77 deck in
     let same : well.program ≡ h.program = h.read.only well.program well.reads in
     let one : q ≡ h.translation = h.accepted.only q conforms in
     subst (λ (q : Program). EndsWell (run_in text q)) (sym one)
-    (subst (λ (t : List ℕ). EndsWell (array_run h.translation t)) (sym h.input)
-    ((h.keeps input).ends (subst (λ (p : Program). EndsWell (sequential_run p input)) same well.ends)))
+    (subst (λ (t : List ℕ). EndsWell (array_run Plain h.translation t)) (sym h.input)
+    ((h.keeps input).ends (subst (λ (p : Program). EndsWell (sequential_run Plain p input)) same well.ends)))
 
 -- ---- the counts alone were given
 
-module _ (deck t : List ℕ) (translates : IsTranslated deck t) where
+module _ (deck t : List ℕ) (translates : IsTranslated Plain deck t) where
   -- a summary by the program of the translation
   summary_of : IsSummary deck (counts_text t ++ (run_in t translates.0.translation).written)
   summary_of = record {
@@ -130,7 +131,7 @@ module _ (deck t : List ℕ) (translates : IsTranslated deck t) where
     ran Usage other later h = h
     ran (Refused r) other later h = absurd (other r refl)
     ran (Faulted fault line) other later h = all_given h.program (end.Fault fault line) h.text h.read h.has_text h.comes.ending_is h.comes.all
-    ran StepLimit other later h = exceeded fortran90 None h.program (input_of data_line90 t) h.comes.ending_is
+    ran StepLimit other later h = exceeded (fortran90 Plain) None h.program (input_of data_line90 t) h.comes.ending_is
     ran ReadFault other later h = h
     ran WriteFault other later h = (later_then_rose f f' f'' later h.comes.fault, front_given h.program h.text h.read h.has_text h.comes.front)
     ran OutOfMemory other later h = inr (without_memory h)
@@ -148,7 +149,7 @@ run_spoken t w n OutOfMemory other h = refl
 
 -- ---- a deck that has no translation
 
-pub untranslated : (deck : List ℕ) (taken : Option (List ℕ)) (f f' : ℕ) (o : Outcome) → IsUntranslated deck o → Summarises deck taken taken f f' o
+pub untranslated : (deck : List ℕ) (taken : Option (List ℕ)) (f f' : ℕ) (o : Outcome) → IsUntranslated Plain deck o → Summarises deck taken taken f f' o
 untranslated deck taken f f' Done h = absurd h
 untranslated deck taken f f' Usage h = h
 untranslated deck taken f f' (Refused r) h = (h, refl)
@@ -158,7 +159,7 @@ untranslated deck taken f f' ReadFault h = h
 untranslated deck taken f f' WriteFault h = absurd h
 untranslated deck taken f f' OutOfMemory h = inl refl
 
-pub untranslated_gives_none : (deck : List ℕ) (o : Outcome) → IsUntranslated deck o → gives_all o ≡ true → ⊥
+pub untranslated_gives_none : (deck : List ℕ) (o : Outcome) → IsUntranslated Plain deck o → gives_all o ≡ true → ⊥
 untranslated_gives_none deck Done h all = h
 untranslated_gives_none deck Usage h all = h
 untranslated_gives_none deck (Refused r) h all = cc
@@ -216,13 +217,13 @@ module _ (d deck given : List ℕ) (at : deck ≡ given) (is : given ≡ d) wher
   as_made : deck ≡ d
   as_made = at ∙ is
 
-  pub translated_as : (items text : List ℕ) → items ≡ text → IsTranslationOf deck text → IsTranslated d items
+  pub translated_as : (items text : List ℕ) → items ≡ text → IsTranslationOf Plain deck text → IsTranslated Plain d items
   translated_as items text same h =
-      subst (λ (t : List ℕ). IsTranslated d t) (sym same)
-      (is_translated d text (subst (λ (x : List ℕ). IsTranslationOf x text) as_made h))
+      subst (λ (t : List ℕ). IsTranslated Plain d t) (sym same)
+      (is_translated d text (subst (λ (x : List ℕ). IsTranslationOf Plain x text) as_made h))
 
-  pub untranslated_as : (taken : Option (List ℕ)) (f : ℕ) (o : Outcome) → IsUntranslated deck o → Summarises d taken taken f f o
-  untranslated_as taken f o h = untranslated d taken f f o (subst (λ (x : List ℕ). IsUntranslated x o) as_made h)
+  pub untranslated_as : (taken : Option (List ℕ)) (f : ℕ) (o : Outcome) → IsUntranslated Plain deck o → Summarises d taken taken f f o
+  untranslated_as taken f o h = untranslated d taken f f o (subst (λ (x : List ℕ). IsUntranslated Plain x o) as_made h)
 
 -- it has few bytes
 pub short_enough : (deck given : List ℕ) → deck ≡ given → length given < 2 ^ 24 → length deck ≤ deck_bytes

@@ -35,6 +35,7 @@ use Rattle.tool.proofs.Headline.{Holds, holds, listing_holds}
 use Rattle.tool.proofs.Limits.{exceeded, limited}
 use Rattle.tool.proofs.Readings.{run_ends}
 use Rattle.tool.proofs.Statuses as tells
+use Rattle.tree.specs.declared.width.Width.{Width}
 
 -- ---- words
 
@@ -164,32 +165,33 @@ never_done k c OutOfMemory s e h = always c.left_before (λ deck r refused still
 -- ---- what was given
 
 -- what is written for a translation, and for a listing
-written : (deck text : List ℕ) (p : Program) → IsReadAs Vectorise deck p → HasText Vectorise deck p text → Holds deck text
-written deck text p read has = holds deck text p read has
+written : (width : Width) (deck text : List ℕ) (p : Program) → IsReadAs (Vectorise width) deck p → HasText (Vectorise width) deck p text → Holds width deck text
+written width deck text p read has = holds width deck text p read has
 
-translation : (P : List ℕ → List ℕ → Type 0) → ((deck text : List ℕ) → Holds deck text → P deck text) → (before now : Option (List ℕ)) (deck : List ℕ)
-    → GivesAll Vectorise end.Done before now deck → GivesWhere before now (P deck)
-translation P f before now deck g = (g.text, f deck g.text (written deck g.text g.program g.read g.has_text), g.given)
+translation : (width : Width) (P : List ℕ → List ℕ → Type 0) → ((deck text : List ℕ) → Holds width deck text → P deck text) → (before now : Option (List ℕ)) (deck : List ℕ)
+    → GivesAll (Vectorise width) end.Done before now deck → GivesWhere before now (P deck)
+translation width P f before now deck g = (g.text, f deck g.text (written width deck g.text g.program g.read g.has_text), g.given)
 
-abbrev AllHold : List ℕ → List ℕ → Type 0
-AllHold deck text =
-    Translates deck text × IsListedBeside deck text × IsMarked deck text × IsPrinted deck text × VectorisesDeck deck text
+abbrev AllHold : (width : Width) → List ℕ → List ℕ → Type 0
+AllHold width deck text =
+    Translates width deck text × IsListedBeside width deck text × IsMarked width deck text × IsPrinted width deck text
+    × VectorisesDeck width deck text
 
-all_hold : (deck text : List ℕ) → Holds deck text → AllHold deck text
-all_hold deck text h = (h.translates, h.listed, h.marked, h.printed, h.vectorised)
+all_hold : (width : Width) (deck text : List ℕ) → Holds width deck text → AllHold width deck text
+all_hold width deck text h = (h.translates, h.listed, h.marked, h.printed, h.vectorised)
 
-translation_part : (before now : Option (List ℕ)) (deck : List ℕ) → GivesFront Vectorise before now deck → GivesPartWhere before now (AllHold deck)
-translation_part before now deck g = (g.text, all_hold deck g.text (written deck g.text g.program g.read g.has_text), g.given)
+translation_part : (width : Width) (before now : Option (List ℕ)) (deck : List ℕ) → GivesFront (Vectorise width) before now deck → GivesPartWhere before now (AllHold width deck)
+translation_part width before now deck g = (g.text, all_hold width deck g.text (written width deck g.text g.program g.read g.has_text), g.given)
 
-listing_given : (before now : Option (List ℕ)) (deck : List ℕ) → GivesAll Graph end.Done before now deck → GivesWhere before now (IsListingOf deck)
-listing_given before now deck g = (g.text, listing_holds deck g.text g.program g.read g.has_text, g.given)
+listing_given : (width : Width) (before now : Option (List ℕ)) (deck : List ℕ) → GivesAll (Graph width) end.Done before now deck → GivesWhere before now (IsListingOf width deck)
+listing_given width before now deck g = (g.text, listing_holds width deck g.text g.program g.read g.has_text, g.given)
 
-listing_part : (before now : Option (List ℕ)) (deck : List ℕ) → GivesFront Graph before now deck → GivesPartWhere before now (IsListingOf deck)
-listing_part before now deck g = (g.text, listing_holds deck g.text g.program g.read g.has_text, g.given)
+listing_part : (width : Width) (before now : Option (List ℕ)) (deck : List ℕ) → GivesFront (Graph width) before now deck → GivesPartWhere before now (IsListingOf width deck)
+listing_part width before now deck g = (g.text, listing_holds width deck g.text g.program g.read g.has_text, g.given)
 
 run_given : (k : Command) → IsRun k → (e : End) (before now : Option (List ℕ)) (deck : List ℕ) → GivesAll k e before now deck → GivesRun k e before now deck
-run_given Vectorise run e before now deck g = absurd run
-run_given Graph run e before now deck g = absurd run
+run_given (Vectorise w) run e before now deck g = absurd run
+run_given (Graph w) run e before now deck g = absurd run
 run_given (Run77 options) run e before now deck g = record {
   program = g.program;
   read = g.read;
@@ -204,8 +206,8 @@ run_given (Run90 options) run e before now deck g = record {
 }
 
 run_part_given : (k : Command) → IsRun k → (before now : Option (List ℕ)) (deck : List ℕ) → GivesFront k before now deck → GivesRunPart k before now deck
-run_part_given Vectorise run before now deck g = absurd run
-run_part_given Graph run before now deck g = absurd run
+run_part_given (Vectorise w) run before now deck g = absurd run
+run_part_given (Graph w) run before now deck g = absurd run
 run_part_given (Run77 options) run before now deck g = record {
   program = g.program;
   read = g.read;
@@ -217,33 +219,33 @@ run_part_given (Run90 options) run before now deck g = record {
   text = subst (λ (t : List ℕ). GivesPart before t now) g.has_text g.given;
 }
 
-given_done : (P : List ℕ → List ℕ → Type 0) → ((deck text : List ℕ) → Holds deck text → P deck text) → (c : Call) (o : Outcome) (s : ℕ) → s ≡ status_of o → Ends Vectorise c o → s ≡ 0
+given_done : (width : Width) (P : List ℕ → List ℕ → Type 0) → ((deck text : List ℕ) → Holds width deck text → P deck text) → (c : Call) (o : Outcome) (s : ℕ) → s ≡ status_of o → Ends (Vectorise width) c o → s ≡ 0
     → IfSome c.left_before (λ deck. GivesWhere c.taken_before c.taken_now (P deck))
-given_done P f c o s e h q = map_some c.left_before (translation P f c.taken_before c.taken_now) (at_outcome Vectorise c o Done (tells.is_done o s e q) h).1
+given_done width P f c o s e h q = map_some c.left_before (translation width P f c.taken_before c.taken_now) (at_outcome (Vectorise width) c o Done (tells.is_done o s e q) h).1
 
-pub vectorised : (c : Call) (o : Outcome) (s : ℕ) → s ≡ status_of o → Ends Vectorise c o → s ≡ 0 → IfSome c.left_before (λ deck. GivesWhere c.taken_before c.taken_now (VectorisesDeck deck))
-vectorised c o s e h q = given_done VectorisesDeck (λ deck text all. all.vectorised) c o s e h q
+pub vectorised : (width : Width) (c : Call) (o : Outcome) (s : ℕ) → s ≡ status_of o → Ends (Vectorise width) c o → s ≡ 0 → IfSome c.left_before (λ deck. GivesWhere c.taken_before c.taken_now (VectorisesDeck width deck))
+vectorised width c o s e h q = given_done width (VectorisesDeck width) (λ deck text all. all.vectorised) c o s e h q
 
-pub translated : (c : Call) (o : Outcome) (s : ℕ) → s ≡ status_of o → Ends Vectorise c o → s ≡ 0 → IfSome c.left_before (λ deck. GivesWhere c.taken_before c.taken_now (Translates deck))
-translated c o s e h q = given_done Translates (λ deck text all. all.translates) c o s e h q
+pub translated : (width : Width) (c : Call) (o : Outcome) (s : ℕ) → s ≡ status_of o → Ends (Vectorise width) c o → s ≡ 0 → IfSome c.left_before (λ deck. GivesWhere c.taken_before c.taken_now (Translates width deck))
+translated width c o s e h q = given_done width (Translates width) (λ deck text all. all.translates) c o s e h q
 
-pub listed_beside : (c : Call) (o : Outcome) (s : ℕ) → s ≡ status_of o → Ends Vectorise c o → s ≡ 0 → IfSome c.left_before (λ deck. GivesWhere c.taken_before c.taken_now (IsListedBeside deck))
-listed_beside c o s e h q = given_done IsListedBeside (λ deck text all. all.listed) c o s e h q
+pub listed_beside : (width : Width) (c : Call) (o : Outcome) (s : ℕ) → s ≡ status_of o → Ends (Vectorise width) c o → s ≡ 0 → IfSome c.left_before (λ deck. GivesWhere c.taken_before c.taken_now (IsListedBeside width deck))
+listed_beside width c o s e h q = given_done width (IsListedBeside width) (λ deck text all. all.listed) c o s e h q
 
-pub marked : (c : Call) (o : Outcome) (s : ℕ) → s ≡ status_of o → Ends Vectorise c o → s ≡ 0 → IfSome c.left_before (λ deck. GivesWhere c.taken_before c.taken_now (IsMarked deck))
-marked c o s e h q = given_done IsMarked (λ deck text all. all.marked) c o s e h q
+pub marked : (width : Width) (c : Call) (o : Outcome) (s : ℕ) → s ≡ status_of o → Ends (Vectorise width) c o → s ≡ 0 → IfSome c.left_before (λ deck. GivesWhere c.taken_before c.taken_now (IsMarked width deck))
+marked width c o s e h q = given_done width (IsMarked width) (λ deck text all. all.marked) c o s e h q
 
-pub printed : (c : Call) (o : Outcome) (s : ℕ) → s ≡ status_of o → Ends Vectorise c o → s ≡ 0 → IfSome c.left_before (λ deck. GivesWhere c.taken_before c.taken_now (IsPrinted deck))
-printed c o s e h q = given_done IsPrinted (λ deck text all. all.printed) c o s e h q
+pub printed : (width : Width) (c : Call) (o : Outcome) (s : ℕ) → s ≡ status_of o → Ends (Vectorise width) c o → s ≡ 0 → IfSome c.left_before (λ deck. GivesWhere c.taken_before c.taken_now (IsPrinted width deck))
+printed width c o s e h q = given_done width (IsPrinted width) (λ deck text all. all.printed) c o s e h q
 
-pub part : (c : Call) (o : Outcome) (s : ℕ) → s ≡ status_of o → Ends Vectorise c o → s ≡ 6 → IfSome c.left_before (λ deck. GivesPartWhere c.taken_before c.taken_now (AllHold deck))
-part c o s e h q = map_some c.left_before (translation_part c.taken_before c.taken_now) (at_outcome Vectorise c o WriteFault (tells.is_write_fault o s e q) h).2
+pub part : (width : Width) (c : Call) (o : Outcome) (s : ℕ) → s ≡ status_of o → Ends (Vectorise width) c o → s ≡ 6 → IfSome c.left_before (λ deck. GivesPartWhere c.taken_before c.taken_now (AllHold width deck))
+part width c o s e h q = map_some c.left_before (translation_part width c.taken_before c.taken_now) (at_outcome (Vectorise width) c o WriteFault (tells.is_write_fault o s e q) h).2
 
-pub listed : (c : Call) (o : Outcome) (s : ℕ) → s ≡ status_of o → Ends Graph c o → s ≡ 0 → IfSome c.left_before (λ deck. GivesWhere c.taken_before c.taken_now (IsListingOf deck))
-listed c o s e h q = map_some c.left_before (listing_given c.taken_before c.taken_now) (at_outcome Graph c o Done (tells.is_done o s e q) h).1
+pub listed : (width : Width) (c : Call) (o : Outcome) (s : ℕ) → s ≡ status_of o → Ends (Graph width) c o → s ≡ 0 → IfSome c.left_before (λ deck. GivesWhere c.taken_before c.taken_now (IsListingOf width deck))
+listed width c o s e h q = map_some c.left_before (listing_given width c.taken_before c.taken_now) (at_outcome (Graph width) c o Done (tells.is_done o s e q) h).1
 
-pub listed_part : (c : Call) (o : Outcome) (s : ℕ) → s ≡ status_of o → Ends Graph c o → s ≡ 6 → IfSome c.left_before (λ deck. GivesPartWhere c.taken_before c.taken_now (IsListingOf deck))
-listed_part c o s e h q = map_some c.left_before (listing_part c.taken_before c.taken_now) (at_outcome Graph c o WriteFault (tells.is_write_fault o s e q) h).2
+pub listed_part : (width : Width) (c : Call) (o : Outcome) (s : ℕ) → s ≡ status_of o → Ends (Graph width) c o → s ≡ 6 → IfSome c.left_before (λ deck. GivesPartWhere c.taken_before c.taken_now (IsListingOf width deck))
+listed_part width c o s e h q = map_some c.left_before (listing_part width c.taken_before c.taken_now) (at_outcome (Graph width) c o WriteFault (tells.is_write_fault o s e q) h).2
 
 pub ran : (k : Command) → IsRun k → (c : Call) (o : Outcome) (s : ℕ) → s ≡ status_of o → Ends k c o → s ≡ 0 → IfSome c.left_before (GivesRun k end.Done c.taken_before c.taken_now)
 ran k run c o s e h q = map_some c.left_before (run_given k run end.Done c.taken_before c.taken_now) (at_outcome k c o Done (tells.is_done o s e q) h).1
@@ -270,8 +272,8 @@ at_limit k c o s e h q =
     cut_for k g.0 c g.1 g.2
 
 little_given : (k : Command) → IsRun k → (c : Call) → GivesLittle k c → IfSome c.left_before (GivesAtMostPart k c.taken_before c.taken_now)
-little_given Vectorise run c h = absurd run
-little_given Graph run c h = absurd run
+little_given (Vectorise w) run c h = absurd run
+little_given (Graph w) run c h = absurd run
 little_given (Run77 options) run c h = always c.left_before (λ deck. inl h)
 little_given (Run90 options) run c (inl h) = always c.left_before (λ deck. inl h)
 little_given (Run90 options) run c (inr h) = map_some c.left_before (λ deck g. inr (run_part_given (Run90 options) run c.taken_before c.taken_now deck g)) h
@@ -347,8 +349,8 @@ over_limit k run c o s q h e =
 -- ---- the notes
 
 has_fault : (k : Command) (c : Call) (fault : Kind) (line : ℕ) → IsRun k → IfSome c.left_before (GivesAll k (end.Fault fault line) c.taken_before c.taken_now) → IfSome c.left_before (HasFault k fault line)
-has_fault Vectorise c fault line run h = absurd run
-has_fault Graph c fault line run h = absurd run
+has_fault (Vectorise w) c fault line run h = absurd run
+has_fault (Graph w) c fault line run h = absurd run
 has_fault (Run77 options) c fault line run h =
     map_some c.left_before (λ deck (g : GivesAll (Run77 options) (end.Fault fault line) c.taken_before c.taken_now deck). (g.program, g.read, g.ending)) h
 has_fault (Run90 options) c fault line run h =

@@ -41,8 +41,8 @@ IsWell _ = ⊥
 
 -- a translation ends well, and so does a listing
 is_run : (k : Command) (deck : List ℕ) (p : Program) (e : End) → ending_of k deck p ≡ Some e → (IsWell e → ⊥) → IsRun k
-is_run Vectorise deck p e q n = absurd (n (subst IsWell (some_inj end.Done e q) tt))
-is_run Graph deck p e q n = absurd (n (subst IsWell (some_inj end.Done e q) tt))
+is_run (Vectorise w) deck p e q n = absurd (n (subst IsWell (some_inj end.Done e q) tt))
+is_run (Graph w) deck p e q n = absurd (n (subst IsWell (some_inj end.Done e q) tt))
 is_run (Run77 options) deck p e q n = tt
 is_run (Run90 options) deck p e q n = tt
 
@@ -50,8 +50,8 @@ is_run (Run90 options) deck p e q n = tt
 
 little : (k : Command) (left now : Option (List ℕ)) (w : Writing) (d d' : ℕ) (bytes : List ℕ) → Takes left bytes now → IsAtEnd now → WithoutMemory k bytes w
     → GivesLittle k (record { left_before = left; left_now = now; taken_before = w.before; taken_now = w.now; deck_faults_before = d; deck_faults_now = d'; out_faults_before = w.faults_before; out_faults_now = w.faults_now })
-little Vectorise left now w d d' bytes t at h = h
-little Graph left now w d d' bytes t at h = h
+little (Vectorise v) left now w d d' bytes t at h = h
+little (Graph v) left now w d d' bytes t at h = h
 little (Run77 options) left now w d d' bytes t at h = h
 little (Run90 options) left now w d d' bytes t at (inl same) = inl same
 little (Run90 options) left now w d d' bytes t at (inr h) =
@@ -101,14 +101,14 @@ worked_for k asked left now w d d' items bytes o e same t at h =
 -- ---- the bytes weren't read
 
 too_long : (k : Command) (deck : List ℕ) → most_bytes k < length deck → IsRefused k deck (refusal_at cause.TooLong 0)
-too_long Vectorise deck h = too_long77 h
-too_long Graph deck h = too_long77 h
+too_long (Vectorise w) deck h = too_long77 h
+too_long (Graph w) deck h = too_long77 h
 too_long (Run77 options) deck h = too_long77 h
 too_long (Run90 options) deck h = too_long90 h
 
 within : (k : Command) (deck : List ℕ) (p : Program) → Reads k deck p → length deck ≤ most_bytes k
-within Vectorise deck p reads = reads.within
-within Graph deck p reads = reads.within
+within (Vectorise w) deck p reads = reads.within
+within (Graph w) deck p reads = reads.within
 within (Run77 options) deck p reads = reads.within
 within (Run90 options) deck p reads = reads.within
 
@@ -126,8 +126,8 @@ passed k (Some deck) now h =
 
 -- nothing was given
 still : (k : Command) (c : Call) → c.taken_now ≡ c.taken_before → GivesLittle k c
-still Vectorise c e = e
-still Graph c e = e
+still (Vectorise w) c e = e
+still (Graph w) c e = e
 still (Run77 options) c e = e
 still (Run90 options) c e = inl e
 

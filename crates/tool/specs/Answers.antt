@@ -15,6 +15,7 @@ use Rattle.tool.specs.declared.report.outcome.Outcome.TheVariants.{Refused, Faul
 use Rattle.tool.specs.report.Notes.{status_of, note_of}
 use Rattle.tool.specs.Decks.{IsRefused, IsReadAs}
 use Rattle.tool.specs.Running.{run_of}
+use Rattle.tree.specs.declared.width.Width.TheVariants.{Plain}
 
 -- the status is one of these
 abbrev pub IsOneOf : List ℕ → ℕ → Type 0
@@ -27,8 +28,8 @@ RunFaults c fault line deck = (p : Program) × IsReadAs c deck p × (ending (run
 
 -- the deck's run ends in this fault at this line
 abbrev pub HasFault : Command → Kind → ℕ → List ℕ → Type 0
-HasFault Vectorise fault line deck = ⊥
-HasFault Graph fault line deck = ⊥
+HasFault (Vectorise w) fault line deck = ⊥
+HasFault (Graph w) fault line deck = ⊥
 HasFault (Run77 options) fault line deck = RunFaults (Run77 options) fault line deck
 HasFault (Run90 options) fault line deck = RunFaults (Run90 options) fault line deck
 
@@ -37,7 +38,7 @@ HasFault (Run90 options) fault line deck = RunFaults (Run90 options) fault line 
 abbrev pub IsTrueOf : Option Request → Option (List ℕ) → Outcome → Type 0
 IsTrueOf (Some (OnDeck c)) deck (Refused r) = IfSome deck (λ bytes. IsRefused c bytes r)
 IsTrueOf (Some (OnDeck c)) deck (Faulted fault line) = IfSome deck (HasFault c fault line)
-IsTrueOf (Some (Make n)) deck (Refused r) = IsRefused Vectorise (deck_of n) r
+IsTrueOf (Some (Make n)) deck (Refused r) = IsRefused (Vectorise Plain) (deck_of n) r
 IsTrueOf (Some (Make n)) deck (Faulted fault line) = HasMadeFault (deck_of n) fault line
 IsTrueOf request deck _ = Unit {0}
 

@@ -11,19 +11,20 @@ use Rattle.f90_grammar.specs.Refusals.{Reads90, Refused90}
 use Rattle.tool.specs.declared.commands.commands.Command.{Command}
 use Rattle.tool.specs.declared.commands.commands.Command.TheVariants.{Vectorise, Graph, Run77, Run90}
 use Rattle.meaning.specs.Dialect.{fortran77}
+use Rattle.tree.specs.declared.width.Width.{Width}
 
 -- ---- a deck of FORTRAN 77
 
 -- within the limit of bytes, and its source is read as the program
-pub record ReadsDeck77 (deck : List ℕ) (p : Program) : Type 0 where
+pub record ReadsDeck77 (width : Width) (deck : List ℕ) (p : Program) : Type 0 where
   pub within : length deck ≤ deck_bytes
-  pub source : Reads77 fortran77 (source_of data_line77 deck) p
+  pub source : Reads77 (fortran77 width) (source_of data_line77 deck) p
 
 -- It is too long, or else its source is refused.
-pub data RefusedDeck77 (deck : List ℕ) : Refusal → Type 0 where
-  TooLong : deck_bytes < length deck → RefusedDeck77 deck (refusal_at TooLong' 0)
-  OfSource : (r : Refusal) → length deck ≤ deck_bytes → Refused77 fortran77 (source_of data_line77 deck) r
-      → RefusedDeck77 deck r
+pub data RefusedDeck77 (width : Width) (deck : List ℕ) : Refusal → Type 0 where
+  TooLong : deck_bytes < length deck → RefusedDeck77 width deck (refusal_at TooLong' 0)
+  OfSource : (r : Refusal) → length deck ≤ deck_bytes → Refused77 (fortran77 width) (source_of data_line77 deck) r
+      → RefusedDeck77 width deck r
 
 -- ---- a deck of Fortran 90
 
@@ -41,21 +42,21 @@ pub data RefusedDeck90 (deck : List ℕ) : Refusal → Type 0 where
 
 -- how many bytes a deck may have
 abbrev pub most_bytes : Command → ℕ
-most_bytes Vectorise = deck_bytes
-most_bytes Graph = deck_bytes
+most_bytes (Vectorise w) = deck_bytes
+most_bytes (Graph w) = deck_bytes
 most_bytes (Run77 options) = deck_bytes
 most_bytes (Run90 options) = deck_bytes90
 
 abbrev pub Reads : Command → List ℕ → Program → Type 0
-Reads Vectorise = ReadsDeck77
-Reads Graph = ReadsDeck77
-Reads (Run77 options) = ReadsDeck77
+Reads (Vectorise w) = ReadsDeck77 w
+Reads (Graph w) = ReadsDeck77 w
+Reads (Run77 options) = ReadsDeck77 options.width
 Reads (Run90 options) = ReadsDeck90
 
 abbrev pub IsRefused : Command → List ℕ → Refusal → Type 0
-IsRefused Vectorise = RefusedDeck77
-IsRefused Graph = RefusedDeck77
-IsRefused (Run77 options) = RefusedDeck77
+IsRefused (Vectorise w) = RefusedDeck77 w
+IsRefused (Graph w) = RefusedDeck77 w
+IsRefused (Run77 options) = RefusedDeck77 options.width
 IsRefused (Run90 options) = RefusedDeck90
 
 -- the deck is read as this program and as no other, and it isn't refused

@@ -50,15 +50,15 @@ IsRefusedAfter c before now bytes = (r : Refusal) × IsRefused c bytes r × IsRe
 
 -- a translation needs no run, nor does a listing
 abbrev pub ending_of : Command → List ℕ → Program → Option End
-ending_of Vectorise deck p = Some end.Done
-ending_of Graph deck p = Some end.Done
+ending_of (Vectorise w) deck p = Some end.Done
+ending_of (Graph w) deck p = Some end.Done
 ending_of (Run77 options) deck p = ending (run_of (Run77 options) deck p)
 ending_of (Run90 options) deck p = ending (run_of (Run90 options) deck p)
 
 -- a text that it may write: that of a run is one, a translation and a listing are any of the program
 abbrev pub HasText : Command → List ℕ → Program → List ℕ → Type 0
-HasText Vectorise deck p text = IsTranslationText p (has_data data_line77 deck) (input_of data_line77 deck) text
-HasText Graph deck p text = IsListingText p text
+HasText (Vectorise w) deck p text = IsTranslationText p (has_data data_line77 deck) (input_of data_line77 deck) text
+HasText (Graph w) deck p text = IsListingText p text
 HasText (Run77 options) deck p text = text ≡ text_of_run (Run77 options) deck p
 HasText (Run90 options) deck p text = text ≡ text_of_run (Run90 options) deck p
 
@@ -83,8 +83,8 @@ pub record GivesFront (c : Command) (before now : Option (List ℕ)) (deck : Lis
 
 -- where there is no memory, nothing was given; but the array machine takes memory while it runs
 abbrev pub GivesLittle : Command → Call → Type 0
-GivesLittle Vectorise c = c.taken_now ≡ c.taken_before
-GivesLittle Graph c = c.taken_now ≡ c.taken_before
+GivesLittle (Vectorise w) c = c.taken_now ≡ c.taken_before
+GivesLittle (Graph w) c = c.taken_now ≡ c.taken_before
 GivesLittle (Run77 options) c = c.taken_now ≡ c.taken_before
 GivesLittle (Run90 options) c =
     (c.taken_now ≡ c.taken_before)

@@ -9,13 +9,14 @@ use Rattle.listing_laws.specs.reader.Lists.{Lists}
 use Rattle.listing_laws.specs.told_nests.Nests.{Tells}
 use Rattle.tool.specs.declared.commands.commands.Command.TheVariants.{Graph, Vectorise}
 use Rattle.tool.specs.Decks.{IsReadAs}
+use Rattle.tree.specs.declared.width.Width.{Width}
 
 -- ---- what `graph` writes
 
 -- The deck is read as a program which the lines of the text list, and whose nests they tell. A line feed ends each
-pub record IsListingOf (deck text : List ℕ) : Type 0 where
+pub record IsListingOf (width : Width) (deck text : List ℕ) : Type 0 where
   pub program : Program
-  pub read : IsReadAs Graph deck program
+  pub read : IsReadAs (Graph width) deck program
   pub lists : Lists program (lines text)
   pub tells : Tells program (lines text) lists
   pub ended : text ≡ flat_map with_line_feed (lines text)
@@ -30,7 +31,7 @@ abbrev pub listed_lines : List ℕ → List (List ℕ)
 listed_lines text = filter is_listed (lines (source_of data_line90 text))
 
 -- the deck is read as a program which these lines of the text list
-pub record IsListedBeside (deck text : List ℕ) : Type 0 where
+pub record IsListedBeside (width : Width) (deck text : List ℕ) : Type 0 where
   pub program : Program
-  pub read : IsReadAs Vectorise deck program
+  pub read : IsReadAs (Vectorise width) deck program
   pub lists : Lists program (listed_lines text)

@@ -7,6 +7,8 @@ use Rattle.meaning.specs.Array.{array_run}
 use Rattle.meaning.specs.Deck.{source_of, input_of, data_line77, data_line90}
 use Rattle.meaning.specs.Run.{State}
 use Rattle.meaning.specs.Sequential.{sequential_run, ending, EndsWell}
+use Rattle.tree.specs.declared.width.Width.{Width}
+use Rattle.tree.specs.declared.width.Width.TheVariants.{Plain}
 use Rattle.meaning.specs.declared.End.{End}
 use Rattle.meaning.specs.declared.End.TheVariants as end
 use Rattle.f90_grammar.specs.Refusals.{Conforms90}
@@ -24,22 +26,22 @@ use Rattle.tool.specs.Translates.{Translates}
 use Rattle.tool.specs.Vectorises.{VectorisesDeck}
 
 -- all that `vectorise` promises of the text that it gives for the deck
-abbrev pub IsTranslated : List ℕ → List ℕ → Type 0
-IsTranslated deck text =
-    Translates deck text × IsListedBeside deck text × IsMarked deck text × IsPrinted deck text
-    × VectorisesDeck deck text
+abbrev pub IsTranslated : Width → List ℕ → List ℕ → Type 0
+IsTranslated w deck text =
+    Translates w deck text × IsListedBeside w deck text × IsMarked w deck text × IsPrinted w deck text
+    × VectorisesDeck w deck text
 
 -- ---- summaries
 
 -- the array run of the program of a translation, on the translation's input
 abbrev pub run_in : List ℕ → Program → State
-run_in translation q = array_run q (input_of data_line90 translation)
+run_in translation q = array_run Plain q (input_of data_line90 translation)
 
 -- The text is a summary of the deck: it has the counts of a translation of the deck, and then the lines that the array
 -- run of that translation writes
 pub record IsSummary (deck text : List ℕ) : Type 0 where
   pub translation : List ℕ
-  pub translates : IsTranslated deck translation
+  pub translates : IsTranslated Plain deck translation
   pub program : Program
   pub conforms : Conforms90 (source_of data_line90 translation) program
   pub text_is : text ≡ counts_text translation ++ (run_in translation program).written
@@ -66,23 +68,23 @@ GivesAtMostSummary deck before now = (now ≡ before) ⊎ GivesPartWhere before 
 -- it is read, and its sequential run ends without fault
 pub record RunsWell (deck : List ℕ) : Type 0 where
   pub program : Program
-  pub reads : Reads Vectorise deck program
-  pub ends : EndsWell (sequential_run program (input_of data_line77 deck))
+  pub reads : Reads (Vectorise Plain) deck program
+  pub ends : EndsWell (sequential_run Plain program (input_of data_line77 deck))
 
 -- it is read, and its sequential run ends by a fault
 pub record RunsIntoFault (deck : List ℕ) : Type 0 where
   pub program : Program
-  pub read : IsReadAs Vectorise deck program
+  pub read : IsReadAs (Vectorise Plain) deck program
   pub fault : Kind
   pub line : ℕ
-  pub ends : ending (sequential_run program (input_of data_line77 deck)) ≡ Some (end.Fault fault line)
+  pub ends : ending (sequential_run Plain program (input_of data_line77 deck)) ≡ Some (end.Fault fault line)
 
 -- ---- how the work ends: the bytes in the sink and its count of faults are those before and after
 
 abbrev pub Summarises : List ℕ → Option (List ℕ) → Option (List ℕ) → ℕ → ℕ → Outcome → Type 0
 Summarises deck before now faults faults_now Done = GivesWhere before now (IsSummaryTo end.Done deck)
 Summarises deck before now faults faults_now Usage = ⊥
-Summarises deck before now faults faults_now (Refused r) = IsRefusedFor Vectorise r deck × (now ≡ before)
+Summarises deck before now faults faults_now (Refused r) = IsRefusedFor (Vectorise Plain) r deck × (now ≡ before)
 Summarises deck before now faults faults_now (Faulted fault line) =
     GivesWhere before now (IsFaultedSummary fault line deck)
 Summarises deck before now faults faults_now StepLimit = ⊥

@@ -12,6 +12,7 @@ use Rattle.tool.specs.declared.commands.commands.Command.TheVariants.{Vectorise}
 use Rattle.tool.specs.Decks.{IsReadAs}
 use Rattle.tool.specs.Listings.{listed_lines}
 use Rattle.tool.specs.Translates.{IsAccepted}
+use Rattle.tree.specs.declared.width.Width.{Width}
 
 -- The statements of q are those of p, on other lines, with a block in the place of the outermost loop of each of these
 -- nests; and each statement of these nests is marked, in its block and in q, as the nest's graph and holds have it
@@ -22,9 +23,9 @@ pub record IsMarkedBy (p : Program) (ts : List ListedNest) (q : Program) : Type 
 
 -- The deck is read as a program, which the notes of the text list, and the text's source as a program which is marked
 -- by the nests that are listed with a graph
-pub record IsMarked (deck text : List ℕ) : Type 0 where
+pub record IsMarked (width : Width) (deck text : List ℕ) : Type 0 where
   pub program : Program
-  pub read : IsReadAs Vectorise deck program
+  pub read : IsReadAs (Vectorise width) deck program
   pub lists : Lists program (listed_lines text)
   pub translation : Program
   pub accepted : IsAccepted (source_of data_line90 text) translation

@@ -20,27 +20,27 @@ use Rattle.tool.specs.Decks.{IsReadAs}
 
 -- `run77` runs a deck of FORTRAN 77, `run90` one of Fortran 90
 abbrev pub IsRun : Command → Type 0
-IsRun Vectorise = ⊥
-IsRun Graph = ⊥
+IsRun (Vectorise w) = ⊥
+IsRun (Graph w) = ⊥
 IsRun (Run77 options) = Unit {0}
 IsRun (Run90 options) = Unit {0}
 
 -- the other commands run nothing
 abbrev pub options_in : Command → Options
-options_in Vectorise = no_options
-options_in Graph = no_options
+options_in (Vectorise w) = no_options
+options_in (Graph w) = no_options
 options_in (Run77 options) = options
 options_in (Run90 options) = options
 
 abbrev pub dialect_of : Command → Dialect
-dialect_of Vectorise = fortran77
-dialect_of Graph = fortran77
-dialect_of (Run77 options) = fortran77
-dialect_of (Run90 options) = fortran90
+dialect_of (Vectorise w) = fortran77 w
+dialect_of (Graph w) = fortran77 w
+dialect_of (Run77 options) = fortran77 options.width
+dialect_of (Run90 options) = fortran90 options.width
 
 abbrev pub data_line_of : Command → List ℕ
-data_line_of Vectorise = data_line77
-data_line_of Graph = data_line77
+data_line_of (Vectorise w) = data_line77
+data_line_of (Graph w) = data_line77
 data_line_of (Run77 options) = data_line77
 data_line_of (Run90 options) = data_line90
 

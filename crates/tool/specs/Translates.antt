@@ -7,6 +7,7 @@ use Rattle.tree.specs.declared.refusals.Cause.TheVariants.{Limit90}
 use Rattle.tree.specs.declared.refusals.Refusal.{Refusal}
 use Rattle.meaning.specs.Deck.{source_of, input_of, data_line77, data_line90}
 use Rattle.meaning.specs.Keeping.{KeepsMeaning}
+use Rattle.tree.specs.declared.width.Width.{Width}
 use Rattle.f90_grammar.specs.Refusals.{Conforms90, PassesNames, Reads90, Refused90}
 use Rattle.tool.specs.declared.commands.commands.Command.TheVariants.{Vectorise}
 use Rattle.tool.specs.Decks.{IsReadAs}
@@ -29,10 +30,10 @@ pub record IsAccepted (text : List ℕ) (q : Program) : Type 0 where
 -- The deck is read as a program, and the text's source as one of Fortran 90. On each input, where the run of the first
 -- one ends without fault, so does the run of the second one, with the same output and the same values of the first
 -- one's variables. The text has the deck's input
-pub record Translates (deck text : List ℕ) : Type 0 where
+pub record Translates (width : Width) (deck text : List ℕ) : Type 0 where
   pub program : Program
-  pub read : IsReadAs Vectorise deck program
+  pub read : IsReadAs (Vectorise width) deck program
   pub translation : Program
   pub accepted : IsAccepted (source_of data_line90 text) translation
-  pub keeps : (input : List ℕ) → KeepsMeaning program translation input
+  pub keeps : (input : List ℕ) → KeepsMeaning width program translation input
   pub input : input_of data_line90 text ≡ input_of data_line77 deck

@@ -6,12 +6,13 @@ use Rattle.emission.specs.emission_marks.Marks.{Marked, Round, formed_at, marked
 use Rattle.listing.specs.programs.Causes.{listed_holds}
 use Rattle.listing_laws.specs.reader.Lists.{Lists}
 use Rattle.listing_laws.specs.told_nests.Graphs.{graph_told}
-use Rattle.listing_laws.specs.told_nests.Nests.{Tells, ToldNest, by_entries, nests_of}
+use Rattle.listing_laws.specs.told_nests.Nests.{Tells, ToldNest, by_entries, nests_listed}
 use Rattle.meaning.specs.Deck.{source_of, input_of, data_line77, data_line90}
 use Rattle.meaning.specs.Keeping.{KeepsMeaning}
+use Rattle.tree.specs.declared.width.Width.{Width}
 use Rattle.nest.specs.Bodies.{nest_statements}
 use Rattle.tree.specs.Plain.{Program}
-use Rattle.translation.specs.program_marks.Marks.{numbers_of, within, without_line}
+use Rattle.translation.specs.program_marks.Marks.{mark_numbers_of, within, without_line}
 use Rattle.tool.specs.declared.commands.commands.Command.TheVariants.{Vectorise}
 use Rattle.tool.specs.Decks.{IsReadAs}
 use Rattle.tool.specs.Listings.{listed_lines}
@@ -34,16 +35,16 @@ pub record IsArrayStatement (t : ToldNest) (s : ℕ) (q : Program) : Type 0 wher
   pub stands : Contains (marked_in [] q.body) it
   pub outer : List Round
   pub is : without_line it ≡ without_line (within outer (formed_at t.last s level))
-  pub only : (x : Marked) → Contains (marked_in [] q.body) x → numbers_of x ≡ numbers_of it → x ≡ it
+  pub only : (x : Marked) → Contains (marked_in [] q.body) x → mark_numbers_of x ≡ mark_numbers_of it → x ≡ it
 
 -- ---- the headline
 
-pub record Vectorises (p : Program) (text : List ℕ) : Type 0 where
+pub record Vectorises (width : Width) (p : Program) (text : List ℕ) : Type 0 where
   -- The text is accepted Fortran 90, and its run, wherever that of p ends without fault, ends without fault, with the
   -- same output and values of the variables of p
   pub translation : Program
   pub accepted : IsAccepted (source_of data_line90 text) translation
-  pub keeps : (input : List ℕ) → KeepsMeaning p translation input
+  pub keeps : (input : List ℕ) → KeepsMeaning width p translation input
   -- Those of its lines that begin with `!G ` list p: each nest and each kept loop has its entries, and there are no
   -- others; no private scalar is left, and each loop that is left has its causes
   pub lists : Lists p (listed_lines text)
@@ -52,16 +53,16 @@ pub record Vectorises (p : Program) (text : List ℕ) : Type 0 where
   pub tells : Tells p (listed_lines text) lists
   -- Each listed statement that is alone at a level is one array statement over its loops from there inwards
   pub alone :
-      (t : ToldNest) (s k : ℕ) → Contains (nests_of p (listed_lines text) lists) t
+      (t : ToldNest) (s k : ℕ) → Contains (nests_listed p (listed_lines text) lists) t
       → s < length (nest_statements t.last) → IsAlone t s k → IsArrayStatement t s translation
   -- Each listed statement has one marked statement, and nothing else is marked. In the place of a nest there are marked
   -- statements alone: one that is alone at no level stands in all its loops, and two stand in one loop exactly where
   -- they are in one component
-  pub marked : IsMarkedBy p (map by_entries (nests_of p (listed_lines text) lists)) translation
+  pub marked : IsMarkedBy p (map by_entries (nests_listed p (listed_lines text) lists)) translation
 
 -- the deck is read as a program of which the text is a translation, with the deck's input
-pub record VectorisesDeck (deck text : List ℕ) : Type 0 where
+pub record VectorisesDeck (width : Width) (deck text : List ℕ) : Type 0 where
   pub program : Program
-  pub read : IsReadAs Vectorise deck program
-  pub is : Vectorises program text
+  pub read : IsReadAs (Vectorise width) deck program
+  pub is : Vectorises width program text
   pub input : input_of data_line90 text ≡ input_of data_line77 deck

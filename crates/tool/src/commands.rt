@@ -1,7 +1,7 @@
 //! The words after the program's name.
 //!
 //! Proved (`request`): the words are the request that the definition has for them, or none, for any list of words; laws
-//! on options: `--steps=N` is `--steps N`, their order doesn't matter, and four words are the most.
+//! on options: `--steps=N` is `--steps N`, their order doesn't matter, and five words are the most.
 //!
 //! **Words are read by hand.** The word behind `--steps` is always its number, so `--steps --final` is no command.
 //!
@@ -13,6 +13,6 @@ mod numbers;
 mod words;
 
 pub use commands::{Command, Options, Request};
-pub use laws::{at_most_four_words, number_attached_or_apart, options_in_any_order};
+pub use laws::{at_most_five_words, number_attached_or_apart, options_in_any_order};
 pub(crate) use numbers::number;
 pub use words::request;

@@ -20,8 +20,8 @@ pub(crate) fn most_bytes(command: Command) -> usize
     ensures { result ≡ most_bytes command }
 {
     match command {
-        Command::Vectorise => DECK_BYTES_77,
-        Command::Graph => DECK_BYTES_77,
+        Command::Vectorise(_) => DECK_BYTES_77,
+        Command::Graph(_) => DECK_BYTES_77,
         Command::Run77(_) => DECK_BYTES_77,
         Command::Run90(_) => DECK_BYTES_90,
     }

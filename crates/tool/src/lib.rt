@@ -32,12 +32,13 @@
 //! up from the first line on, which is quadratic in the nests, of which there are at most 500.
 #![tactic(auto)]
 
-ghost use Rattle.std.specs.Prelude.{◌≡◌, ◌≢◌, ◌≤◌, ◌↔◌, ◌⊎◌, [], ◌∷◌};
-ghost use Rattle.std.specs.Prelude.{List, length, None, Some, true, false, ℕ};
+ghost use Rattle.std.specs.Prelude.{◌≡◌, ◌≢◌, ◌≤◌, ◌↔◌, ◌⊎◌, [], ◌∷◌, List, length, None, Some, true, false, ℕ};
 ghost use Rattle.std.specs.Io.KnownBytes.{IsAtEnd};
 ghost use Rattle.tree.specs.Plain.{Program};
 ghost use Rattle.tree.specs.declared.ops.Fault.{Fault as Kind};
 ghost use Rattle.tree.specs.declared.refusals.Refusal.{Refusal};
+ghost use Rattle.tree.specs.declared.width.Width.{Width};
+ghost use Rattle.tree.specs.declared.width.Width.TheVariants.{Plain};
 ghost use Rattle.generator.specs.Decks.{deck_of};
 ghost use Rattle.streams.specs.Causes.{Rose};
 ghost use Rattle.streams.specs.Streams.{Gives, GivesPart};
@@ -86,7 +87,7 @@ use streams::{Sink, Source};
 use translations::vectorise;
 
 // Does what the command asks for with the bytes of the deck.
-fn perform<K: Sink>(alloc: Global, command: Command, deck: &[u8], out: &mut K) -> Outcome
+fn run_on_bytes<K: Sink>(alloc: Global, command: Command, deck: &[u8], out: &mut K) -> Outcome
     requires { length deck.now ≤ most_bytes command }
     ensures works { Works command deck.now (record {
       before = K.taken out.old;
@@ -101,8 +102,8 @@ fn perform<K: Sink>(alloc: Global, command: Command, deck: &[u8], out: &mut K) -
     ensures later { K.faults out.old ≤ K.faults out.new }
 {
     match command {
-        Command::Vectorise => vectorise(alloc, deck, out),
-        Command::Graph => graph(alloc, deck, out),
+        Command::Vectorise(width) => vectorise(alloc, width, deck, out),
+        Command::Graph(width) => graph(alloc, width, deck, out),
         Command::Run77(options) => run77(alloc, options, deck, out),
         Command::Run90(options) => run90(alloc, options, deck, out),
     }
@@ -130,7 +131,12 @@ fn passed_on<K: Sink>(outcome: Outcome, out: &mut K) -> Outcome
 }
 
 // Does what the command asks for.
-fn obey<S: Source, K: Sink>(alloc: Global, command: Command, deck: &mut S, out: &mut K) -> Outcome
+fn run_on_deck<S: Source, K: Sink>(
+    alloc: Global,
+    command: Command,
+    deck: &mut S,
+    out: &mut K,
+) -> Outcome
     ensures ends { Ends command (record {
       left_before = S.left deck.old;
       left_now = S.left deck.new;
@@ -155,12 +161,17 @@ fn obey<S: Source, K: Sink>(alloc: Global, command: Command, deck: &mut S, out: 
         Ok(bytes) => bytes,
         Err(outcome) => return outcome,
     };
-    let outcome = perform(alloc, command, bytes.as_slice(), out);
+    let outcome = run_on_bytes(alloc, command, bytes.as_slice(), out);
     passed_on(outcome, out)
 }
 
 // Does what the words ask for.
-fn work<S: Source, K: Sink>(alloc: Global, words: &[String], deck: &mut S, out: &mut K) -> Outcome
+fn run_request<S: Source, K: Sink>(
+    alloc: Global,
+    words: &[String],
+    deck: &mut S,
+    out: &mut K,
+) -> Outcome
     ensures ended { Ended (request_of (texts words.now)) (record {
       left_before = S.left deck.old;
       left_now = S.left deck.new;
@@ -184,7 +195,7 @@ fn work<S: Source, K: Sink>(alloc: Global, words: &[String], deck: &mut S, out: 
     ensures out_later { K.faults out.old ≤ K.faults out.new }
 {
     match request(words) {
-        Some(Request::OnDeck(command)) => obey(alloc, command, deck, out),
+        Some(Request::OnDeck(command)) => run_on_deck(alloc, command, deck, out),
         Some(Request::Make(nests)) => make(alloc, nests, out),
         None => Outcome::Usage,
     }
@@ -230,25 +241,25 @@ pub fn run_tool<S: Source, K: Sink, E: Sink>(
     // to be (`vectorised`). So it is a translation of the deck (`translated`); those of its lines that are notes list
     // the deck's program (`listed_beside`); the statements of the nests that they list with a graph are marked as that
     // has them (`marked`). And it is laid out as a translation is printed (`printed`).
-    ensures vectorised { Asks words.now.items Vectorise → result ≡ 0
-        → IfTold (S.left deck.old) (λ bytes. GivesWhere (K.taken out.old) (K.taken out.new) (VectorisesDeck bytes)) }
-    ensures translated { Asks words.now.items Vectorise → result ≡ 0
-        → IfTold (S.left deck.old) (λ bytes. GivesWhere (K.taken out.old) (K.taken out.new) (Translates bytes)) }
-    ensures listed_beside { Asks words.now.items Vectorise → result ≡ 0
-        → IfTold (S.left deck.old) (λ bytes. GivesWhere (K.taken out.old) (K.taken out.new) (IsListedBeside bytes)) }
-    ensures marked { Asks words.now.items Vectorise → result ≡ 0
-        → IfTold (S.left deck.old) (λ bytes. GivesWhere (K.taken out.old) (K.taken out.new) (IsMarked bytes)) }
-    ensures printed { Asks words.now.items Vectorise → result ≡ 0
-        → IfTold (S.left deck.old) (λ bytes. GivesWhere (K.taken out.old) (K.taken out.new) (IsPrinted bytes)) }
-    ensures part { Asks words.now.items Vectorise → result ≡ 6
+    ensures vectorised { (w : Width) → Asks words.now.items (Vectorise w) → result ≡ 0
+        → IfTold (S.left deck.old) (λ bytes. GivesWhere (K.taken out.old) (K.taken out.new) (VectorisesDeck w bytes)) }
+    ensures translated { (w : Width) → Asks words.now.items (Vectorise w) → result ≡ 0
+        → IfTold (S.left deck.old) (λ bytes. GivesWhere (K.taken out.old) (K.taken out.new) (Translates w bytes)) }
+    ensures listed_beside { (w : Width) → Asks words.now.items (Vectorise w) → result ≡ 0
+        → IfTold (S.left deck.old) (λ bytes. GivesWhere (K.taken out.old) (K.taken out.new) (IsListedBeside w bytes)) }
+    ensures marked { (w : Width) → Asks words.now.items (Vectorise w) → result ≡ 0
+        → IfTold (S.left deck.old) (λ bytes. GivesWhere (K.taken out.old) (K.taken out.new) (IsMarked w bytes)) }
+    ensures printed { (w : Width) → Asks words.now.items (Vectorise w) → result ≡ 0
+        → IfTold (S.left deck.old) (λ bytes. GivesWhere (K.taken out.old) (K.taken out.new) (IsPrinted w bytes)) }
+    ensures part { (w : Width) → Asks words.now.items (Vectorise w) → result ≡ 6
         → IfTold (S.left deck.old) (λ bytes. GivesPartWhere (K.taken out.old) (K.taken out.new)
-        (IsTranslated bytes)) }
+        (IsTranslated w bytes)) }
 
     // `graph` gives a listing of the deck's program at 0, and a front of one at 6.
-    ensures listed { Asks words.now.items Graph → result ≡ 0
-        → IfTold (S.left deck.old) (λ bytes. GivesWhere (K.taken out.old) (K.taken out.new) (IsListingOf bytes)) }
-    ensures listed_part { Asks words.now.items Graph → result ≡ 6
-        → IfTold (S.left deck.old) (λ bytes. GivesPartWhere (K.taken out.old) (K.taken out.new) (IsListingOf bytes)) }
+    ensures listed { (w : Width) → Asks words.now.items (Graph w) → result ≡ 0
+        → IfTold (S.left deck.old) (λ bytes. GivesWhere (K.taken out.old) (K.taken out.new) (IsListingOf w bytes)) }
+    ensures listed_part { (w : Width) → Asks words.now.items (Graph w) → result ≡ 6
+        → IfTold (S.left deck.old) (λ bytes. GivesPartWhere (K.taken out.old) (K.taken out.new) (IsListingOf w bytes)) }
 
     // `run77` and `run90` give all of the run's text: at 0 the run ended without fault, at 3 by a fault, at 4 since its
     // steps exceed the limit. At 6 they give a front.
@@ -283,9 +294,9 @@ pub fn run_tool<S: Source, K: Sink, E: Sink>(
     // The deck that it makes: 2 comes only where that is refused, and then there is nothing but 2, or 7. 3 comes only
     // where its run ends by a fault. Where that ends without fault and `out` didn't fail, there is nothing but 0, or 7.
     ensures made_refused { (n : ℕ) → AsksToMake words.now.items n → result ≡ 2
-        → (r : Refusal) × IsRefusedFor Vectorise r (deck_of n) }
+        → (r : Refusal) × IsRefusedFor (Vectorise Plain) r (deck_of n) }
     ensures made_never_done { (n : ℕ) → AsksToMake words.now.items n → (r : Refusal)
-        → IsRefused Vectorise (deck_of n) r → IsOneOf (2 ∷ 7 ∷ []) result }
+        → IsRefused (Vectorise Plain) (deck_of n) r → IsOneOf (2 ∷ 7 ∷ []) result }
     ensures made_runs { (n : ℕ) → AsksToMake words.now.items n → result ≡ 3 → RunsIntoFault (deck_of n) }
     ensures made_done { (n : ℕ) → AsksToMake words.now.items n → RunsWell (deck_of n)
         → HasNotFailed (K.faults out.old) (K.faults out.new) → IsOneOf (0 ∷ 7 ∷ []) result }
@@ -328,7 +339,7 @@ pub fn run_tool<S: Source, K: Sink, E: Sink>(
     ensures out_later { K.faults out.old ≤ K.faults out.new }
     ensures notes_later { E.faults notes.old ≤ E.faults notes.new }
 {
-    let outcome = work(alloc, words.as_slice(), deck, out);
+    let outcome = run_request(alloc, words.as_slice(), deck, out);
     // A fault of the notes changes no status.
     let _ = note(notes, outcome);
     status(outcome)

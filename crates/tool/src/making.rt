@@ -5,6 +5,7 @@ ghost use Rattle.tool.specs.declared.commands.commands.Request.TheVariants.{Make
 ghost use Rattle.tool.specs.Counts.{counts_text};
 ghost use Rattle.tool.specs.Endings.{gives_all, is_silent};
 ghost use Rattle.tool.specs.Making.{IsTranslated, Summarises};
+ghost use Rattle.tree.specs.declared.width.Width.TheVariants.{Plain};
 
 use crate::commands::{Command, Options};
 use crate::counts::counts;
@@ -16,17 +17,20 @@ use crate::translations::translation_of;
 use generator::generated;
 use std::alloc::Global;
 use streams::{Sink, write_all};
+use tree::Width;
 
 // Gives the counts of a translation, and then the lines of its run. Of a translation with more bytes or names than the
 // machine takes it says that there is no memory.
 fn summarise<K: Sink>(alloc: Global, counts: &[u8], translation: &[u8], out: &mut K) -> Outcome
-    ensures summarises { (deck : List ℕ) → IsTranslated deck translation.now → counts.now ≡ counts_text translation.now
+    ensures summarises { (deck : List ℕ) → IsTranslated Plain deck translation.now
+        → counts.now ≡ counts_text translation.now
         → Summarises deck (K.taken out.old) (K.taken out.new) (K.faults out.old) (K.faults out.new) result }
     ensures spoken { (nests : ℕ) → is_silent (Some (Make nests)) result ≡ false }
     ensures no_fault { result ≢ Outcome.WriteFault → K.faults out.new ≡ K.faults out.old }
     ensures later { K.faults out.old ≤ K.faults out.new }
 {
     let options = Options {
+        width: Width::Plain,
         final_store: false,
         steps: None,
     };
@@ -55,7 +59,7 @@ pub(crate) fn make<K: Sink>(alloc: Global, nests: u32, out: &mut K) -> Outcome
     let Ok(deck) = generated(alloc, nests) else {
         return Outcome::OutOfMemory;
     };
-    let translation = match translation_of(alloc, deck.as_slice()) {
+    let translation = match translation_of(alloc, Width::Plain, deck.as_slice()) {
         Ok(translation) => translation,
         Err(outcome) => return outcome,
     };

@@ -2,9 +2,10 @@
 ghost use Rattle.std.specs.Prelude.{◌≡◌, ◌++◌, List, ℕ, codes, is_some, option_copied, position};
 ghost use Rattle.std.specs.List.{before_first, after_first};
 ghost use Rattle.meaning.specs.Deck.{lines_of};
-ghost use Rattle.tool.specs.ArrayMarks.{behind, begins, numbers_listed, loops_listed, first_listed, loops_round};
-ghost use Rattle.tool.specs.ArrayMarks.{is_blank, is_at_most, is_array_mark};
-ghost use Rattle.tool.specs.commands.Command.{number_of};
+ghost use Rattle.tool.specs.ArrayMarks.{part_behind, begins, numbers_listed, loops_listed, first_listed, loops_round};
+ghost use Rattle.tool.specs.ArrayMarks.{is_at_most, is_array_mark};
+ghost use Rattle.reading.specs.Characters.{is_blank};
+ghost use Rattle.tool.specs.commands.Command.{number_of_word};
 
 use crate::commands::number;
 use meaning::decks::next_line;
@@ -12,7 +13,7 @@ use std::str;
 
 // What stands behind these characters, where the line begins with them.
 fn behind<'a>(line: &'a [u8], front: &[u8]) -> Option<&'a [u8]>
-    ensures { option_copied result ≡ behind front.now line.now }
+    ensures { option_copied result ≡ part_behind front.now line.now }
 {
     line.strip_prefix(front)
 }
@@ -20,7 +21,7 @@ fn behind<'a>(line: &'a [u8], front: &[u8]) -> Option<&'a [u8]>
 // What stands behind these characters, the word and more characters.
 #[tactic(auto, using(crate::proofs::MarkLaws::behind_laws))]
 fn behind_word<'a>(line: &'a [u8], front: &[u8], word: &[u8], end: &[u8]) -> Option<&'a [u8]>
-    ensures { option_copied result ≡ behind (front.now ++ word.now ++ end.now) line.now }
+    ensures { option_copied result ≡ part_behind (front.now ++ word.now ++ end.now) line.now }
 {
     let rest = behind(line, front)?;
     let rest = behind(rest, word)?;
@@ -111,7 +112,7 @@ fn cut(text: &[u8]) -> (&[u8], &[u8])
 
 // The number that the digits are.
 fn number_of(digits: &[u8]) -> Option<u64>
-    ensures { result ≡ number_of digits.now }
+    ensures { result ≡ number_of_word digits.now }
 {
     match str::from_utf8(digits) {
         Ok(digits) => number(digits),
@@ -120,7 +121,7 @@ fn number_of(digits: &[u8]) -> Option<u64>
 }
 
 fn is_at_most(digits: &[u8], most: usize) -> bool
-    ensures { result ≡ is_at_most (number_of digits.now) most }
+    ensures { result ≡ is_at_most (number_of_word digits.now) most }
 {
     match number_of(digits) {
         Some(number) => number <= most as u64,

@@ -35,16 +35,18 @@ fn run_machine77<K: Sink>(
     input: &[u8],
     out: &mut K,
 ) -> Outcome
-    ensures comes { (p : Program) → IsProgram77 fortran77 p → IsMachine77Of p machine.old
-        → let run = run_at fortran77 options.steps p input.now in Comes (ending run) (run_text options p run) (record {
+    ensures comes { (p : Program) → IsProgram77 (fortran77 options.width) p → IsMachine77Of options.width p machine.old
+        → let run = run_at (fortran77 options.width) options.steps p input.now in Comes (ending run)
+        (run_text options p run) (record {
           before = K.taken out.old;
           now = K.taken out.new;
           faults_before = K.faults out.old;
           faults_now = K.faults out.new;
         }) result }
     ensures untouched { is_silent (Some (OnDeck (Run77 options))) result ≡ true → out.new ≡ out.old }
-    ensures textless { (p : Program) → IsProgram77 fortran77 p → IsMachine77Of p machine.old
-        → run_text options p (run_at fortran77 options.steps p input.now) ≡ [] → out.new ≡ out.old }
+    ensures textless { (p : Program) → IsProgram77 (fortran77 options.width) p
+        → IsMachine77Of options.width p machine.old
+        → run_text options p (run_at (fortran77 options.width) options.steps p input.now) ≡ [] → out.new ≡ out.old }
     ensures no_fault { result ≢ Outcome.WriteFault → K.faults out.new ≡ K.faults out.old }
     ensures later { K.faults out.old ≤ K.faults out.new }
 {
@@ -70,8 +72,9 @@ fn run_machine90<K: Sink>(
     input: &[u8],
     out: &mut K,
 ) -> Outcome
-    ensures comes { (p : Program) → IsProgram90 p → IsMachine90Of p machine.old
-        → let run = run_at fortran90 options.steps p input.now in ComesOrStops (ending run) (run_text options p run)
+    ensures comes { (p : Program) → IsProgram90 p → IsMachine90Of options.width p machine.old
+        → let run = run_at (fortran90 options.width) options.steps p input.now in ComesOrStops (ending run)
+        (run_text options p run)
         (record {
           before = K.taken out.old;
           now = K.taken out.new;
@@ -79,8 +82,8 @@ fn run_machine90<K: Sink>(
           faults_now = K.faults out.new;
         }) result }
     ensures untouched { is_silent (Some (OnDeck (Run90 options))) result ≡ true → out.new ≡ out.old }
-    ensures textless { (p : Program) → IsProgram90 p → IsMachine90Of p machine.old
-        → run_text options p (run_at fortran90 options.steps p input.now) ≡ [] → out.new ≡ out.old }
+    ensures textless { (p : Program) → IsProgram90 p → IsMachine90Of options.width p machine.old
+        → run_text options p (run_at (fortran90 options.width) options.steps p input.now) ≡ [] → out.new ≡ out.old }
     ensures no_fault { result ≢ Outcome.WriteFault → K.faults out.new ≡ K.faults out.old }
     ensures later { K.faults out.old ≤ K.faults out.new }
 {
@@ -118,11 +121,11 @@ pub(crate) fn run77<K: Sink>(alloc: Global, options: Options, deck: &[u8], out: 
     ensures later { K.faults out.old ≤ K.faults out.new }
 {
     let (source, input) = source_and_input(deck, DataLine::Fortran77);
-    let program = match read77(alloc, source) {
+    let program = match read77(alloc, source, options.width) {
         Ok(program) => program,
         Err(refused) => return unread(refused),
     };
-    match Machine77::new(alloc, program) {
+    match Machine77::new(alloc, program, options.width) {
         Ok(mut machine) => run_machine77(&mut machine, options, bytes_of(input), out),
         Err(_) => Outcome::OutOfMemory,
     }
@@ -149,7 +152,7 @@ pub(crate) fn run90<K: Sink>(alloc: Global, options: Options, deck: &[u8], out: 
         Ok(program) => program,
         Err(refused) => return unread(refused),
     };
-    match Machine90::new(alloc, program) {
+    match Machine90::new(alloc, program, options.width) {
         Ok(mut machine) => run_machine90(&mut machine, options, bytes_of(input), out),
         Err(_) => Outcome::OutOfMemory,
     }

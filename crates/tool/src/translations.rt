@@ -4,6 +4,7 @@ ghost use Rattle.std.specs.Option.{option_copied};
 ghost use Rattle.tree.specs.Limits.{deck_bytes};
 ghost use Rattle.tree.specs.View.{program_of};
 ghost use Rattle.meaning.specs.Dialect.{fortran77};
+ghost use Rattle.tree.specs.declared.width.Width.TheVariants.{Wide};
 ghost use Rattle.meaning.specs.Profile77.{IsProgram77};
 ghost use Rattle.tool.specs.declared.commands.commands.Command.TheVariants.{Vectorise};
 ghost use Rattle.tool.specs.declared.commands.commands.Request.TheVariants.{OnDeck};
@@ -20,7 +21,7 @@ use meaning::decks::{DataLine, source_and_input};
 use std::alloc::Global;
 use streams::{Sink, write_all};
 use translation::{Translation, translate};
-use tree::{Memory, Program77};
+use tree::{Memory, Program77, Width};
 
 // Adds the data line and the input, where there is one.
 fn push_data(text: &mut Vec<u8>, input: Option<&[u8]>) -> Result<(), Memory>
@@ -40,7 +41,7 @@ fn push_data(text: &mut Vec<u8>, input: Option<&[u8]>) -> Result<(), Memory>
 
 // The listing of the program, the text of what it is translated to, and the input behind it.
 fn translation(alloc: Global, program: Program77, input: Option<&[u8]>) -> Result<Vec<u8>, Memory>
-    requires { IsProgram77 fortran77 (program_of program) }
+    requires { IsProgram77 (fortran77 Wide) (program_of program) }
     ensures { IfOk result (λ text. IsTranslationText (program_of program)
         (is_there (option_copied input.entry)) (bytes_in (option_copied input.entry)) text.items) }
 {
@@ -51,13 +52,13 @@ fn translation(alloc: Global, program: Program77, input: Option<&[u8]>) -> Resul
 }
 
 /// The translation of the deck, which has at most 2^24 bytes, or how the call ends without it.
-pub(crate) fn translation_of(alloc: Global, deck: &[u8]) -> Result<Vec<u8>, Outcome>
+pub(crate) fn translation_of(alloc: Global, width: Width, deck: &[u8]) -> Result<Vec<u8>, Outcome>
     requires { length deck.now ≤ deck_bytes }
-    ensures translation { IfOk result (λ text. IsTranslationOf deck.now text.items) }
-    ensures untranslated { IfErr result (IsUntranslated deck.now) }
+    ensures translation { IfOk result (λ text. IsTranslationOf width deck.now text.items) }
+    ensures untranslated { IfErr result (IsUntranslated width deck.now) }
 {
     let (source, input) = source_and_input(deck, DataLine::Fortran77);
-    let program = match read77(alloc, source) {
+    let program = match read77(alloc, source, width) {
         Ok(program) => program,
         Err(refused) => return Err(unread(refused)),
     };
@@ -68,19 +69,19 @@ pub(crate) fn translation_of(alloc: Global, deck: &[u8]) -> Result<Vec<u8>, Outc
 }
 
 /// Translates the deck, which has at most 2^24 bytes. Nothing is written before the whole text is there.
-pub(crate) fn vectorise<K: Sink>(alloc: Global, deck: &[u8], out: &mut K) -> Outcome
+pub(crate) fn vectorise<K: Sink>(alloc: Global, width: Width, deck: &[u8], out: &mut K) -> Outcome
     requires { length deck.now ≤ deck_bytes }
-    ensures works { Works Vectorise deck.now (record {
+    ensures works { Works (Vectorise width) deck.now (record {
       before = K.taken out.old;
       now = K.taken out.new;
       faults_before = K.faults out.old;
       faults_now = K.faults out.new;
     }) result }
-    ensures untouched { is_silent (Some (OnDeck Vectorise)) result ≡ true → out.new ≡ out.old }
+    ensures untouched { is_silent (Some (OnDeck (Vectorise width))) result ≡ true → out.new ≡ out.old }
     ensures no_fault { result ≢ Outcome.WriteFault → K.faults out.new ≡ K.faults out.old }
     ensures later { K.faults out.old ≤ K.faults out.new }
 {
-    let text = match translation_of(alloc, deck) {
+    let text = match translation_of(alloc, width, deck) {
         Ok(text) => text,
         Err(outcome) => return outcome,
     };

@@ -15,13 +15,13 @@ use Rattle.listing.proofs.programs.Splitting.{split_copies, split_made, split_re
 use Rattle.listing.proofs.programs.Stages.{made_by}
 use Rattle.listing.specs.declared.programs.counts.Counts.{Counts}
 use Rattle.listing.specs.programs.Passed.{IsPassedAs}
-use Rattle.listing.specs.programs.Stages.{with_copies}
+use Rattle.listing.specs.programs.Stages.{with_copies_before}
 use Rattle.node_splitting.specs.Split.{made_arrays}
 use Rattle.prepared_passes.specs.splitting.Splits.{nodes_split}
 use Rattle.nest.specs.Allocations.{block_then}
 use Rattle.nest.specs.Plain.{Choice, Jump, Label, Made, Nest, Part, Run, Turns}
 use Rattle.nest_rewrite.specs.Assembled.{with_parts}
-use Rattle.scalar_expand.specs.Expanded.{expanded, last_values, with_arrays}
+use Rattle.scalar_expand.specs.Expanded.{expanded, last_values, with_made_arrays}
 use Rattle.scalar_expand.specs.Laws.{own_of}
 use Rattle.symbols_anew.specs.Nests.{with_symbols_found}
 use Rattle.subscripts.specs.declared.affine.Dirs.{Dirs}
@@ -92,7 +92,7 @@ record IsExpandedFrom (n m : Nest) : Type 0 where
   after : m.after ≡ block_then n.after (block (last_values n.symbols n.line (own_of n)))
 
 expanded_is : (n : Nest) → IsExpandedFrom n (expanded n)
-unfolding with_arrays with_parts
+unfolding with_made_arrays with_parts
 expanded_is n = record { number = refl; symbols = refl; declarations = refl; masks = refl; after = refl }
 
 -- ---- the last nest, of the one before arrays stand for private scalars
@@ -104,15 +104,15 @@ pub record IsLastFrom (may : Place → Bool) (first : ℕ) (n m : Nest) : Type 0
   pub declarations : m.declarations ≡ n.declarations
   pub masks : m.masks ≡ n.masks
   pub after : m.after ≡ block_then n.after (block (last_values n.symbols n.line (own_of n)))
-  pub made : m.made ≡ (expanded n).made ++ made_arrays may (with_copies first (expanded n))
-  pub copies : m.copies ≡ first + length (made_arrays may (with_copies first (expanded n)))
+  pub made : m.made ≡ (expanded n).made ++ made_arrays may (with_copies_before first (expanded n))
+  pub copies : m.copies ≡ first + length (made_arrays may (with_copies_before first (expanded n)))
 
 -- by whatever vectors its loops move
 pub last_from : (may : Place → Bool) (copies : ℕ) (n m : Nest) (vectors : List Dirs)
-    → m ≡ arranged (nodes_split may (with_copies copies (expanded n))) vectors → IsLastFrom may copies n m
+    → m ≡ arranged (nodes_split may (with_copies_before copies (expanded n))) vectors → IsLastFrom may copies n m
 last_from may copies n m vectors e =
     let before = expanded_is n in
-    let c = with_copies copies (expanded n) in
+    let c = with_copies_before copies (expanded n) in
     let s = nodes_split may c in
     let rest = e ∙ arranged_rest s vectors in
     let split = split_rest may c in
@@ -129,14 +129,14 @@ last_from may copies n m vectors e =
 
 -- it is the expanded nest but for its body and the arrays of copies
 pub last_is : (may : Place → Bool) (copies : ℕ) (n m : Nest) (vectors : List Dirs)
-    → m ≡ arranged (nodes_split may (with_copies copies (expanded n))) vectors
+    → m ≡ arranged (nodes_split may (with_copies_before copies (expanded n))) vectors
     → m ≡ record (expanded n) {
       body = m.body;
-      made = (expanded n).made ++ made_arrays may (with_copies copies (expanded n));
-      copies = (nodes_split may (with_copies copies (expanded n))).copies;
+      made = (expanded n).made ++ made_arrays may (with_copies_before copies (expanded n));
+      copies = (nodes_split may (with_copies_before copies (expanded n))).copies;
     }
 last_is may copies n m vectors e =
-    let c = with_copies copies (expanded n) in
+    let c = with_copies_before copies (expanded n) in
     let s = nodes_split may c in
     let one : m ≡ record s { body = m.body }
     = subst (λ (z : Nest). z ≡ record s { body = z.body }) (sym e) (arranged_rest s vectors) in

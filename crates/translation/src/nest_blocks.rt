@@ -1,5 +1,6 @@
 //! The listing of a program, and what stands in the place of its nests: array assignments and loops.
 ghost use Rattle.translation.specs.nest_blocks.Laws.{AnswersAreBlocks, AnswersAreListed};
+ghost use Rattle.tree.specs.declared.width.Width.{Width};
 
 mod answers;
 mod loop_answers;
@@ -14,5 +15,5 @@ pub fn answers_are_listed()
 
 /// What they put in the place of loops are translations of the program's nests.
 pub fn answers_are_blocks()
-    ensures { AnswersAreBlocks }
+    ensures { (width : Width) → AnswersAreBlocks width }
 {}

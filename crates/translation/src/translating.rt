@@ -1,10 +1,11 @@
 //! The translation of a program.
 ghost use Rattle.std.specs.Prelude.{IfOk, map};
-ghost use Rattle.f90_print.specs.Notes.{text_of};
+ghost use Rattle.f90_print.specs.Notes.{line_text};
 ghost use Rattle.meaning.specs.Dialect.{fortran77};
 ghost use Rattle.meaning.specs.Profile77.{IsProgram77};
 ghost use Rattle.tree.specs.View.{program_of, program_of_90};
 ghost use Rattle.translation.specs.Translated.{IsVectorised};
+ghost use Rattle.tree.specs.declared.width.Width.TheVariants.{Wide};
 
 use crate::limits::is_within_limits;
 use crate::loop_placing::place;
@@ -27,9 +28,9 @@ pub struct Translation {
 /// A translation beyond the limits of Fortran 90, which are 300 blocks in one another and 2^31 statements, is too large
 /// for memory.
 pub fn translate(alloc: Global, program: Program77) -> Result<Translation, Memory>
-    requires { IsProgram77 fortran77 (program_of program) }
+    requires { IsProgram77 (fortran77 Wide) (program_of program) }
     ensures { IfOk result (λ t.
-        IsVectorised (program_of program) (map text_of t.listing) (program_of_90 t.program)) }
+        IsVectorised (program_of program) (map line_text t.listing) (program_of_90 t.program)) }
 {
     let answers = program_answers(alloc, &program)?;
     let names = made_names(alloc, answers.blocks.as_slice())?;

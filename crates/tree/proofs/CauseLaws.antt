@@ -1,6 +1,6 @@
 -- The number and the word of a refusal tell its cause.
 use Rattle.std.proofs.Common.{◌≡◌, ◌∙◌, ap, refl, sym, ℕ, ◌==◌, Option, Some, find, cond}
-use Rattle.tree.specs.Causes.{number_of_cause, word_of_cause, has_code, all_causes, IsRefusedFor}
+use Rattle.tree.specs.Causes.{number_of_cause, word_of_cause, has_code, all_causes, IsForCause}
 use Rattle.tree.specs.declared.refusals.Refusal.{Refusal}
 use Rattle.tree.specs.declared.refusals.Cause.{Cause}
 use Rattle.tree.specs.declared.refusals.Cause.TheVariants.{OutOfProfile}
@@ -20,7 +20,7 @@ told_alone : (c d : Cause) → number_of_cause d ≡ number_of_cause c → word_
 told_alone c d g h =
     same c d (sym (told_by d) ∙ ap (λ k. told k (word_of_cause d)) g ∙ ap (λ k. told (number_of_cause c) k) h ∙ told_by c)
 
-pub refused_alone : (r : Refusal) (c d : Cause) → r.number ≡ number_of_cause c → r.word ≡ word_of_cause c → IsRefusedFor r d → d ≡ c
+pub refused_alone : (r : Refusal) (c d : Cause) → r.number ≡ number_of_cause c → r.word ≡ word_of_cause c → IsForCause r d → d ≡ c
 refused_alone r c d g h e = told_alone c d (e.number ∙ g) (e.word ∙ h)
 
 pub ruleset causes = (refused_alone)

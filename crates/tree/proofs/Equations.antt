@@ -20,7 +20,7 @@ use Rattle.tree.specs.declared.stmts.Mark.{Mark}
 use Rattle.tree.specs.declared.stmts.Arm.{Arm, out-Arm, roll-Arm}
 use Rattle.tree.specs.declared.stmts.Block.{Block, out-Block, roll-Block}
 use Rattle.tree.specs.Plain as P
-use Rattle.tree.specs.View.{expression_of, subscript_of, reference_of, loop_of, loops, item_of, statement_of, tested_of, block_of, arms}
+use Rattle.tree.specs.View.{expression_of, subscript_of, reference_of, loop_of, constructor_loops, item_of, statement_of, tested_of, block_of, arms}
 
 -- ---- expressions
 
@@ -48,7 +48,7 @@ pub expression_of-call : (f : Fun) (es : Seq Expr) → expression_of (exprs.Call
 unfolding expression_of
 expression_of-call f es = search (rules, the_lemmas)
 
-pub expression_of-list : (es : Seq Expr) (ls : Seq Turn) → expression_of (exprs.List es ls) ≡ P.Constructor (P.expressions (map expression_of es)) (loops (map loop_of ls))
+pub expression_of-list : (es : Seq Expr) (ls : Seq Turn) → expression_of (exprs.List es ls) ≡ P.Constructor (P.expressions (map expression_of es)) (constructor_loops (map loop_of ls))
 unfolding expression_of loop_of
 expression_of-list es ls = search (rules, the_lemmas)
 

@@ -7,8 +7,7 @@ use Rattle.tree.specs.declared.refusals.Cause.TheVariants.{OutOfProfile, WideLit
 use Rattle.tree.specs.declared.refusals.Cause.TheVariants.{Declared, RealName, TypeClash, Jump, DoVariable}
 use Rattle.tree.specs.declared.refusals.Cause.TheVariants.{ManyNames, ManyBlocks, ReversedBounds, ManyElements}
 use Rattle.tree.specs.declared.refusals.Cause.TheVariants.{BadConstant, Untyped}
-use Rattle.tree.specs.declared.refusals.Cause.TheVariants.{BadByte90, LongLine, Continuation, Syntax90}
-use Rattle.tree.specs.declared.refusals.Cause.TheVariants.{WideLiteral90}
+use Rattle.tree.specs.declared.refusals.Cause.TheVariants.{BadByte90, LongLine, Continuation, Syntax90, WideLiteral90}
 use Rattle.tree.specs.declared.refusals.Cause.TheVariants.{Deep90, Structure, Declared90, TypeClash90, Limit90}
 
 abbrev pub number_of_cause : Cause → ℕ
@@ -105,7 +104,7 @@ abbrev pub refusal_at : Cause → ℕ → Refusal
 refusal_at cause line = record { number = number_of_cause cause; line = line; word = word_of_cause cause }
 
 -- the refusal has the number and the word of the cause
-pub record IsRefusedFor (r : Refusal) (cause : Cause) : Type 0 where
+pub record IsForCause (r : Refusal) (cause : Cause) : Type 0 where
   pub number : number_of_cause cause ≡ r.number
   pub word : word_of_cause cause ≡ r.word
 
@@ -124,9 +123,9 @@ all_causes =
     ∷ BadByte90 ∷ LongLine ∷ Continuation ∷ Syntax90 ∷ WideLiteral90 ∷ Deep90 ∷ Structure ∷ Declared90 ∷ TypeClash90
     ∷ Limit90 ∷ []
 
-abbrev pub text_of : (Cause → List ℕ) → Option Cause → List ℕ
-text_of text None = []
-text_of text (Some cause) = text cause
+abbrev pub cause_text_of : (Cause → List ℕ) → Option Cause → List ℕ
+cause_text_of text None = []
+cause_text_of text (Some cause) = text cause
 
 abbrev pub has_number : ℕ → Cause → Bool
 has_number number cause = number_of_cause cause == number
@@ -136,8 +135,8 @@ has_code number word cause = number_of_cause cause == number && word_of_cause ca
 
 -- the name of a refusal; no cause has another number, and such a number has no name
 abbrev pub refusal_name : ℕ → List ℕ
-refusal_name number = text_of name_of_cause (find (has_number number) all_causes)
+refusal_name number = cause_text_of name_of_cause (find (has_number number) all_causes)
 
 -- the limit of a refusal by its number and word, empty where it has none
 abbrev pub refusal_limit : ℕ → ℕ → List ℕ
-refusal_limit number word = text_of limit_of_cause (find (has_code number word) all_causes)
+refusal_limit number word = cause_text_of limit_of_cause (find (has_code number word) all_causes)

@@ -12,3 +12,4 @@ pub mod Padded
 pub mod Plain
 pub mod Steps
 pub mod View
+pub mod Widths

@@ -47,8 +47,8 @@ abbrev pub program_names90 : ℕ
 program_names90 = 100000
 
 -- elements of all arrays that are declared
-abbrev pub array_elements : ℕ
-array_elements = 2 ^ 22
+abbrev pub most_array_elements : ℕ
+most_array_elements = 2 ^ 22
 
 -- dimensions of an array (ANSI X3.9-1978, 5.1.1)
 abbrev pub array_dimensions : ℕ
@@ -60,8 +60,8 @@ array_dimensions = 7
 abbrev pub nest_depth : ℕ
 nest_depth = 7
 
-abbrev pub nest_statements : ℕ
-nest_statements = 200
+abbrev pub most_nest_statements : ℕ
+most_nest_statements = 200
 
 -- occurrences of variables other than DO variables
 abbrev pub nest_references : ℕ

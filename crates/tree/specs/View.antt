@@ -34,9 +34,9 @@ pub record ConstructorLoop : Type 0 where
   pub first : Expression
   pub last : Expression
 
-abbrev pub loops : List ConstructorLoop → Loops
-loops [] = no_loops
-loops (l ∷ ls) = loop l.variable l.first l.last (loops ls)
+abbrev pub constructor_loops : List ConstructorLoop → Loops
+constructor_loops [] = no_loops
+constructor_loops (l ∷ ls) = loop l.variable l.first l.last (constructor_loops ls)
 
 -- one layer of each, over the plain trees of its parts
 abbrev pub expr_step : Expr-F Expression Subscript Reference ConstructorLoop → Expression
@@ -46,7 +46,7 @@ expr_step (Item' r) = Named r.name r.subscripts
 expr_step (Un o a) = Unary o a.value
 expr_step (Bin o a b) = Binary o a.value b.value
 expr_step (Call f es) = Apply f (expressions es)
-expr_step (List' es ls) = Constructor (expressions es) (loops ls)
+expr_step (List' es ls) = Constructor (expressions es) (constructor_loops ls)
 expr_step (Spread' a d n) = Spread a.value d n.value
 expr_step (Transpose' a) = Transpose a.value
 expr_step (Reshape' a es) = Reshape a.value (expressions es)

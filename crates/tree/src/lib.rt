@@ -22,6 +22,7 @@ mod programs;
 mod refusals;
 mod results;
 mod stmts;
+mod width;
 
 pub use arguments::Arguments;
 pub use declarations::{copy_decl, copy_decls};
@@ -41,3 +42,4 @@ pub use programs::{Decl, Dim, Extent, Line, Program77, Program90};
 pub use refusals::{Cause, Refusal, Refused};
 pub use results::{both, three};
 pub use stmts::{Arm, Block, Item, Mark, Stmt, copy_text};
+pub use width::Width;

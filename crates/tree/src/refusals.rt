@@ -1,7 +1,7 @@
 //! Why a source isn't read.
 ghost use Rattle.std.specs.Prelude.{◌≡◌, ◌≤◌, length, find};
 ghost use Rattle.tree.specs.Causes.{number_of_cause, word_of_cause, name_of_cause, limit_of_cause, all_causes};
-ghost use Rattle.tree.specs.Causes.{refusal_at, refusal_name, refusal_limit, IsRefusalNumber, IsRefusedFor};
+ghost use Rattle.tree.specs.Causes.{refusal_at, refusal_name, refusal_limit, IsRefusalNumber, IsForCause};
 ghost use Rattle.tree.specs.Causes.{has_number, has_code};
 
 use crate::Memory;
@@ -182,7 +182,7 @@ impl Cause {
     pub fn at(self, line: u32) -> Refusal
         ensures refusal { result ≡ refusal_at self line }
         ensures number { IsRefusalNumber result.number }
-        ensures alone { (other : Cause) → IsRefusedFor result other → other ≡ self }
+        ensures alone { (other : Cause) → IsForCause result other → other ≡ self }
     {
         Refusal {
             number: self.number(),

@@ -10,6 +10,7 @@ use Rattle.tree.proofs.Equations.{reference_of-is}
 use Rattle.tree.specs.declared.ops.Value.{Value}
 use Rattle.tree.specs.declared.ops.Fault.{Fault}
 use Rattle.meaning.specs.Dialect.{fortran90}
+use Rattle.tree.specs.declared.width.Width.{Width}
 use Rattle.meaning.specs.Store.{Store, Cell, cell_at}
 use Rattle.meaning.specs.Value.{exact, subscript_values, cell_named}
 use Rattle.machine.specs.Loops.{increased}
@@ -76,23 +77,23 @@ located_ok : {A : Type 0} (line : ℕ) (q : Result A Fault) (x : A) → Ok x ≡
 located_ok line (Ok y) x e = cc
 located_ok line (Err f) x e = cc
 
-module _ (vs : List Slot) (line : ℕ) (s : Store) (r : Ref) where
-  at_reference : (q : Result Place Stuck) → FindsAt line vs (do is ← subscript_values fortran90 (P.subscripts (map subscript_of (out-Ref r).subs)) s; cell_at (out-Ref r).name is s) q
-      → FindsAt line vs (cell_named fortran90 (reference_of r) s) q
-  at_reference q h = subst (λ (p : P.Reference). FindsAt line vs (cell_named fortran90 p s) q) (sym (reference_of-is r)) h
+module _ (width : Width) (vs : List Slot) (line : ℕ) (s : Store) (r : Ref) where
+  at_reference : (q : Result Place Stuck) → FindsAt line vs (do is ← subscript_values (fortran90 width) (P.subscripts (map subscript_of (out-Ref r).subs)) s; cell_at (out-Ref r).name is s) q
+      → FindsAt line vs (cell_named (fortran90 width) (reference_of r) s) q
+  at_reference q h = subst (λ (p : P.Reference). FindsAt line vs (cell_named (fortran90 width) p s) q) (sym (reference_of-is r)) h
 
-  pub numbers_stuck : (e : Stuck) → AnswersAt line (λ (is : List ℤ). is) (subscript_values fortran90 (P.subscripts (map subscript_of (out-Ref r).subs)) s) (Err e) → FindsAt line vs (cell_named fortran90 (reference_of r) s) (Err e)
-  numbers_stuck (Halted h) a = at_reference (Err (Halted h)) (located_first line (subscript_values fortran90 (P.subscripts (map subscript_of (out-Ref r).subs)) s) (λ is. cell_at (out-Ref r).name is s) h a)
+  pub numbers_stuck : (e : Stuck) → AnswersAt line (λ (is : List ℤ). is) (subscript_values (fortran90 width) (P.subscripts (map subscript_of (out-Ref r).subs)) s) (Err e) → FindsAt line vs (cell_named (fortran90 width) (reference_of r) s) (Err e)
+  numbers_stuck (Halted h) a = at_reference (Err (Halted h)) (located_first line (subscript_values (fortran90 width) (P.subscripts (map subscript_of (out-Ref r).subs)) s) (λ is. cell_at (out-Ref r).name is s) h a)
   numbers_stuck Memory a = tt
 
-  module _ (is : List ℤ) (a : AnswersAt line (λ (is : List ℤ). is) (subscript_values fortran90 (P.subscripts (map subscript_of (out-Ref r).subs)) s) (Ok is)) where
-    with_numbers : (q : Result Place Stuck) → FindsAt line vs (cell_at (out-Ref r).name is s) q → FindsAt line vs (cell_named fortran90 (reference_of r) s) q
+  module _ (is : List ℤ) (a : AnswersAt line (λ (is : List ℤ). is) (subscript_values (fortran90 width) (P.subscripts (map subscript_of (out-Ref r).subs)) s) (Ok is)) where
+    with_numbers : (q : Result Place Stuck) → FindsAt line vs (cell_at (out-Ref r).name is s) q → FindsAt line vs (cell_named (fortran90 width) (reference_of r) s) q
     with_numbers q h = at_reference q (subst (λ (p : Result (List ℤ) Fault). FindsAt line vs (do is ← p; cell_at (out-Ref r).name is s) q) (sym a) h)
 
-    pub place_stuck : (p : Result Place Fault) (h : Halt) → Finds vs (cell_at (out-Ref r).name is s) p → Err h ≡ located line p → FindsAt line vs (cell_named fortran90 (reference_of r) s) (Err (Halted h))
+    pub place_stuck : (p : Result Place Fault) (h : Halt) → Finds vs (cell_at (out-Ref r).name is s) p → Err h ≡ located line p → FindsAt line vs (cell_named (fortran90 width) (reference_of r) s) (Err (Halted h))
     place_stuck p h f e = with_numbers (Err (Halted h)) (missed_cell vs line (cell_at (out-Ref r).name is s) p h f e)
 
-    pub place_found : (p : Result Place Fault) (k : Place) → Finds vs (cell_at (out-Ref r).name is s) p → Ok k ≡ located line p → FindsAt line vs (cell_named fortran90 (reference_of r) s) (Ok k)
+    pub place_found : (p : Result Place Fault) (k : Place) → Finds vs (cell_at (out-Ref r).name is s) p → Ok k ≡ located line p → FindsAt line vs (cell_named (fortran90 width) (reference_of r) s) (Ok k)
     place_found p k f e =
         let c = found_cell vs line (cell_at (out-Ref r).name is s) p k f e in
         with_numbers (Ok k) (c.0, located_ok line (cell_at (out-Ref r).name is s) c.0 c.1, c.2)

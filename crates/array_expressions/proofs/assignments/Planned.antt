@@ -10,7 +10,8 @@ use Rattle.tree.specs.declared.ops.Value.{Value}
 use Rattle.tree.specs.declared.ops.Fault.{Fault}
 use Rattle.tree.proofs.Equations.{reference_of-is}
 use Rattle.meaning.specs.Dialect.{fortran90}
-use Rattle.meaning.specs.Store.{Store, Cell, bounds_of}
+use Rattle.tree.specs.declared.width.Width.{Width}
+use Rattle.meaning.specs.Store.{Store, Cell, stored_bounds}
 use Rattle.meaning.specs.Value.{array_of, selectors}
 use Rattle.meaning.specs.ArrayValues.{Elements, conform}
 use Rattle.meaning.specs.ArrayStatements.{axes_named, writes_of, second}
@@ -38,7 +39,7 @@ use Rattle.array_expressions.specs.assignments.Planning.{ArePlaced, IsSound, Pla
 
 -- ---- what the left side selects
 
-module _ (vs : List Slot) (s : Store) (r : Ref) where
+module _ (width : Width) (vs : List Slot) (s : Store) (r : Ref) where
   abbrev name : List ℕ
   name = (out-Ref r).name
 
@@ -48,28 +49,28 @@ module _ (vs : List Slot) (s : Store) (r : Ref) where
   plain : P.Reference
   plain = record { name = name; subscripts = subs }
 
-  at_reference : (q : Result Target Failure) → Targets vs name (axes_named fortran90 (record { name = name; subscripts = subs }) s) q
-      → Targets vs (reference_of r).name (axes_named fortran90 (reference_of r) s) q
-  at_reference q h = subst (λ (p : P.Reference). Targets vs p.name (axes_named fortran90 p s) q) (sym (reference_of-is r)) h
+  at_reference : (q : Result Target Failure) → Targets vs name (axes_named (fortran90 width) (record { name = name; subscripts = subs }) s) q
+      → Targets vs (reference_of r).name (axes_named (fortran90 width) (reference_of r) s) q
+  at_reference q h = subst (λ (p : P.Reference). Targets vs p.name (axes_named (fortran90 width) p s) q) (sym (reference_of-is r)) h
 
   pub all_selected : (q : Result Target Failure) → (out-Ref r).subs ≡ [] → Targets vs name (axes_within all_of name s) q
-      → Targets vs (reference_of r).name (axes_named fortran90 (reference_of r) s) q
-  all_selected q e h = at_reference q (subst (λ ss. Targets vs name (axes_named fortran90 (record { name = name; subscripts = P.subscripts (map subscript_of ss) }) s) q) (sym e) h)
+      → Targets vs (reference_of r).name (axes_named (fortran90 width) (reference_of r) s) q
+  all_selected q e h = at_reference q (subst (λ ss. Targets vs name (axes_named (fortran90 width) (record { name = name; subscripts = P.subscripts (map subscript_of ss) }) s) q) (sym e) h)
 
   axes_part : (ss : List Sub) → (ss ≡ [] → ⊥) → (q : Result (List Selector) Fault)
-      → ◌≡◌ {A = Result (List Axis) Fault} (do zs ← q; bs ← bounds_of name s; axes_selected (P.subscripts (map subscript_of ss)) bs zs) (do zs ← q; axes_within (part_of zs) name s)
+      → ◌≡◌ {A = Result (List Axis) Fault} (do zs ← q; bs ← stored_bounds name s; axes_selected (P.subscripts (map subscript_of ss)) bs zs) (do zs ← q; axes_within (part_of zs) name s)
   axes_part [] n q = absurd (n refl)
   axes_part (p ∷ ps) n q = refl
 
-  pub part_fails : (e : Failure) → ((out-Ref r).subs ≡ [] → ⊥) → Answers (λ (zs : List Selector'). map selector_in zs) (selectors fortran90 subs s) (Err e)
-      → Targets vs (reference_of r).name (axes_named fortran90 (reference_of r) s) (Err e)
-  part_fails (failure.Fault f) n h = at_reference (Err (failure.Fault f)) (ap (λ (q : Result (List Selector) Fault). do zs ← q; bs ← bounds_of name s; axes_selected subs bs zs) h)
+  pub part_fails : (e : Failure) → ((out-Ref r).subs ≡ [] → ⊥) → Answers (λ (zs : List Selector'). map selector_in zs) (selectors (fortran90 width) subs s) (Err e)
+      → Targets vs (reference_of r).name (axes_named (fortran90 width) (reference_of r) s) (Err e)
+  part_fails (failure.Fault f) n h = at_reference (Err (failure.Fault f)) (ap (λ (q : Result (List Selector) Fault). do zs ← q; bs ← stored_bounds name s; axes_selected subs bs zs) h)
   part_fails failure.Memory n h = at_reference (Err failure.Memory) tt
 
-  pub part_selected : (zs : List Selector) (q : Result Target Failure) → ((out-Ref r).subs ≡ [] → ⊥) → selectors fortran90 subs s ≡ Ok zs → Targets vs name (axes_within (part_of zs) name s) q
-      → Targets vs (reference_of r).name (axes_named fortran90 (reference_of r) s) q
+  pub part_selected : (zs : List Selector) (q : Result Target Failure) → ((out-Ref r).subs ≡ [] → ⊥) → selectors (fortran90 width) subs s ≡ Ok zs → Targets vs name (axes_within (part_of zs) name s) q
+      → Targets vs (reference_of r).name (axes_named (fortran90 width) (reference_of r) s) q
   part_selected zs q n e h = at_reference q
-      (subst (λ a. Targets vs name a q) (sym (axes_part (out-Ref r).subs n (selectors fortran90 subs s) ∙ ap (λ (q : Result (List Selector) Fault). do zs ← q; axes_within (part_of zs) name s) e)) h)
+      (subst (λ a. Targets vs name a q) (sym (axes_part (out-Ref r).subs n (selectors (fortran90 width) subs s) ∙ ap (λ (q : Result (List Selector) Fault). do zs ← q; axes_within (part_of zs) name s) e)) h)
 
 -- ---- the places of what is stored
 
@@ -107,21 +108,21 @@ module _ (vs : List Slot) (x : List ℕ) (slot : ℕ) (bs : List (ℤ × ℤ)) (
 
 -- ---- the stages
 
-module _ (vs : List Slot) (mask : P.Expression) (left : P.Reference) (right : P.Expression) (s : Store) where
+module _ (width : Width) (vs : List Slot) (mask : P.Expression) (left : P.Reference) (right : P.Expression) (s : Store) where
   abbrev rest_of_right : Elements Value → List Axis → List ℕ → Elements Value → Result (List (Cell × Value)) Fault
-  rest_of_right m axes ns g = do _ ← conform ns g.extents; stored_under fortran90 m left.name axes g
+  rest_of_right m axes ns g = do _ ← conform ns g.extents; stored_under (fortran90 width) m left.name axes g
 
   abbrev rest_of_left : Elements Value → List Axis → List ℕ → Result (List (Cell × Value)) Fault
-  rest_of_left m axes ns = do g ← array_of fortran90 right s; rest_of_right m axes ns g
+  rest_of_left m axes ns = do g ← array_of (fortran90 width) right s; rest_of_right m axes ns g
 
   abbrev rest_of_axes : Elements Value → List Axis → Result (List (Cell × Value)) Fault
   rest_of_axes m axes = do ns ← conform m.extents (extents_of axes); rest_of_left m axes ns
 
   abbrev rest_of_mask : Elements Value → Result (List (Cell × Value)) Fault
-  rest_of_mask m = do axes ← axes_named fortran90 left s; rest_of_axes m axes
+  rest_of_mask m = do axes ← axes_named (fortran90 width) left s; rest_of_axes m axes
 
   abbrev Planned : Result Plan Failure → Type 0
-  Planned r = Plans vs (writes_of fortran90 mask left right s) r
+  Planned r = Plans vs (writes_of (fortran90 width) mask left right s) r
 
   -- a stage has failed
   fails : {A B : Type 0} (view : B → A) (q : Result A Fault) (k : A → Result (List (Cell × Value)) Fault) (e : Failure) → Answers view q (Err e) → Plans vs (q >>= k) (Err e)
@@ -132,20 +133,20 @@ module _ (vs : List Slot) (mask : P.Expression) (left : P.Reference) (right : P.
   goes : {A : Type 0} (q : Result A Fault) (k : A → Result (List (Cell × Value)) Fault) (x : A) (r : Result Plan Failure) → q ≡ Ok x → Plans vs (k x) r → Plans vs (q >>= k) r
   goes q k x r e h = subst (λ q. Plans vs (q >>= k) r) (sym e) h
 
-  pub mask_fails : (e : Failure) → Answers elements_in (array_of fortran90 mask s) (Err e) → Planned (Err e)
-  mask_fails e h = fails elements_in (array_of fortran90 mask s) rest_of_mask e h
+  pub mask_fails : (e : Failure) → Answers elements_in (array_of (fortran90 width) mask s) (Err e) → Planned (Err e)
+  mask_fails e h = fails elements_in (array_of (fortran90 width) mask s) rest_of_mask e h
 
-  module _ (m : Prepared) (masked : array_of fortran90 mask s ≡ Ok (elements_in m)) where
+  module _ (m : Prepared) (masked : array_of (fortran90 width) mask s ≡ Ok (elements_in m)) where
     with_mask : (r : Result Plan Failure) → Plans vs (rest_of_mask (elements_in m)) r → Planned r
-    with_mask r h = goes (array_of fortran90 mask s) rest_of_mask (elements_in m) r masked h
+    with_mask r h = goes (array_of (fortran90 width) mask s) rest_of_mask (elements_in m) r masked h
 
-    pub left_fails : (e : Failure) → Targets vs left.name (axes_named fortran90 left s) (Err e) → Planned (Err e)
+    pub left_fails : (e : Failure) → Targets vs left.name (axes_named (fortran90 width) left s) (Err e) → Planned (Err e)
     left_fails (failure.Fault f) h = with_mask (Err (failure.Fault f)) (ap (λ r. r >>= rest_of_axes (elements_in m)) h)
     left_fails failure.Memory h = tt
 
-    module _ (t : Target) (targeted : TargetsThese vs left.name (axes_named fortran90 left s) t) where
+    module _ (t : Target) (targeted : TargetsThese vs left.name (axes_named (fortran90 width) left s) t) where
       with_left : (r : Result Plan Failure) → Plans vs (rest_of_axes (elements_in m) targeted.axes) r → Planned r
-      with_left r h = with_mask r (goes (axes_named fortran90 left s) (rest_of_axes (elements_in m)) targeted.axes r targeted.are h)
+      with_left r h = with_mask r (goes (axes_named (fortran90 width) left s) (rest_of_axes (elements_in m)) targeted.axes r targeted.are h)
 
       at_extents : (ns : List ℕ) → ns ≡ t.selected.extents → ns ≡ extents_of targeted.axes
       at_extents ns e = e ∙ targeted.target.selected.extents
@@ -160,25 +161,25 @@ module _ (vs : List Slot) (mask : P.Expression) (left : P.Reference) (right : P.
         with_shape r h = with_left r (goes (conform (elements_in m).extents (extents_of targeted.axes)) (rest_of_left (elements_in m) targeted.axes) (wider ms ns) r
             (ap (λ xs. conform xs (extents_of targeted.axes)) (sym d) ∙ ap (conform ms) (sym (at_extents ns e)) ∙ shaped) h)
 
-        pub right_fails : (x : Failure) → Answers elements_in (array_of fortran90 right s) (Err x) → Planned (Err x)
-        right_fails x h = with_shape (Err x) (fails elements_in (array_of fortran90 right s) (rest_of_right (elements_in m) targeted.axes (wider ms ns)) x h)
+        pub right_fails : (x : Failure) → Answers elements_in (array_of (fortran90 width) right s) (Err x) → Planned (Err x)
+        right_fails x h = with_shape (Err x) (fails elements_in (array_of (fortran90 width) right s) (rest_of_right (elements_in m) targeted.axes (wider ms ns)) x h)
 
-        module _ (g : Prepared) (righted : array_of fortran90 right s ≡ Ok (elements_in g)) (ws gs : List ℕ) (b : ws ≡ wider ms ns) (c : gs ≡ (elements_in g).extents) where
+        module _ (g : Prepared) (righted : array_of (fortran90 width) right s ≡ Ok (elements_in g)) (ws gs : List ℕ) (b : ws ≡ wider ms ns) (c : gs ≡ (elements_in g).extents) where
           with_right : (r : Result Plan Failure) → Plans vs (rest_of_right (elements_in m) targeted.axes (wider ms ns) (elements_in g)) r → Planned r
-          with_right r h = with_shape r (goes (array_of fortran90 right s) (rest_of_right (elements_in m) targeted.axes (wider ms ns)) (elements_in g) r righted h)
+          with_right r h = with_shape r (goes (array_of (fortran90 width) right s) (rest_of_right (elements_in m) targeted.axes (wider ms ns)) (elements_in g) r righted h)
 
           same_shape : conform (wider ms ns) (elements_in g).extents ≡ conform ws gs
           same_shape = ap (λ xs. conform xs (elements_in g).extents) (sym b) ∙ ap (conform ws) (sym c)
 
           pub right_unshaped : (f : Fault) → conform ws gs ≡ Err f → Planned (Err (failure.Fault f))
-          right_unshaped f h = with_right (Err (failure.Fault f)) (ap (λ (r : Result (List ℕ) Fault). do _ ← r; stored_under fortran90 (elements_in m) left.name targeted.axes (elements_in g)) (same_shape ∙ h))
+          right_unshaped f h = with_right (Err (failure.Fault f)) (ap (λ (r : Result (List ℕ) Fault). do _ ← r; stored_under (fortran90 width) (elements_in m) left.name targeted.axes (elements_in g)) (same_shape ∙ h))
 
           module _ (os : List ℕ) (fits : conform ws gs ≡ Ok os) where
-            with_all : (r : Result Plan Failure) → Plans vs (stored_under fortran90 (elements_in m) left.name targeted.axes (elements_in g)) r → Planned r
-            with_all r h = with_right r (goes (conform (wider ms ns) (elements_in g).extents) (λ _. stored_under fortran90 (elements_in m) left.name targeted.axes (elements_in g)) os r (same_shape ∙ fits) h)
+            with_all : (r : Result Plan Failure) → Plans vs (stored_under (fortran90 width) (elements_in m) left.name targeted.axes (elements_in g)) r → Planned r
+            with_all r h = with_right r (goes (conform (wider ms ns) (elements_in g).extents) (λ _. stored_under (fortran90 width) (elements_in m) left.name targeted.axes (elements_in g)) os r (same_shape ∙ fits) h)
 
             abbrev all_stored : Result Writes Failure → Type 0
-            all_stored q = Stored targeted.target.bounds left.name (stored_under fortran90 (elements_in m) left.name targeted.axes (elements_in g)) q
+            all_stored q = Stored targeted.target.bounds left.name (stored_under (fortran90 width) (elements_in m) left.name targeted.axes (elements_in g)) q
 
             pub writes_fail : (x : Failure) → all_stored (Err x) → Planned (Err x)
             writes_fail (failure.Fault f) h = with_all (Err (failure.Fault f)) h

@@ -4,6 +4,7 @@ use Rattle.std.proofs.lemmas.List.{at_drop_all, drop_more}
 use Rattle.std.specs.List.{AllByRecursion}
 use Rattle.tree.specs.declared.ops.Value.{Value}
 use Rattle.meaning.specs.Dialect.{fortran90}
+use Rattle.tree.specs.declared.width.Width.{Width}
 use Rattle.meaning.specs.Store.{Cell}
 use Rattle.meaning.specs.Run.{then, for_each, stores, counts_step, stores_element}
 use Rattle.machine.specs.Moments.{Seen}
@@ -21,29 +22,29 @@ use Rattle.array_expressions.specs.assignments.Moments.{seen, slots_of}
 use Rattle.array_expressions.specs.assignments.Placing.{IsAt, CountsAt}
 use Rattle.array_expressions.specs.assignments.Planning.{ArePlaced}
 
-abbrev pub left_of : List (Cell × Value) → LimitedAct
-left_of ws limit = for_each ws (stores_element fortran90 limit)
+abbrev pub left_of : (width : Width) → List (Cell × Value) → LimitedAct
+left_of width ws limit = for_each ws (stores_element (fortran90 width) limit)
 
-Stays-all : (ws : List (Cell × Value)) → Stays (left_of ws)
-Stays-all [] limit s h e = refl
-Stays-all (w ∷ ws) limit s h e = ap (left_of ws limit) (Stays-counts_step fortran90 (λ limit. stores w.0 w.1) limit s h e) ∙ Stays-all ws limit s h e
+Stays-all : (width : Width) (ws : List (Cell × Value)) → Stays (left_of width ws)
+Stays-all width [] limit s h e = refl
+Stays-all width (w ∷ ws) limit s h e = ap (left_of width ws limit) (Stays-counts_step (fortran90 width) (λ limit. stores w.0 w.1) limit s h e) ∙ Stays-all width ws limit s h e
 
-module _ (ws : List (Cell × Value)) (i : ℕ) (d : Cell × Value) (within : i < length ws) (input : List ℕ) (old mid : Seen) (bytes : Option (List ℕ)) where
+module _ (width : Width) (ws : List (Cell × Value)) (i : ℕ) (d : Cell × Value) (within : i < length ws) (input : List ℕ) (old mid : Seen) (bytes : Option (List ℕ)) where
   abbrev one : LimitedAct
-  one limit = stores_element fortran90 limit (get_or ws i d)
+  one limit = stores_element (fortran90 width) limit (get_or ws i d)
 
-  begins : (new : Seen) (r : Result (Unit {0}) Left) → Runs (λ limit. then (one limit) (left_of (drop (i + 1) ws) limit)) input old bytes new bytes r → Runs (left_of (drop i ws)) input old bytes new bytes r
-  begins new r h = subst (λ ws. Runs (left_of ws) input old bytes new bytes r) (sym (drop_more ws i d within)) h
+  begins : (new : Seen) (r : Result (Unit {0}) Left) → Runs (λ limit. then (one limit) (left_of width (drop (i + 1) ws) limit)) input old bytes new bytes r → Runs (left_of width (drop i ws)) input old bytes new bytes r
+  begins new r h = subst (λ ws. Runs (left_of width ws) input old bytes new bytes r) (sym (drop_more ws i d within)) h
 
-  pub element_left : (h : Halt) → Runs one input old bytes mid bytes (Err (Halted h)) → Runs (left_of (drop i ws)) input old bytes mid bytes (Err (Halted h))
-  element_left h r = begins mid (Err (Halted h)) (Runs-halted one (left_of (drop (i + 1) ws)) input old mid bytes bytes h r (Stays-all (drop (i + 1) ws)))
+  pub element_left : (h : Halt) → Runs one input old bytes mid bytes (Err (Halted h)) → Runs (left_of width (drop i ws)) input old bytes mid bytes (Err (Halted h))
+  element_left h r = begins mid (Err (Halted h)) (Runs-halted one (left_of width (drop (i + 1) ws)) input old mid bytes bytes h r (Stays-all width (drop (i + 1) ws)))
 
-  pub element_more : (new : Seen) (r : Result (Unit {0}) Left) → Runs one input old bytes mid bytes (Ok tt) → Runs (left_of (drop (i + 1) ws)) input mid bytes new bytes r
-      → Runs (left_of (drop i ws)) input old bytes new bytes r
-  element_more new r h k = begins new r (Runs-then one (left_of (drop (i + 1) ws)) input old mid bytes bytes new bytes r h k)
+  pub element_more : (new : Seen) (r : Result (Unit {0}) Left) → Runs one input old bytes mid bytes (Ok tt) → Runs (left_of width (drop (i + 1) ws)) input mid bytes new bytes r
+      → Runs (left_of width (drop i ws)) input old bytes new bytes r
+  element_more new r h k = begins new r (Runs-then one (left_of width (drop (i + 1) ws)) input old mid bytes bytes new bytes r h k)
 
-pub elements_done : (ws : List (Cell × Value)) (i : ℕ) (input : List ℕ) (m : Seen) (bytes : Option (List ℕ)) → length ws ≤ i → Runs (left_of (drop i ws)) input m bytes m bytes (Ok tt)
-elements_done ws i input m bytes l = subst (λ ws. Runs (left_of ws) input m bytes m bytes (Ok tt)) (sym (at_drop_all (λ ws. ws) ws i l)) (Runs-nothing input m bytes)
+pub elements_done : (width : Width) (ws : List (Cell × Value)) (i : ℕ) (input : List ℕ) (m : Seen) (bytes : Option (List ℕ)) → length ws ≤ i → Runs (left_of width (drop i ws)) input m bytes m bytes (Ok tt)
+elements_done width ws i input m bytes l = subst (λ ws. Runs (left_of width ws) input m bytes m bytes (Ok tt)) (sym (at_drop_all (λ ws. ws) ws i l)) (Runs-nothing input m bytes)
 
 -- ---- where they stand
 
@@ -83,11 +84,11 @@ places_over us vs ws h k = record {
 }
 
 -- an element's value is stored where it stands
-module _ (vs : List Slot) (slot : ℕ) (ws : List (Cell × Value)) (ks : List ℕ) (xs : List Value) (i : ℕ) (d : Cell × Value) (n : ℕ) (y : Value) (placed : ArePlaced vs slot ws ks xs) (l : i < length ks) (old new : Moment)
+module _ (width : Width) (vs : List Slot) (slot : ℕ) (ws : List (Cell × Value)) (ks : List ℕ) (xs : List Value) (i : ℕ) (d : Cell × Value) (n : ℕ) (y : Value) (placed : ArePlaced vs slot ws ks xs) (l : i < length ks) (old new : Moment)
     (same : SamePlaces vs (slots_of old)) (r : Result (Unit {0}) Halt) where
-  pub put_element : CountsAt (place_of slot (get_or ks i n)) (get_or xs i y) old new r → Does (λ limit. stores_element fortran90 limit (get_or ws i d)) (seen old) (seen new) r
+  pub put_element : CountsAt width (place_of slot (get_or ks i n)) (get_or xs i y) old new r → Does (λ limit. stores_element (fortran90 width) limit (get_or ws i d)) (seen old) (seen new) r
   put_element h =
       let p = placed_at vs slot ws ks xs i d n y placed l in
       let c = (get_or ws i d).0 in
-      subst (λ v. Does (λ limit. counts_step fortran90 limit (stores c v)) (seen old) (seen new) r) (sym p.0)
+      subst (λ v. Does (λ limit. counts_step (fortran90 width) limit (stores c v)) (seen old) (seen new) r) (sym p.0)
       (h c (same.places c.name c.subscripts ∙ p.1))

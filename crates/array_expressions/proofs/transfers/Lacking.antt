@@ -9,6 +9,7 @@ use Rattle.tree.specs.declared.exprs.Ref.{Ref, out-Ref}
 use Rattle.tree.specs.Plain as P
 use Rattle.tree.specs.Plain.{Expression, Number, Logic, Named, Unary, Binary, Apply, Constructor, Spread, Transpose, Reshape, Reduce, Single, Constant, ImpliedDo, Reference, Subscripts}
 use Rattle.meaning.specs.Dialect.{Dialect, fortran90}
+use Rattle.tree.specs.declared.width.Width.{Width}
 use Rattle.meaning.specs.Store.{Store, Cell}
 use Rattle.meaning.specs.Texts.{from_value, first_word, after_word, after_line, read_value, output_text}
 use Rattle.meaning.specs.Value.{item_cells, cells_named, cell_named}
@@ -97,11 +98,11 @@ reading_stuck lang line xs i x within is input old mid bytes left h =
     (Stays-reads_items lang (plain_items (drop (i + 1) xs)) line) (Extends-reads_items lang (plain_items (drop (i + 1) xs)) line))
 
 -- a loop that isn't begun
-pub begins_stuck : (line : ℕ) (x : List ℕ) (a b c : Expression) (old new : Seen) (e : Stuck) → BeginsLoop line x a b c old new (Err e) → (body : LimitedAct) (input : List ℕ) (bytes : Option (List ℕ)) → Extends body
-    → Runs (λ limit. loops fortran90 limit line x a b c (body limit)) input old bytes new bytes (Err (left_by e))
+pub begins_stuck : (width : Width) (line : ℕ) (x : List ℕ) (a b c : Expression) (old new : Seen) (e : Stuck) → BeginsLoop width line x a b c old new (Err e) → (body : LimitedAct) (input : List ℕ) (bytes : Option (List ℕ)) → Extends body
+    → Runs (λ limit. loops (fortran90 width) limit line x a b c (body limit)) input old bytes new bytes (Err (left_by e))
 unfolding BeginsLoop
-begins_stuck line x a b c old new (Halted h) s body input bytes e = s body input bytes
-begins_stuck line x a b c old new Memory s body input bytes e = s body input bytes e
+begins_stuck width line x a b c old new (Halted h) s body input bytes e = s body input bytes
+begins_stuck width line x a b c old new Memory s body input bytes e = s body input bytes e
 
 -- the same question
 pub Runs-asks : {A : Type 0} (line : ℕ) (f g : Store → Result A Fault) (k : A → LimitedAct) (input : List ℕ) (old new : Seen) (before now : Option (List ℕ)) (r : Result (Unit {0}) Left) → g old.store ≡ f old.store
@@ -116,10 +117,10 @@ Runs-asks line f g k input old new before now r e h names limit base s d b =
     (at_same names limit input base new now r (same limit) q.0, elsewhere_same base new now r (λ l. evaluates line f (λ x. k x l)) (λ l. evaluates line g (λ x. k x l)) limit s same q.1)
 
 -- an element that isn't found
-pub element_stuck : (vs : List Slot) (line : ℕ) (r : Ref) (input : List ℕ) (old : Seen) (bytes : Option (List ℕ)) → ((out-Ref r).subs ≡ [] → ⊥) → (e : Stuck) → FindsAt line vs (cell_named fortran90 (reference_of r) old.store) (Err e)
-    → Runs (λ limit. reads_cells fortran90 limit line (reference_of r)) input old bytes old bytes (Err (left_by e))
-element_stuck vs line r input old bytes some (Halted h) f = element_missing fortran90 r input line old bytes some h f
-element_stuck vs line r input old bytes some Memory f = Runs-lacking (λ limit. reads_cells fortran90 limit line (reference_of r)) input old old bytes (Extends-cells fortran90 line (cells_named fortran90 (reference_of r))) refl refl
+pub element_stuck : (width : Width) (vs : List Slot) (line : ℕ) (r : Ref) (input : List ℕ) (old : Seen) (bytes : Option (List ℕ)) → ((out-Ref r).subs ≡ [] → ⊥) → (e : Stuck) → FindsAt line vs (cell_named (fortran90 width) (reference_of r) old.store) (Err e)
+    → Runs (λ limit. reads_cells (fortran90 width) limit line (reference_of r)) input old bytes old bytes (Err (left_by e))
+element_stuck width vs line r input old bytes some (Halted h) f = element_missing (fortran90 width) r input line old bytes some h f
+element_stuck width vs line r input old bytes some Memory f = Runs-lacking (λ limit. reads_cells (fortran90 width) limit line (reference_of r)) input old old bytes (Extends-cells (fortran90 width) line (cells_named (fortran90 width) (reference_of r))) refl refl
 
 -- ---- why a PRINT isn't done to its end
 

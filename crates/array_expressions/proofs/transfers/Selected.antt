@@ -4,7 +4,8 @@ use Rattle.std.specs.List.{AllByRecursion}
 use Rattle.tree.specs.Steps.{◌>>=◌}
 use Rattle.tree.specs.declared.ops.Fault.{Fault}
 use Rattle.meaning.specs.Dialect.{fortran90}
-use Rattle.meaning.specs.Store.{Store, Cell, bounds_of, cells_of, column_major, numbers_from, size_of}
+use Rattle.tree.specs.declared.width.Width.{Width}
+use Rattle.meaning.specs.Store.{Store, Cell, stored_bounds, cells_of, column_major, numbers_from, size_of}
 use Rattle.meaning.specs.Sections.{Axis, numbers_of, whole_axes}
 use Rattle.meaning.specs.Extents.{elements_of}
 use Rattle.meaning.specs.Run.{reads_into}
@@ -57,13 +58,13 @@ module _ (line : ℕ) (vs : List Slot) (x : List ℕ) (s : Store) where
 
   pub cells_stuck : (r : Result Target Failure) (e : Stuck) → Err e ≡ at_line line r → Targets vs x (axes_within all_of x s) r → AnswersAt line (λ (cs : List Cell). cs) (all_cells x s) (Err e)
   cells_stuck (Ok t) e g h = cc
-  cells_stuck (Err (failure.Fault f)) e g h = (let same : Halted (Fault' f line) ≡ e = cc in subst (λ e. AnswersAt line (λ (cs : List Cell). cs) (all_cells x s) (Err e)) same (sym (ap (located line) (no_cells (bounds_of x s) f h))))
+  cells_stuck (Err (failure.Fault f)) e g h = (let same : Halted (Fault' f line) ≡ e = cc in subst (λ e. AnswersAt line (λ (cs : List Cell). cs) (all_cells x s) (Err e)) same (sym (ap (located line) (no_cells (stored_bounds x s) f h))))
   cells_stuck (Err failure.Memory) e g h = (let same : Memory ≡ e = cc in subst (λ e. AnswersAt line (λ (cs : List Cell). cs) (all_cells x s) (Err e)) same tt)
 
   abbrev Given : Target → Type 0
   Given t = ((cs : List Cell) × (all_cells x s ≡ Ok cs) × StandAt vs t.slot cs t.selected.places) × AreWithin vs t
 
-  these_cells : (q : Result (List (ℤ × ℤ)) Fault) → bounds_of x s ≡ q → (t : Target) (axes : List Axis) → ◌≡◌ {A = Result (List Axis) Fault} (do bs ← q; all_of bs) (Ok axes) → IsTarget vs x axes t → Given t
+  these_cells : (q : Result (List (ℤ × ℤ)) Fault) → stored_bounds x s ≡ q → (t : Target) (axes : List Axis) → ◌≡◌ {A = Result (List Axis) Fault} (do bs ← q; all_of bs) (Ok axes) → IsTarget vs x axes t → Given t
   these_cells (Err f) b t axes e h = cc
   these_cells (Ok bs) b t axes e h =
       let same : whole_axes bs ≡ axes = cc in
@@ -72,11 +73,11 @@ module _ (line : ℕ) (vs : List Slot) (x : List ℕ) (s : Store) where
       ((cells_of x bs, ap (λ (q : Result (List (ℤ × ℤ)) Fault). do bs ← q; Ok (cells_of x bs)) b, stand_all vs x t.slot h.bounds h.places _ t.selected.places places), within_all vs x t.slot h.bounds h.within _ t.selected.places places)
 
   pub cells_given : (r : Result Target Failure) (t : Target) → Ok t ≡ at_line line r → Targets vs x (axes_within all_of x s) r → Given t
-  cells_given (Ok u) t g h = (let same : u ≡ t = cc in subst Given same (these_cells (bounds_of x s) refl u h.axes h.are h.target))
+  cells_given (Ok u) t g h = (let same : u ≡ t = cc in subst Given same (these_cells (stored_bounds x s) refl u h.axes h.are h.target))
   cells_given (Err (failure.Fault f)) t g h = cc
   cells_given (Err failure.Memory) t g h = cc
 
-module _ (vs : List Slot) (slot : ℕ) where
+module _ (width : Width) (vs : List Slot) (slot : ℕ) where
   pub stand_count : (cs : List Cell) (ks : List ℕ) → StandAt vs slot cs ks → length cs ≡ length ks
   stand_count [] [] h = refl
   stand_count [] (k ∷ ks) h = absurd h
@@ -91,7 +92,7 @@ module _ (vs : List Slot) (slot : ℕ) where
   stand_at (c ∷ cs) (k ∷ ks) (suc i) d n h l = stand_at cs ks i d n h.1 (omega arith)
 
   pub read_element : (input : List ℕ) (line : ℕ) (cs : List Cell) (ks : List ℕ) (i : ℕ) (d : Cell) (n : ℕ) → StandAt vs slot cs ks → i < length ks → (old new : Moment) → SamePlaces vs (slots_of old) → (r : Result (Unit {0}) Halt)
-      → ReadsAt input line (place_of slot (get_or ks i n)) old new r → DoesOver input (λ limit. reads_into fortran90 limit line (get_or cs i d)) (seen old) (seen new) r
+      → ReadsAt width input line (place_of slot (get_or ks i n)) old new r → DoesOver input (λ limit. reads_into (fortran90 width) limit line (get_or cs i d)) (seen old) (seen new) r
   read_element input line cs ks i d n h l old new same r read =
       let c = get_or cs i d in
       read c (same.places c.name c.subscripts ∙ stand_at cs ks i d n h l)

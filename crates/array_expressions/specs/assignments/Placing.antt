@@ -3,6 +3,7 @@ use Rattle.std.specs.Prelude.{◌≡◌, Result, Ok, Err, Some, ℕ, List}
 use Rattle.tree.specs.declared.ops.Value.{Value}
 use Rattle.tree.specs.declared.ops.Fault.{Fault}
 use Rattle.meaning.specs.Dialect.{fortran90}
+use Rattle.tree.specs.declared.width.Width.{Width}
 use Rattle.meaning.specs.Store.{Cell}
 use Rattle.meaning.specs.Run.{checks_range, counts_step, stores}
 use Rattle.machine.specs.declared.progress.Halt.{Halt}
@@ -27,12 +28,12 @@ FindsAt line vs q (Err (Halted h)) = Err h ≡ located line q
 FindsAt line vs q (Err Memory) = Unit {0}
 
 -- a step was counted, and then the value was stored at the place, which is that of a cell
-abbrev pub CountsAt : Place → Value → Moment → Moment → Result (Unit {0}) Halt → Type 0
-CountsAt p v old new r = (c : Cell) → IsAt (slots_of old) c p
-    → Does (λ limit. counts_step fortran90 limit (stores c v)) (seen old) (seen new) r
+abbrev pub CountsAt : (width : Width) → Place → Value → Moment → Moment → Result (Unit {0}) Halt → Type 0
+CountsAt width p v old new r = (c : Cell) → IsAt (slots_of old) c p
+    → Does (λ limit. counts_step (fortran90 width) limit (stores c v)) (seen old) (seen new) r
 
 -- the same for a value that has to be in the range of INTEGER
-abbrev pub StoresAt : ℕ → Place → Value → Moment → Moment → Result (Unit {0}) Halt → Type 0
-StoresAt line p v old new r = (c : Cell) → IsAt (slots_of old) c p
-    → Does (λ limit. checks_range fortran90 limit line v (counts_step fortran90 limit (stores c v)))
+abbrev pub StoresAt : (width : Width) → ℕ → Place → Value → Moment → Moment → Result (Unit {0}) Halt → Type 0
+StoresAt width line p v old new r = (c : Cell) → IsAt (slots_of old) c p
+    → Does (λ limit. checks_range (fortran90 width) limit line v (counts_step (fortran90 width) limit (stores c v)))
     (seen old) (seen new) r

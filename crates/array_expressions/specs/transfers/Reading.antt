@@ -2,6 +2,7 @@
 use Rattle.std.specs.Prelude.{Result, ℕ, List, [], ◌∷◌}
 use Rattle.std.specs.List.{AllByRecursion}
 use Rattle.meaning.specs.Dialect.{fortran90}
+use Rattle.tree.specs.declared.width.Width.{Width}
 use Rattle.meaning.specs.Store.{Cell}
 use Rattle.meaning.specs.Run.{reads_into}
 use Rattle.machine.specs.declared.progress.Halt.{Halt}
@@ -16,9 +17,9 @@ use Rattle.array_expressions.specs.assignments.Moments.{seen, slots_of}
 use Rattle.array_expressions.specs.assignments.Placing.{IsAt}
 
 -- the next value of the input was stored at the place, which is that of a cell
-abbrev pub ReadsAt : List ℕ → ℕ → Place → Moment → Moment → Result (Unit {0}) Halt → Type 0
-ReadsAt input line p old new r = (c : Cell) → IsAt (slots_of old) c p
-    → DoesOver input (λ limit. reads_into fortran90 limit line c) (seen old) (seen new) r
+abbrev pub ReadsAt : (width : Width) → List ℕ → ℕ → Place → Moment → Moment → Result (Unit {0}) Halt → Type 0
+ReadsAt width input line p old new r = (c : Cell) → IsAt (slots_of old) c p
+    → DoesOver input (λ limit. reads_into (fortran90 width) limit line c) (seen old) (seen new) r
 
 -- the cells are those at these places of a name's
 abbrev pub StandAt : List Slot → ℕ → List Cell → List ℕ → Type 0

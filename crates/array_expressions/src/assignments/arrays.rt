@@ -3,6 +3,7 @@ ghost use Rattle.std.specs.Prelude.{◌≡◌, List, IfOk, [], length};
 ghost use Rattle.tree.specs.View.{expression_of, reference_of};
 ghost use Rattle.tree.specs.declared.ops.Value.{Value as Value'};
 ghost use Rattle.meaning.specs.Dialect.{fortran90};
+ghost use Rattle.tree.specs.declared.width.Width.{Width as Width'};
 ghost use Rattle.meaning.specs.ArrayStatements.{axes_named, writes_of};
 ghost use Rattle.meaning.specs.Run.{array_assigns, for_each, stores_element};
 ghost use Rattle.meaning.specs.Store.{Cell};
@@ -21,7 +22,7 @@ use array_values::storage::array_places::{Writes, writes_under};
 use array_values::storage::{Place, Target};
 use array_values::{Failure, Prepared, check_conform};
 use machine::Halt;
-use tree::{Expr, Ref};
+use tree::{Expr, Ref, Width};
 
 /// What an array assignment stores: the place of the name among the declared names, and values with their places among
 /// those of the name.
@@ -32,14 +33,14 @@ pub struct Plan {
 }
 
 // What the left side selects.
-fn target(scope: &Scope<'_>, left: &Ref) -> Result<Target, Failure>
+fn target(scope: &Scope<'_>, width: Width, left: &Ref) -> Result<Target, Failure>
     ensures { Targets (slots_in scope.now.storage.now) (reference_of left.now).name
-        (axes_named fortran90 (reference_of left.now) (store_in scope.now.storage.now)) result }
+        (axes_named (fortran90 width) (reference_of left.now) (store_in scope.now.storage.now)) result }
 {
     if left.subs.is_empty() {
         return scope.storage.target(scope.alloc, left.name);
     }
-    let selectors = scope.selectors(&left.subs, &[])?;
+    let selectors = scope.selectors(width, &left.subs, &[])?;
     scope
         .storage
         .target_part(scope.alloc, left.name, selectors.as_slice())
@@ -57,18 +58,24 @@ fn wider<'a>(one: &'a [u128], other: &'a [u128]) -> &'a [u128]
 
 // The mask, the left side and the right side are evaluated in this order, as far as they are in whole; then the mask's
 // elements are taken, the right side's where it is true, and each value is held against the range of INTEGER.
-fn planned(scope: &Scope<'_>, mask: &Expr, left: &Ref, right: &Expr) -> Result<Plan, Failure>
-    ensures plans { Plans (slots_in scope.now.storage.now) (writes_of fortran90 (expression_of mask.now)
+fn planned(
+    scope: &Scope<'_>,
+    width: Width,
+    mask: &Expr,
+    left: &Ref,
+    right: &Expr,
+) -> Result<Plan, Failure>
+    ensures plans { Plans (slots_in scope.now.storage.now) (writes_of (fortran90 width) (expression_of mask.now)
         (reference_of left.now) (expression_of right.now) (store_in scope.now.storage.now)) result }
     ensures sound { IfOk result (IsSound (slots_in scope.now.storage.now)) }
 {
-    let mask = scope.array(mask, &[])?;
-    let target = target(scope, left)?;
+    let mask = scope.array(width, mask, &[])?;
+    let target = target(scope, width, left)?;
     let extents = target.selected.extents.as_slice();
     check_conform(mask.extents(), extents)?;
-    let right = scope.array(right, &[])?;
+    let right = scope.array(width, right, &[])?;
     check_conform(wider(mask.extents(), extents), right.extents())?;
-    let writes = writes_under(scope.alloc, &mask, &target.selected, &right)?;
+    let writes = writes_under(scope.alloc, width, &mask, &target.selected, &right)?;
     Ok(Plan {
         slot: target.slot,
         writes,
@@ -79,8 +86,9 @@ impl Moment {
     // All elements are stored, one step for each.
     fn store_all(&mut self, plan: &Plan) -> Result<(), Halt>
         requires { IsSound (slots_of self.old) plan.now }
-        ensures { (ws : List (Cell × Value')) → Stores (slots_of self.old) ws plan.now
-            → DoesAll (λ limit. for_each ws (stores_element fortran90 limit)) (seen self.old) (seen self.new) result }
+        ensures { (w : Width') (ws : List (Cell × Value')) → Stores (slots_of self.old) ws plan.now
+            → DoesAll (λ limit. for_each ws (stores_element (fortran90 w) limit)) (seen self.old)
+            (seen self.new) result }
     {
         let places = plan.writes.places.as_slice();
         let values = plan.writes.values.as_slice();
@@ -97,15 +105,17 @@ impl Moment {
     /// An array assignment under a mask.
     pub fn assign_array(
         &mut self,
+        width: Width,
         line: u32,
         mask: &Expr,
         left: &Ref,
         right: &Expr,
     ) -> Result<(), Stuck>
-        ensures { Does (λ limit. array_assigns fortran90 limit line (expression_of mask.now) (reference_of left.now)
+        ensures { Does (λ limit. array_assigns (fortran90 width) limit line (expression_of mask.now)
+            (reference_of left.now)
             (expression_of right.now)) (seen self.old) (seen self.new) result }
     {
-        let plan = at(line, planned(&self.scope(), mask, left, right))?;
+        let plan = at(line, planned(&self.scope(), width, mask, left, right))?;
         self.store_all(&plan)?;
         Ok(())
     }

@@ -16,58 +16,66 @@ use crate::assignments::causes::{Stuck, at};
 use crate::assignments::moment::Moment;
 use array_values::storage::Place;
 use machine::at as located;
-use tree::{Expr, Ref};
+use tree::{Expr, Ref, Width};
 
 impl Moment {
     /// The place of a scalar's or an element's value. All subscripts are evaluated before any is held against its
     /// bounds.
-    pub fn place(&self, line: u32, item: &Ref) -> Result<Place, Stuck>
+    pub fn place(&self, width: Width, line: u32, item: &Ref) -> Result<Place, Stuck>
         ensures found { FindsAt line (slots_of self.now)
-            (cell_named fortran90 (reference_of item.now) (store_in self.now.storage)) result }
+            (cell_named (fortran90 width) (reference_of item.now) (store_in self.now.storage)) result }
         ensures within { IfOk result (IsWithin (slots_of self.now)) }
     {
-        let numbers = at(line, self.scope().numbers(&item.subs, &[]))?;
+        let numbers = at(line, self.scope().numbers(width, &item.subs, &[]))?;
         let place = located(line, self.storage.place(item.name, numbers.as_slice()))?;
         Ok(place)
     }
 
     // The right side, the left subscripts, the bounds, the range, the store.
-    fn assign(&mut self, line: u32, left: &Ref, right: &Expr) -> Result<(), Stuck>
-        ensures { Does (λ limit. assigns fortran90 limit line (reference_of left.now) (expression_of right.now))
+    fn assign(&mut self, width: Width, line: u32, left: &Ref, right: &Expr) -> Result<(), Stuck>
+        ensures { Does (λ limit. assigns (fortran90 width) limit line (reference_of left.now) (expression_of right.now))
             (seen self.old) (seen self.new) result }
     {
-        let value = at(line, self.scope().value(right, &[]))?;
-        let place = self.place(line, left)?;
-        self.store(line, place, value)?;
+        let value = at(line, self.scope().value(width, right, &[]))?;
+        let place = self.place(width, line, left)?;
+        self.store(width, line, place, value)?;
         Ok(())
     }
 
     /// An assignment.
-    pub fn assignment(&mut self, line: u32, left: &Ref, right: &Expr) -> Result<(), Stuck>
+    pub fn assignment(
+        &mut self,
+        width: Width,
+        line: u32,
+        left: &Ref,
+        right: &Expr,
+    ) -> Result<(), Stuck>
         ensures { (mark : Option Mark)
-            → Does (λ limit. does fortran90 limit (Assignment line mark (reference_of left.now)
+            → Does (λ limit. does (fortran90 width) limit (Assignment line mark (reference_of left.now)
             (expression_of right.now))) (seen self.old) (seen self.new) result }
     {
         self.count_step()?;
         if self.scope().is_scalar_item(left) {
-            return self.assign(line, left, right);
+            return self.assign(width, line, left, right);
         }
-        self.assign_array(line, &Expr::Truth(true), left, right)
+        self.assign_array(width, line, &Expr::Truth(true), left, right)
     }
 
     /// WHERE with its mask.
     pub fn masked_assignment(
         &mut self,
+        width: Width,
         line: u32,
         mask: &Expr,
         left: &Ref,
         right: &Expr,
     ) -> Result<(), Stuck>
         ensures { (mark : Option Mark)
-            → Does (λ limit. does fortran90 limit (Where line mark (expression_of mask.now) (reference_of left.now)
+            → Does (λ limit. does (fortran90 width) limit (Where line mark (expression_of mask.now)
+            (reference_of left.now)
             (expression_of right.now))) (seen self.old) (seen self.new) result }
     {
         self.count_step()?;
-        self.assign_array(line, mask, left, right)
+        self.assign_array(width, line, mask, left, right)
     }
 }

@@ -19,7 +19,7 @@ use crate::assignments::moment::Moment;
 use array_values::Failure;
 use array_values::storage::Place;
 use machine::{Halt, Turns, add, at as located, check_range, increment, trip_count};
-use tree::{Expr, Fault, Name, Value};
+use tree::{Expr, Fault, Name, Value, Width};
 
 impl Moment {
     // The place of a variable's value.
@@ -40,52 +40,60 @@ impl Moment {
     }
 
     // Storing a loop's variable is no step.
-    fn set_variable(&mut self, line: u32, name: Name, number: i128) -> Result<(), Halt>
-        ensures { Does (λ limit. sets_variable fortran90 limit line name number)
+    fn set_variable(
+        &mut self,
+        width: Width,
+        line: u32,
+        name: Name,
+        number: i128,
+    ) -> Result<(), Halt>
+        ensures { Does (λ limit. sets_variable (fortran90 width) limit line name number)
             (seen self.old) (seen self.new) result }
     {
         let place = located(line, self.scalar(name))?;
-        located(line, check_range(Value::Int(number)))?;
+        located(line, check_range(width, Value::Int(number)))?;
         self.storage.put(place, Value::Int(number));
         Ok(())
     }
 
     /// The variable grows after a turn.
-    pub fn increase(&mut self, line: u32, name: Name, step: i128) -> Result<(), Halt>
-        ensures { Does (λ limit. increases fortran90 limit line name step) (seen self.old) (seen self.new) result }
+    pub fn increase(&mut self, width: Width, line: u32, name: Name, step: i128) -> Result<(), Halt>
+        ensures { Does (λ limit. increases (fortran90 width) limit line name step) (seen self.old)
+            (seen self.new) result }
     {
         let place = located(line, self.scalar(name))?;
         let number = located(line, self.increased(place, step))?;
-        self.set_variable(line, name, number)
+        self.set_variable(width, line, name, number)
     }
 
     // The value of a third parameter.
-    fn step(&self, expr: &Expr) -> Result<i128, Failure>
+    fn step(&self, width: Width, expr: &Expr) -> Result<i128, Failure>
         ensures value { Answers (λ (z : ℤ). z)
-            (increment_of fortran90 (expression_of expr.now) (store_in self.now.storage)) result }
+            (increment_of (fortran90 width) (expression_of expr.now) (store_in self.now.storage)) result }
         ensures nonzero { IfOk result (λ z. z ≡ pos 0 → ⊥) }
     {
-        let number = self.scope().number(expr, &[])?;
+        let number = self.scope().number(width, expr, &[])?;
         Ok(increment(number)?)
     }
 
     /// The parameters are evaluated, the variable gets its first value, and the number of turns is fixed.
     pub fn begin_loop(
         &mut self,
+        width: Width,
         line: u32,
         name: Name,
         first: &Expr,
         last: &Expr,
         step: &Expr,
     ) -> Result<Turns, Stuck>
-        ensures { BeginsLoop line name
+        ensures { BeginsLoop width line name
             (expression_of first.now) (expression_of last.now) (expression_of step.now)
             (seen self.old) (seen self.new) result }
     {
-        let first = at(line, self.scope().number(first, &[]))?;
-        let last = at(line, self.scope().number(last, &[]))?;
-        let step = at(line, self.step(step))?;
-        self.set_variable(line, name, first)?;
+        let first = at(line, self.scope().number(width, first, &[]))?;
+        let last = at(line, self.scope().number(width, last, &[]))?;
+        let step = at(line, self.step(width, step))?;
+        self.set_variable(width, line, name, first)?;
         let count = located(line, trip_count(first, last, step))?;
         Ok(Turns { count, step })
     }

@@ -1,5 +1,6 @@
 //! Steps, and what is stored.
 ghost use Rattle.std.specs.Prelude.{◌≡◌};
+ghost use Rattle.tree.specs.declared.width.Width.{Width as Width'};
 ghost use Rattle.machine.specs.Moments.{CountsStep};
 ghost use Rattle.array_values.specs.storage.Slots.{IsWithin, SamePlaces};
 ghost use Rattle.array_expressions.specs.assignments.Moments.{seen, slots_of};
@@ -8,7 +9,7 @@ ghost use Rattle.array_expressions.specs.assignments.Placing.{CountsAt, StoresAt
 use crate::assignments::moment::Moment;
 use array_values::storage::Place;
 use machine::{Halt, at, check_range};
-use tree::Value;
+use tree::{Value, Width};
 
 impl Moment {
     /// Counts a step, unless none is left.
@@ -22,7 +23,7 @@ impl Moment {
     /// Stores the value of an element or a scalar, which is a step.
     pub fn put(&mut self, place: Place, value: Value) -> Result<(), Halt>
         requires { IsWithin (slots_of self.old) place }
-        ensures stored { CountsAt place value self.old self.new result }
+        ensures stored { (w : Width') → CountsAt w place value self.old self.new result }
         ensures kept { SamePlaces (slots_of self.old) (slots_of self.new) }
     {
         self.count_step()?;
@@ -31,12 +32,12 @@ impl Moment {
     }
 
     /// The same for a value that has to be in the range of INTEGER, which comes before the step.
-    pub fn store(&mut self, line: u32, place: Place, value: Value) -> Result<(), Halt>
+    pub fn store(&mut self, width: Width, line: u32, place: Place, value: Value) -> Result<(), Halt>
         requires { IsWithin (slots_of self.old) place }
-        ensures stored { StoresAt line place value self.old self.new result }
+        ensures stored { StoresAt width line place value self.old self.new result }
         ensures kept { SamePlaces (slots_of self.old) (slots_of self.new) }
     {
-        at(line, check_range(value))?;
+        at(line, check_range(width, value))?;
         self.put(place, value)
     }
 }

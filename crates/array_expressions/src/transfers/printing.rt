@@ -17,25 +17,26 @@ use crate::assignments::{Moment, at};
 use crate::transfers::unfinished::Unfinished;
 use machine::{write_output, write_outputs};
 use streams::{Sink, write_all};
-use tree::{Expr, Item, Seq};
+use tree::{Expr, Item, Seq, Width};
 
 // One value.
 fn print_scalar<K: Sink>(
     moment: &Moment,
+    width: Width,
     line: u32,
     expr: &Expr,
     out: &mut K,
 ) -> Result<(), Unfinished>
-    ensures run { (input : List ℕ) → Runs (λ limit. prints_scalar line (expression_of expr.now)) input
+    ensures run { (input : List ℕ) → Runs (λ limit. prints_scalar width line (expression_of expr.now)) input
         (seen moment.now) (K.taken out.old) (seen moment.now) (K.taken out.new) (ended_by result) }
     ensures told { (input bytes : List ℕ) → IsTold (λ before now.
-        Runs (λ limit. prints_scalar line (expression_of expr.now)) input
+        Runs (λ limit. prints_scalar width line (expression_of expr.now)) input
         (seen moment.now) before (seen moment.now) now (ended_by result)) (out.new ≡ out.old) bytes }
     ensures fault { result ≡ Err (Unfinished.Left Unwritten) → Rose (K.faults out.old) (K.faults out.new) }
     ensures no_fault { result ≢ Err (Unfinished.Left Unwritten) → K.faults out.new ≡ K.faults out.old }
     ensures later { K.faults out.old ≤ K.faults out.new }
 {
-    let value = at(line, moment.scope().value(expr, &[]))?;
+    let value = at(line, moment.scope().value(width, expr, &[]))?;
     write_output(value, out)?;
     Ok(())
 }
@@ -43,20 +44,21 @@ fn print_scalar<K: Sink>(
 // All elements of an array.
 fn print_array<K: Sink>(
     moment: &Moment,
+    width: Width,
     line: u32,
     expr: &Expr,
     out: &mut K,
 ) -> Result<(), Unfinished>
-    ensures run { (input : List ℕ) → Runs (λ limit. prints_array line (expression_of expr.now)) input
+    ensures run { (input : List ℕ) → Runs (λ limit. prints_array width line (expression_of expr.now)) input
         (seen moment.now) (K.taken out.old) (seen moment.now) (K.taken out.new) (ended_by result) }
     ensures told { (input bytes : List ℕ) → IsTold (λ before now.
-        Runs (λ limit. prints_array line (expression_of expr.now)) input
+        Runs (λ limit. prints_array width line (expression_of expr.now)) input
         (seen moment.now) before (seen moment.now) now (ended_by result)) (out.new ≡ out.old) bytes }
     ensures fault { result ≡ Err (Unfinished.Left Unwritten) → Rose (K.faults out.old) (K.faults out.new) }
     ensures no_fault { result ≢ Err (Unfinished.Left Unwritten) → K.faults out.new ≡ K.faults out.old }
     ensures later { K.faults out.old ≤ K.faults out.new }
 {
-    let known = at(line, moment.scope().in_whole(expr, &[]))?;
+    let known = at(line, moment.scope().in_whole(width, expr, &[]))?;
     let values = known.values.as_slice();
     if values.is_empty() {
         return Ok(());
@@ -68,50 +70,52 @@ fn print_array<K: Sink>(
 // A value, or all elements of an array.
 fn print_value<K: Sink>(
     moment: &Moment,
+    width: Width,
     line: u32,
     expr: &Expr,
     out: &mut K,
 ) -> Result<(), Unfinished>
-    ensures run { (input : List ℕ) → Runs (λ limit. prints_value fortran90 line (expression_of expr.now)) input
+    ensures run { (input : List ℕ) → Runs (λ limit. prints_value (fortran90 width) line (expression_of expr.now)) input
         (seen moment.now) (K.taken out.old) (seen moment.now) (K.taken out.new) (ended_by result) }
     ensures told { (input bytes : List ℕ) → IsTold (λ before now.
-        Runs (λ limit. prints_value fortran90 line (expression_of expr.now)) input
+        Runs (λ limit. prints_value (fortran90 width) line (expression_of expr.now)) input
         (seen moment.now) before (seen moment.now) now (ended_by result)) (out.new ≡ out.old) bytes }
     ensures fault { result ≡ Err (Unfinished.Left Unwritten) → Rose (K.faults out.old) (K.faults out.new) }
     ensures no_fault { result ≢ Err (Unfinished.Left Unwritten) → K.faults out.new ≡ K.faults out.old }
     ensures later { K.faults out.old ≤ K.faults out.new }
 {
     if moment.scope().is_scalar(expr) {
-        return print_scalar(moment, line, expr, out);
+        return print_scalar(moment, width, line, expr, out);
     }
-    print_array(moment, line, expr, out)
+    print_array(moment, width, line, expr, out)
 }
 
 #[cycle(printing)]
 fn print_item<K: Sink>(
     moment: &mut Moment,
+    width: Width,
     line: u32,
     item: &Item,
     out: &mut K,
 ) -> Result<(), Unfinished>
-    ensures run { (input : List ℕ) → Runs (λ limit. prints_item fortran90 limit (item_of item.now) line) input
+    ensures run { (input : List ℕ) → Runs (λ limit. prints_item (fortran90 width) limit (item_of item.now) line) input
         (seen moment.old) (K.taken out.old) (seen moment.new) (K.taken out.new) (ended_by result) }
     ensures told { (input bytes : List ℕ) → IsTold (λ before now.
-        Runs (λ limit. prints_item fortran90 limit (item_of item.now) line) input
+        Runs (λ limit. prints_item (fortran90 width) limit (item_of item.now) line) input
         (seen moment.old) before (seen moment.new) now (ended_by result)) (out.new ≡ out.old) bytes }
     ensures fault { result ≡ Err (Unfinished.Left Unwritten) → Rose (K.faults out.old) (K.faults out.new) }
     ensures no_fault { result ≢ Err (Unfinished.Left Unwritten) → K.faults out.new ≡ K.faults out.old }
     ensures later { K.faults out.old ≤ K.faults out.new }
 {
     match item {
-        Item::One(expr) => print_value(moment, line, expr, out),
+        Item::One(expr) => print_value(moment, width, line, expr, out),
         Item::Text(text) => Ok(write_all(out, text.as_slice())?),
         Item::Turns(items, name, first, last, step) => {
-            let turns = moment.begin_loop(line, *name, first, last, step)?;
+            let turns = moment.begin_loop(width, line, *name, first, last, step)?;
             for _ in 0..turns.count {
                 moment.count_step()?;
-                print_items(moment, line, items, out)?;
-                moment.increase(line, *name, turns.step)?;
+                print_items(moment, width, line, items, out)?;
+                moment.increase(width, line, *name, turns.step)?;
             }
             Ok(())
         }
@@ -121,21 +125,23 @@ fn print_item<K: Sink>(
 #[cycle(printing)]
 fn print_items<K: Sink>(
     moment: &mut Moment,
+    width: Width,
     line: u32,
     items: &Seq<Item>,
     out: &mut K,
 ) -> Result<(), Unfinished>
-    ensures run { (input : List ℕ) → Runs (λ limit. prints_items fortran90 limit (plain_items items.now) line) input
+    ensures run { (input : List ℕ)
+        → Runs (λ limit. prints_items (fortran90 width) limit (plain_items items.now) line) input
         (seen moment.old) (K.taken out.old) (seen moment.new) (K.taken out.new) (ended_by result) }
     ensures told { (input bytes : List ℕ) → IsTold (λ before now.
-        Runs (λ limit. prints_items fortran90 limit (plain_items items.now) line) input
+        Runs (λ limit. prints_items (fortran90 width) limit (plain_items items.now) line) input
         (seen moment.old) before (seen moment.new) now (ended_by result)) (out.new ≡ out.old) bytes }
     ensures fault { result ≡ Err (Unfinished.Left Unwritten) → Rose (K.faults out.old) (K.faults out.new) }
     ensures no_fault { result ≢ Err (Unfinished.Left Unwritten) → K.faults out.new ≡ K.faults out.old }
     ensures later { K.faults out.old ≤ K.faults out.new }
 {
     for item in items.as_slice() {
-        print_item(moment, line, item, out)?;
+        print_item(moment, width, line, item, out)?;
     }
     Ok(())
 }
@@ -154,21 +160,22 @@ fn first_blank(items: &Seq<Item>) -> &'static [u8]
 // A line of output, sent at its end. A blank stands before it where it begins with a constant, or is empty.
 fn print<K: Sink>(
     moment: &mut Moment,
+    width: Width,
     line: u32,
     items: &Seq<Item>,
     out: &mut K,
 ) -> Result<(), Unfinished>
-    ensures run { (input : List ℕ) → Runs (λ limit. prints fortran90 limit line (plain_items items.now)) input
+    ensures run { (input : List ℕ) → Runs (λ limit. prints (fortran90 width) limit line (plain_items items.now)) input
         (seen moment.old) (K.taken out.old) (seen moment.new) (K.taken out.new) (ended_by result) }
     ensures told { (input bytes : List ℕ) → IsTold (λ before now.
-        Runs (λ limit. prints fortran90 limit line (plain_items items.now)) input
+        Runs (λ limit. prints (fortran90 width) limit line (plain_items items.now)) input
         (seen moment.old) before (seen moment.new) now (ended_by result)) (out.new ≡ out.old) bytes }
     ensures fault { result ≡ Err (Unfinished.Left Unwritten) → Rose (K.faults out.old) (K.faults out.new) }
     ensures no_fault { result ≢ Err (Unfinished.Left Unwritten) → K.faults out.new ≡ K.faults out.old }
     ensures later { K.faults out.old ≤ K.faults out.new }
 {
     write_all(out, first_blank(items))?;
-    print_items(moment, line, items, out)?;
+    print_items(moment, width, line, items, out)?;
     write_all(out, b"\n")?;
     out.send()?;
     Ok(())
@@ -177,19 +184,21 @@ fn print<K: Sink>(
 /// A PRINT.
 pub fn print_statement<K: Sink>(
     moment: &mut Moment,
+    width: Width,
     line: u32,
     items: &Seq<Item>,
     out: &mut K,
 ) -> Result<(), Unfinished>
-    ensures run { (input : List ℕ) → Runs (λ limit. does fortran90 limit (Print line (plain_items items.now))) input
+    ensures run { (input : List ℕ)
+        → Runs (λ limit. does (fortran90 width) limit (Print line (plain_items items.now))) input
         (seen moment.old) (K.taken out.old) (seen moment.new) (K.taken out.new) (ended_by result) }
     ensures told { (input bytes : List ℕ) → IsTold (λ before now.
-        Runs (λ limit. does fortran90 limit (Print line (plain_items items.now))) input
+        Runs (λ limit. does (fortran90 width) limit (Print line (plain_items items.now))) input
         (seen moment.old) before (seen moment.new) now (ended_by result)) (out.new ≡ out.old) bytes }
     ensures fault { result ≡ Err (Unfinished.Left Unwritten) → Rose (K.faults out.old) (K.faults out.new) }
     ensures no_fault { result ≢ Err (Unfinished.Left Unwritten) → K.faults out.new ≡ K.faults out.old }
     ensures later { K.faults out.old ≤ K.faults out.new }
 {
     moment.count_step()?;
-    print(moment, line, items, out)
+    print(moment, width, line, items, out)
 }

@@ -27,10 +27,10 @@ use Rattle.linear_forms.specs.Places.{unit_form}
 use Rattle.linear_forms.proofs.Expressed.{text_has_value}
 use Rattle.linear_forms.proofs.LinearLaws.{number_at-sum, number_at-multiple}
 use Rattle.linear_forms.proofs.Sizes.{abs-sum, abs-product, smaller, both, weighted-size, dropped, within_fits}
-use Rattle.array_form.specs.forms.Forms.{number_text, divided_text, trip_text, trip_form, terms_with, sum_text}
+use Rattle.array_form.specs.forms.Forms.{number_text, divided_text, form_trip_text, form_of_trip, terms_with, sum_text}
 use Rattle.array_form.specs.forms.Instances.{count_of}
 use Rattle.array_form.specs.forms.Laws.{HasTrip, Turns}
-use Rattle.array_form.specs.forms.Loops.{Loop, Surroundings, names_of}
+use Rattle.array_form.specs.forms.Loops.{FormLoop, FormSurroundings, form_names_of}
 use Rattle.array_form.specs.forms.Trips.{divided, trip_number}
 use Rattle.array_form.proofs.forms.Coefficients.{as_long, weighted_front, weighted_last}
 
@@ -140,43 +140,43 @@ module _ (d : Dialect) (s : Store) where
           ap₂ (λ (p q : Result Value Fault). do x ← p; y ← q; apply Add x y) one (text_has_value d loops terms r s vs few limits values sized)
           ∙ fitting (z +ℤ number_at r vs) (omega (arith, rest, whole, size))
 
-module _ (d : Dialect) (a : Surroundings) (s : Store) (xs : List ℤ) (few : length a.loops ≤ 7) (values : HaveValues (names_of a) s xs) (sized : AreSized xs) where
-  pub trip_is : (l : Loop) → Turns a xs l → trip_number l.trip xs ≡ pos (count_of xs l)
+module _ (d : Dialect) (a : FormSurroundings) (s : Store) (xs : List ℤ) (few : length a.loops ≤ 7) (values : HaveValues (form_names_of a) s xs) (sized : AreSized xs) where
+  pub trip_is : (l : FormLoop) → Turns a xs l → trip_number l.trip xs ≡ pos (count_of xs l)
   trip_is l t = counted_by (trip_number l.trip xs) t.least
 
   -- the value of a trip, whether the loop turns or not
-  pub text_value : (l : Loop) → is_limited (length a.loops) l.trip.form ≡ true → 1 ≤ l.trip.divisor → value_of d (trip_text (names_of a) l.trip) s ≡ Ok (Int (trip_number l.trip xs))
+  pub text_value : (l : FormLoop) → is_limited (length a.loops) l.trip.form ≡ true → 1 ≤ l.trip.divisor → value_of d (form_trip_text (form_names_of a) l.trip) s ≡ Ok (Int (trip_number l.trip xs))
   text_value l limits least =
       let size = number_size (length a.loops) l.trip.form xs few limits sized in
-      quotient_known d s l.trip.divisor (number_at l.trip.form xs) (expressed (variables (names_of a)) l.trip.form)
-      (text_has_value d (length a.loops) (variables (names_of a)) l.trip.form s xs few limits (names_have d (names_of a) s xs values) sized) least (omega (arith, size))
+      quotient_known d s l.trip.divisor (number_at l.trip.form xs) (expressed (variables (form_names_of a)) l.trip.form)
+      (text_has_value d (length a.loops) (variables (form_names_of a)) l.trip.form s xs few limits (names_have d (form_names_of a) s xs values) sized) least (omega (arith, size))
 
-  pub trip_value : (l : Loop) → HasTrip a xs l → value_of d (trip_text (names_of a) l.trip) s ≡ Ok (Int (trip_number l.trip xs))
+  pub trip_value : (l : FormLoop) → HasTrip a xs l → value_of d (form_trip_text (form_names_of a) l.trip) s ≡ Ok (Int (trip_number l.trip xs))
   trip_value l t = text_value l t.limits t.divisor
 
-  pub trip_known : (l : Loop) → Turns a xs l → value_of d (trip_text (names_of a) l.trip) s ≡ Ok (Int (pos (count_of xs l)))
+  pub trip_known : (l : FormLoop) → Turns a xs l → value_of d (form_trip_text (form_names_of a) l.trip) s ≡ Ok (Int (pos (count_of xs l)))
   trip_known l t = trip_value l t.trip ∙ ap (λ z. Ok (Int z)) (trip_is l t)
 
   -- the names and the trip
-  abbrev pub with_trip : Loop → List ℤ
+  abbrev pub with_trip : FormLoop → List ℤ
   with_trip l = xs ++ pos (count_of xs l) ∷ []
 
-  terms_have : (l : Loop) → Turns a xs l → EachHasValue d (terms_with (names_of a) l.trip) s (with_trip l)
-  terms_have l t = one_more_has d (variables (names_of a)) (trip_text (names_of a) l.trip) s xs (pos (count_of xs l)) (names_have d (names_of a) s xs values) (trip_known l t)
+  terms_have : (l : FormLoop) → Turns a xs l → EachHasValue d (terms_with (form_names_of a) l.trip) s (with_trip l)
+  terms_have l t = one_more_has d (variables (form_names_of a)) (form_trip_text (form_names_of a) l.trip) s xs (pos (count_of xs l)) (names_have d (form_names_of a) s xs values) (trip_known l t)
 
-  terms_sized : (l : Loop) → Turns a xs l → AreSized (with_trip l)
+  terms_sized : (l : FormLoop) → Turns a xs l → AreSized (with_trip l)
   terms_sized l t = one_more_sized xs (pos (count_of xs l)) sized (let m = t.most in omega (arith, m))
 
-  front : (r : Form) (l : Loop) → length r.coefficients ≤ length (names_of a) → number_at r (with_trip l) ≡ number_at r xs
-  front r l h = ap (λ w. w +ℤ r.constant) (weighted_front r.coefficients xs (pos (count_of xs l) ∷ []) (let e = as_long (names_of a) s xs values in omega (arith, e, h)))
+  front : (r : Form) (l : FormLoop) → length r.coefficients ≤ length (form_names_of a) → number_at r (with_trip l) ≡ number_at r xs
+  front r l h = ap (λ w. w +ℤ r.constant) (weighted_front r.coefficients xs (pos (count_of xs l) ∷ []) (let e = as_long (form_names_of a) s xs values in omega (arith, e, h)))
 
-  trip_form_is : (l : Loop) → Turns a xs l → number_at (trip_form (names_of a) l.trip) (with_trip l) ≡ pos (count_of xs l)
+  trip_form_is : (l : FormLoop) → Turns a xs l → number_at (form_of_trip (form_names_of a) l.trip) (with_trip l) ≡ pos (count_of xs l)
   trip_form_is l t = by (l.trip.divisor == 1) refl
     where
-      by : (b : Bool) → (l.trip.divisor == 1) ≡ b → number_at (cond b l.trip.form (unit_form (length (names_of a)))) (with_trip l) ≡ pos (count_of xs l)
+      by : (b : Bool) → (l.trip.divisor == 1) ≡ b → number_at (cond b l.trip.form (unit_form (length (form_names_of a)))) (with_trip l) ≡ pos (count_of xs l)
       by true e = front l.trip.form l t.short ∙ (sym (ap (λ q. cond q (number_at l.trip.form xs) (int_div (number_at l.trip.form xs) (pos l.trip.divisor))) e) ∙ trip_is l t)
       by false e =
-          let long = as_long (names_of a) s xs values in
+          let long = as_long (form_names_of a) s xs values in
           ap (λ n. weighted (replicate n (pos 0) ++ pos 1 ∷ []) (with_trip l) +ℤ pos 0) (sym long)
           ∙ (ap (λ w. w +ℤ pos 0) (weighted_last xs (pos (count_of xs l))) ∙ nothing_more (count_of xs l))
         where
@@ -184,19 +184,19 @@ module _ (d : Dialect) (a : Surroundings) (s : Store) (xs : List ℤ) (few : len
           nothing_more n = omega (arith, ints)
 
   -- the bounds of a section
-  module _ (l : Loop) (t : Turns a xs l) (c : ℤ) (r : Form) (small : is_small c ≡ true) (limits : is_limited (length a.loops) r ≡ true) (short : length r.coefficients ≤ length (names_of a)) where
-    pub lower_known : value_of d (sum_text (length a.loops) (terms_with (names_of a) l.trip) (number_text c) (constant_form c) r) s ≡ Ok (Int (c +ℤ number_at r xs))
+  module _ (l : FormLoop) (t : Turns a xs l) (c : ℤ) (r : Form) (small : is_small c ≡ true) (limits : is_limited (length a.loops) r ≡ true) (short : length r.coefficients ≤ length (form_names_of a)) where
+    pub lower_known : value_of d (sum_text (length a.loops) (terms_with (form_names_of a) l.trip) (number_text c) (constant_form c) r) s ≡ Ok (Int (c +ℤ number_at r xs))
     lower_known =
         let size = small_size c small in
-        sum_known d s (length a.loops) (terms_with (names_of a) l.trip) (with_trip l) (number_text c) (constant_form c) r c few (terms_have l t) (terms_sized l t) limits (number_known d s c small) (+ℤ_idl c) (omega (arith, size))
+        sum_known d s (length a.loops) (terms_with (form_names_of a) l.trip) (with_trip l) (number_text c) (constant_form c) r c few (terms_have l t) (terms_sized l t) limits (number_known d s c small) (+ℤ_idl c) (omega (arith, size))
         ∙ ap (λ w. Ok (Int (c +ℤ w))) (front r l short)
 
-    pub upper_known : value_of d (sum_text (length a.loops) (terms_with (names_of a) l.trip) (Binary Mul (number_text c) (trip_text (names_of a) l.trip)) (multiple c (trip_form (names_of a) l.trip)) r) s
+    pub upper_known : value_of d (sum_text (length a.loops) (terms_with (form_names_of a) l.trip) (Binary Mul (number_text c) (form_trip_text (form_names_of a) l.trip)) (multiple c (form_of_trip (form_names_of a) l.trip)) r) s
         ≡ Ok (Int (c *ℤ pos (count_of xs l) +ℤ number_at r xs))
     upper_known =
         let size = product_size c (count_of xs l) (small_size c small) t.most in
-        sum_known d s (length a.loops) (terms_with (names_of a) l.trip) (with_trip l) (Binary Mul (number_text c) (trip_text (names_of a) l.trip)) (multiple c (trip_form (names_of a) l.trip)) r (c *ℤ pos (count_of xs l)) few (terms_have l t) (terms_sized l t) limits
+        sum_known d s (length a.loops) (terms_with (form_names_of a) l.trip) (with_trip l) (Binary Mul (number_text c) (form_trip_text (form_names_of a) l.trip)) (multiple c (form_of_trip (form_names_of a) l.trip)) r (c *ℤ pos (count_of xs l)) few (terms_have l t) (terms_sized l t) limits
         (ap₂ (λ (p q : Result Value Fault). do x ← p; y ← q; apply Mul x y) (number_known d s c small) (trip_known l t) ∙ fitting (c *ℤ pos (count_of xs l)) (omega (arith, size)))
-        (number_at-multiple c (trip_form (names_of a) l.trip) (with_trip l) ∙ ap (λ w. c *ℤ w) (trip_form_is l t))
+        (number_at-multiple c (form_of_trip (form_names_of a) l.trip) (with_trip l) ∙ ap (λ w. c *ℤ w) (trip_form_is l t))
         size
         ∙ ap (λ w. Ok (Int (c *ℤ pos (count_of xs l) +ℤ w))) (front r l short)

@@ -18,9 +18,9 @@ use Rattle.meaning.specs.Store.{Store}
 use Rattle.meaning.specs.Value.{values_of, arguments_of, are_scalar, together}
 use Rattle.linear_forms.specs.Laws.{AreSized}
 use Rattle.linear_forms.specs.Linear.{HaveValues}
-use Rattle.array_form.specs.forms.Following.{has_none}
+use Rattle.array_form.specs.forms.Following.{has_no_loop}
 use Rattle.array_form.specs.forms.Instances.{counts_of}
-use Rattle.array_form.specs.forms.Loops.{Loop, Surroundings, names_of, is_among, loops_among}
+use Rattle.array_form.specs.forms.Loops.{FormLoop, FormSurroundings, form_names_of, is_among, loops_among}
 use Rattle.array_form.specs.forms.Trips.{AreDistinct}
 use Rattle.array_form.proofs.forms.Axes.{Fit, Within, places, Takes}
 use Rattle.array_form.proofs.forms.Iterations.{at_those}
@@ -35,16 +35,16 @@ among_append (y ∷ ys) zs x = by (bytes_eq y x) (among_append ys zs x)
     by true more = refl
     by false more = more
 
-pub none_append : (D : List Loop) (ys zs : List (List ℕ)) → has_none (loops_among D (ys ++ zs)) ≡ (has_none (loops_among D ys) && has_none (loops_among D zs))
+pub none_append : (D : List FormLoop) (ys zs : List (List ℕ)) → has_no_loop (loops_among D (ys ++ zs)) ≡ (has_no_loop (loops_among D ys) && has_no_loop (loops_among D zs))
 none_append [] ys zs = refl
-none_append (l ∷ D) ys zs = ap (λ b. has_none (cond b (l ∷ loops_among D (ys ++ zs)) (loops_among D (ys ++ zs)))) (among_append ys zs l.variable)
+none_append (l ∷ D) ys zs = ap (λ b. has_no_loop (cond b (l ∷ loops_among D (ys ++ zs)) (loops_among D (ys ++ zs)))) (among_append ys zs l.variable)
     ∙ by (is_among ys l.variable) (is_among zs l.variable) (none_append D ys zs)
   where
-    by : (b q : Bool) → has_none (loops_among D (ys ++ zs)) ≡ (has_none (loops_among D ys) && has_none (loops_among D zs))
-        → has_none (cond (cond b true q) (l ∷ loops_among D (ys ++ zs)) (loops_among D (ys ++ zs)))
-        ≡ (has_none (cond b (l ∷ loops_among D ys) (loops_among D ys)) && has_none (cond q (l ∷ loops_among D zs) (loops_among D zs)))
+    by : (b q : Bool) → has_no_loop (loops_among D (ys ++ zs)) ≡ (has_no_loop (loops_among D ys) && has_no_loop (loops_among D zs))
+        → has_no_loop (cond (cond b true q) (l ∷ loops_among D (ys ++ zs)) (loops_among D (ys ++ zs)))
+        ≡ (has_no_loop (cond b (l ∷ loops_among D ys) (loops_among D ys)) && has_no_loop (cond q (l ∷ loops_among D zs) (loops_among D zs)))
     by true q more = refl
-    by false true more = not_both (has_none (loops_among D ys))
+    by false true more = not_both (has_no_loop (loops_among D ys))
       where
         not_both : (b : Bool) → false ≡ (b && false)
         not_both true = refl
@@ -67,7 +67,7 @@ conforming false false ns = itself ns
 
 -- ---- by structure
 
-module _ (d : Dialect) (a : Surroundings) (s : Store) (xs : List ℤ) (few : length a.loops ≤ 7) (values : HaveValues (names_of a) s xs) (sized : AreSized xs) (distinct : AreDistinct (names_of a)) (D : List Loop) (fit : Fit d a s xs few values sized distinct D) where
+module _ (d : Dialect) (a : FormSurroundings) (s : Store) (xs : List ℤ) (few : length a.loops ≤ 7) (values : HaveValues (form_names_of a) s xs) (sized : AreSized xs) (distinct : AreDistinct (form_names_of a)) (D : List FormLoop) (fit : Fit d a s xs few values sized distinct D) where
   abbrev pub In : (List ℕ → ℕ) → Type 0
   In ι = Within d a s xs few values sized distinct D ι
 
@@ -78,7 +78,7 @@ module _ (d : Dialect) (a : Surroundings) (s : Store) (xs : List ℤ) (few : len
   spots ι = places d a s xs few values sized distinct ι D
 
   abbrev pub no_loops_in : Expression → Bool
-  no_loops_in e = has_none (loops_among D (names_in e))
+  no_loops_in e = has_no_loop (loops_among D (names_in e))
 
   pub unary : (o : Op) (e F : Expression) → Has e F → Has (Unary o e) (Unary o F)
   unary o e F h = record {
@@ -107,8 +107,8 @@ module _ (d : Dialect) (a : Surroundings) (s : Store) (xs : List ℤ) (few : len
   pub record HasEach (es Fs : Expressions) (b : Bool) : Type 0 where
     pub array : Elements (List Value)
     pub known : arguments_of d Fs (cond b [] (counts_of xs D)) s ≡ Ok array
-    pub extents : array.extents ≡ cond (b && has_none (loops_among D (names_in_each es))) [] (counts_of xs D)
-    pub scalar : are_scalar Fs s.bounds ≡ has_none (loops_among D (names_in_each es))
+    pub extents : array.extents ≡ cond (b && has_no_loop (loops_among D (names_in_each es))) [] (counts_of xs D)
+    pub scalar : are_scalar Fs s.bounds ≡ has_no_loop (loops_among D (names_in_each es))
     pub at : (ι : List ℕ → ℕ) → In ι → array.at (spots ι) ≡ values_of d es (at_those ι D s)
 
   pub no_arguments : (b : Bool) → HasEach no_expressions no_expressions b
@@ -120,11 +120,11 @@ module _ (d : Dialect) (a : Surroundings) (s : Store) (xs : List ℤ) (few : len
     at = λ ι w. refl;
   }
     where
-      nothing : (ls : List Loop) → has_none (loops_among ls []) ≡ true
+      nothing : (ls : List FormLoop) → has_no_loop (loops_among ls []) ≡ true
       nothing [] = refl
       nothing (l ∷ ls) = nothing ls
 
-      alone : (b : Bool) → b ≡ (b && has_none (loops_among D []))
+      alone : (b : Bool) → b ≡ (b && has_no_loop (loops_among D []))
       alone true = sym (nothing D)
       alone false = refl
 
@@ -136,7 +136,7 @@ module _ (d : Dialect) (a : Surroundings) (s : Store) (xs : List ℤ) (few : len
         known = ap (λ (r : Result (Elements Value) Fault). do g ← r; ms ← conform (cond b [] (counts_of xs D)) g.extents; more ← arguments_of d Fs ms s; Ok (together g more)) h.known
             ∙ (ap (λ (r : Result (List ℕ) Fault). do ms ← r; more ← arguments_of d Fs ms s; Ok (together h.array more)) (ap (conform (cond b [] (counts_of xs D))) h.extents ∙ conforming b (no_loops_in e) (counts_of xs D))
             ∙ ap (λ (r : Result (Elements (List Value)) Fault). do more ← r; Ok (together h.array more)) k.known);
-        extents = k.extents ∙ ap (λ q. cond q [] (counts_of xs D)) (regrouped b (no_loops_in e) (has_none (loops_among D (names_in_each es))) ∙ ap (λ q. b && q) (sym both_names));
+        extents = k.extents ∙ ap (λ q. cond q [] (counts_of xs D)) (regrouped b (no_loops_in e) (has_no_loop (loops_among D (names_in_each es))) ∙ ap (λ q. b && q) (sym both_names));
         scalar = ap₂ (λ p q. p && q) h.scalar k.scalar ∙ sym both_names;
         at = λ ι w. ap₂ (λ (r : Result Value Fault) (q : Result (List Value) Fault). do x ← r; ys ← q; Ok (x ∷ ys)) (h.at ι w) (k.at ι w);
       }

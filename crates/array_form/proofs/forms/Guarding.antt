@@ -9,6 +9,7 @@ use Rattle.tree.specs.declared.ops.Value.{Value}
 use Rattle.tree.specs.declared.ops.Value.TheVariants.{Int}
 use Rattle.tree.specs.declared.stmts.Mark.{Mark}
 use Rattle.meaning.specs.Dialect.{Dialect, fortran90}
+use Rattle.tree.specs.declared.width.Width.{Width}
 use Rattle.meaning.specs.Reads.{names_in}
 use Rattle.meaning.specs.CellsRead.{cells_read}
 use Rattle.meaning.specs.Run.{State, Going, does_all}
@@ -20,13 +21,13 @@ use Rattle.meaning_laws.specs.arrays.Instances.{Instance, in_turn, NoneReadsWrit
 use Rattle.meaning_laws.proofs.arrays.Assignments.{bounds_alike}
 use Rattle.meaning_laws.proofs.arrays.Members.{here, nowhere, each_member}
 use Rattle.meaning_laws.proofs.arrays.Stages.{bound, same_answer}
-use Rattle.array_form.specs.forms.Following.{has_none, are_moved, is_regular}
+use Rattle.array_form.specs.forms.Following.{has_no_loop, are_moved, is_regular}
 use Rattle.array_form.specs.forms.Forms.{form}
 use Rattle.array_form.specs.forms.Guarded.{stored_if, guarded_at, guarded_from, GuardedFormStoresInstances}
 use Rattle.array_form.specs.forms.Instances.{at_iterations, count_of, counts_of, in_sequence, instance_at}
 use Rattle.array_form.specs.forms.Laws.{Turns, AreKnown}
-use Rattle.array_form.specs.forms.Loops.{Loop, Surroundings, names_of, is_among, loops_among}
-use Rattle.array_form.specs.forms.Statements.{loops_from, unguarded_hold, stand_in_guard, loops_assigned, left_form, right_form, array_assignment, tests_of, guarded_by, array_form_of}
+use Rattle.array_form.specs.forms.Loops.{FormLoop, FormSurroundings, form_names_of, is_among, loops_among}
+use Rattle.array_form.specs.forms.Statements.{loops_from, unguarded_hold, stand_in_guard, loops_assigned, left_form, right_form, array_assignment, form_tests_of, guarded_by, array_form_of}
 use Rattle.array_form.proofs.forms.Holding.{stands_more, none_stand}
 use Rattle.array_form.proofs.forms.Iterations.{iterations, not_it}
 use Rattle.array_form.proofs.forms.Masking.{stores_masked}
@@ -38,14 +39,14 @@ use Rattle.array_form.proofs.forms.Whole.{held_kept, bounds_kept, from_within, a
 
 -- ---- a guard in which no loop stands
 
-none_here : (l : Loop) (ls : List Loop) (names : List (List ℕ)) → loops_among (l ∷ ls) names ≡ [] → (is_among names l.variable ≡ false) × (loops_among ls names ≡ [])
+none_here : (l : FormLoop) (ls : List FormLoop) (names : List (List ℕ)) → loops_among (l ∷ ls) names ≡ [] → (is_among names l.variable ≡ false) × (loops_among ls names ≡ [])
 none_here l ls names h = by (is_among names l.variable) refl h
   where
     by : (b : Bool) → is_among names l.variable ≡ b → cond b (l ∷ loops_among ls names) (loops_among ls names) ≡ [] → (is_among names l.variable ≡ false) × (loops_among ls names ≡ [])
     by true e f = cc
     by false e f = (e, f)
 
-free_alike : (ls : List Loop) (is : List ℕ) (names : List (List ℕ)) (s : Store) → loops_among ls names ≡ [] → Alike names (at_iterations ls is s) s
+free_alike : (ls : List FormLoop) (is : List ℕ) (names : List (List ℕ)) (s : Store) → loops_among ls names ≡ [] → Alike names (at_iterations ls is s) s
 free_alike [] is names s h = record { bounds = refl; held = λ c m. refl }
 free_alike (l ∷ ls) [] names s h = record { bounds = refl; held = λ c m. refl }
 free_alike (l ∷ ls) (i ∷ is) names s h =
@@ -56,7 +57,7 @@ free_alike (l ∷ ls) (i ∷ is) names s h =
       held = λ c m. more.held c m ∙ ap (λ b. cond b (Int (pos i)) (s.held c)) (not_it l names c m parts.0);
     }
 
-module _ (d : Dialect) (ls : List Loop) (e : Expression) (left : Reference) (right : Expression) (free : loops_among ls (names_in e) ≡ []) where
+module _ (d : Dialect) (ls : List FormLoop) (e : Expression) (left : Reference) (right : Expression) (free : loops_among ls (names_in e) ≡ []) where
   abbrev guarded : List ℕ → Instance
   guarded is = guarded_at d ls (Some e) left right is
 
@@ -132,11 +133,11 @@ module _ (d : Dialect) (ls : List Loop) (e : Expression) (left : Reference) (rig
 
 -- ---- the assignment in an IF
 
-module _ (a : Surroundings) (k line : ℕ) (mark : Option Mark) (e : Expression) (left : Reference) (right : Expression) (s : State) (t : Store) (xs : List ℤ) (known : AreKnown a s.store xs)
-    (turns : (l : Loop) → Contains (loops_from a k) l → Turns a xs l) (some : has_none (loops_from a k) ≡ false) (no_hold : unguarded_hold a k left ≡ None)
+module _ (width : Width) (a : FormSurroundings) (k line : ℕ) (mark : Option Mark) (e : Expression) (left : Reference) (right : Expression) (s : State) (t : Store) (xs : List ℤ) (known : AreKnown a s.store xs)
+    (turns : (l : FormLoop) → Contains (loops_from a k) l → Turns a xs l) (some : has_no_loop (loops_from a k) ≡ false) (no_hold : unguarded_hold a k left ≡ None)
     (moved : are_moved a (loops_assigned a k left) left.subscripts ≡ true) (regular : is_regular a (loops_assigned a k left) right ≡ true)
     (free : loops_among (loops_from a k) (names_in e) ≡ []) where
-  abbrev mine : List Loop
+  abbrev mine : List FormLoop
   mine = loops_from a k
 
   abbrev inside : Block
@@ -146,64 +147,64 @@ module _ (a : Surroundings) (k line : ℕ) (mark : Option Mark) (e : Expression)
   tested = statement (If line (arm e inside no_arms) no_statements) no_statements
 
   abbrev Outcome_of : Block → Type 0
-  Outcome_of body = (n : ℕ) × (does_all fortran90 None (guarded_by line (tests_of (names_of a) mine) body) (ready s) ≡ record s { store = t; steps = n; way = Going })
+  Outcome_of body = (n : ℕ) × (does_all (fortran90 width) None (guarded_by line (form_tests_of (form_names_of a) mine) body) (ready s) ≡ record s { store = t; steps = n; way = Going })
 
   first_instance : Contains (in_sequence (counts_of xs mine)) (iterations (λ y. 1) mine)
   first_instance = from_sequence (counts_of xs mine) (iterations (λ y. 1) mine) (from_within xs (λ y. 1) mine (λ l c. (le_refl 1, (turns l c).least)))
 
-  in_if : NoneReadsWritten [] (guarded_from fortran90 a k xs (Some e) left right) s.store → in_turn (guarded_from fortran90 a k xs (Some e) left right) s.store ≡ Ok t → Outcome_of tested
+  in_if : NoneReadsWritten [] (guarded_from (fortran90 width) a k xs (Some e) left right) s.store → in_turn (guarded_from (fortran90 width) a k xs (Some e) left right) s.store ≡ Ok t → Outcome_of tested
   in_if none run =
-      let b = has_truth fortran90 mine e left right free (in_sequence (counts_of xs mine)) (iterations (λ y. 1) mine) s.store t first_instance run in
+      let b = has_truth (fortran90 width) mine e left right free (in_sequence (counts_of xs mine)) (iterations (λ y. 1) mine) s.store t first_instance run in
       by b.0 b.1
     where
-      by : (b : Bool) → truth_of fortran90 e s.store ≡ Ok b → Outcome_of tested
+      by : (b : Bool) → truth_of (fortran90 width) e s.store ≡ Ok b → Outcome_of tested
       by true h =
-          let both = follow fortran90 mine e left right free (in_sequence (counts_of xs mine)) [] s.store t (start fortran90 mine e left right free (in_sequence (counts_of xs mine)) s.store h) none run in
-          let done = assignment_done a k line mark s t xs known turns some left right no_hold moved regular both.0 both.1 in
-          let g = block_done fortran90 a line tested s xs known mine turns in
-          (g.0 + 1 + 1 + length done.0, g.1 ∙ (taken fortran90 line e inside (record s { steps = g.0 }) h ∙ done.1 (g.0 + 1)))
+          let both = follow (fortran90 width) mine e left right free (in_sequence (counts_of xs mine)) [] s.store t (start (fortran90 width) mine e left right free (in_sequence (counts_of xs mine)) s.store h) none run in
+          let done = assignment_done width a k line mark s t xs known turns some left right no_hold moved regular both.0 both.1 in
+          let g = block_done (fortran90 width) a line tested s xs known mine turns in
+          (g.0 + 1 + 1 + length done.0, g.1 ∙ (taken (fortran90 width) line e inside (record s { steps = g.0 }) h ∙ done.1 (g.0 + 1)))
       by false h =
-          let g = block_done fortran90 a line tested s xs known mine turns in
-          let stays : s.store ≡ t = same_answer s.store t (sym (idle fortran90 mine e left right free (in_sequence (counts_of xs mine)) s.store h) ∙ run) in
-          (g.0 + 1, g.1 ∙ (passed fortran90 line e inside (record s { steps = g.0 }) h ∙ ap (λ (u : Store). let r : State = record s { store = u; steps = g.0 + 1; way = Going } in r) stays))
+          let g = block_done (fortran90 width) a line tested s xs known mine turns in
+          let stays : s.store ≡ t = same_answer s.store t (sym (idle (fortran90 width) mine e left right free (in_sequence (counts_of xs mine)) s.store h) ∙ run) in
+          (g.0 + 1, g.1 ∙ (passed (fortran90 width) line e inside (record s { steps = g.0 }) h ∙ ap (λ (u : Store). let r : State = record s { store = u; steps = g.0 + 1; way = Going } in r) stays))
 
 -- ---- both
 
-pub guarded_form_stores_instances : GuardedFormStoresInstances
-guarded_form_stores_instances a k line mark None left right s t xs going known trips some no_hold moved guard_regular regular cells none run =
-    array_form_stores_instances a k line mark left right s t xs going known trips some no_hold moved regular none run
-guarded_form_stores_instances a k line mark (Some e) left right s t xs going known trips some no_hold moved guard_regular regular cells none run = by (all_or_one xs (loops_from a k))
+pub guarded_form_stores_instances : (width : Width) → GuardedFormStoresInstances width
+guarded_form_stores_instances width a k line mark None left right s t xs going known trips some no_hold moved guard_regular regular cells none run =
+    array_form_stores_instances width a k line mark left right s t xs going known trips some no_hold moved regular none run
+guarded_form_stores_instances width a k line mark (Some e) left right s t xs going known trips some no_hold moved guard_regular regular cells none run = by (all_or_one xs (loops_from a k))
   where
     Outcome : Type 0
-    Outcome = (n : ℕ) × (does_all fortran90 None (array_form_of a k line mark (Some e) left right) s ≡ record s { store = t; steps = n })
+    Outcome = (n : ℕ) × (does_all (fortran90 width) None (array_form_of a k line mark (Some e) left right) s ≡ record s { store = t; steps = n })
 
-    at_going : (n : ℕ) → does_all fortran90 None (array_form_of a k line mark (Some e) left right) (ready s) ≡ record s { store = t; steps = n; way = Going } → Outcome
+    at_going : (n : ℕ) → does_all (fortran90 width) None (array_form_of a k line mark (Some e) left right) (ready s) ≡ record s { store = t; steps = n; way = Going } → Outcome
     at_going n h = (
       n,
-      subst (λ (v : State). does_all fortran90 None (array_form_of a k line mark (Some e) left right) v ≡ record v { store = t; steps = n }) (λ i. let v : State = record s { way = sym going i } in v) h,
+      subst (λ (v : State). does_all (fortran90 width) None (array_form_of a k line mark (Some e) left right) v ≡ record v { store = t; steps = n }) (λ i. let v : State = record s { way = sym going i } in v) h,
     )
 
     order : Ordered (loops_from a k) left.subscripts (loops_assigned a k left)
     order = ordered_loops a k left known.distinct no_hold
 
     as_block : Bool → Block
-    as_block b = guarded_by line (tests_of (names_of a) (loops_from a k))
+    as_block b = guarded_by line (form_tests_of (form_names_of a) (loops_from a k))
         (statement (cond b (Where line mark (form a (loops_assigned a k left) e) (left_form a k left) (right_form a k left right))
         (If line (arm e (statement (array_assignment a k line mark left right) no_statements) no_arms) no_statements)) no_statements)
 
-    turning : ((l : Loop) → Contains (loops_from a k) l → Turns a xs l) → (b : Bool) → stand_in_guard (loops_assigned a k left) (Some e) ≡ b
-        → (n : ℕ) × (does_all fortran90 None (as_block b) (ready s) ≡ record s { store = t; steps = n; way = Going })
+    turning : ((l : FormLoop) → Contains (loops_from a k) l → Turns a xs l) → (b : Bool) → stand_in_guard (loops_assigned a k left) (Some e) ≡ b
+        → (n : ℕ) × (does_all (fortran90 width) None (as_block b) (ready s) ≡ record s { store = t; steps = n; way = Going })
     turning turns true h =
         let named = cells (stands_more (loops_assigned a k left) (loops_from a k) e order.into h) in
-        stores_masked a k line mark e s t xs known turns some left right no_hold moved guard_regular regular named.left_cells named.right_cells none run
+        stores_masked width a k line mark e s t xs known turns some left right no_hold moved guard_regular regular named.left_cells named.right_cells none run
     turning turns false h =
-        in_if a k line mark e left right s t xs known turns some no_hold moved regular (none_stand (loops_from a k) (loops_assigned a k left) e order.onto h) none run
+        in_if width a k line mark e left right s t xs known turns some no_hold moved regular (none_stand (loops_from a k) (loops_assigned a k left) e order.onto h) none run
 
-    by : ((l : Loop) → Contains (loops_from a k) l → 1 ≤ count_of xs l) ⊎ ((l : Loop) × Contains (loops_from a k) l × (count_of xs l ≡ 0)) → Outcome
+    by : ((l : FormLoop) → Contains (loops_from a k) l → 1 ≤ count_of xs l) ⊎ ((l : FormLoop) × Contains (loops_from a k) l × (count_of xs l ≡ 0)) → Outcome
     by (inl turn) =
         let r = turning (λ l c. record { trip = trips l c; least = turn l c }) (stand_in_guard (loops_assigned a k left) (Some e)) refl in
         at_going r.0 r.1
     by (inr one) =
-        let r = form_passes fortran90 a k line mark (Some e) left right s xs going known (λ l c. let h = trips l c in (h.limits, h.divisor)) one.0 one.1 one.2 in
-        let stays : s.store ≡ t = same_answer s.store t (ap (λ iss. in_turn (map (guarded_at fortran90 (loops_from a k) (Some e) left right) iss) s.store) (sym (no_sequence xs (loops_from a k) one.0 one.1 one.2)) ∙ run) in
+        let r = form_passes (fortran90 width) a k line mark (Some e) left right s xs going known (λ l c. let h = trips l c in (h.limits, h.divisor)) one.0 one.1 one.2 in
+        let stays : s.store ≡ t = same_answer s.store t (ap (λ iss. in_turn (map (guarded_at (fortran90 width) (loops_from a k) (Some e) left right) iss) s.store) (sym (no_sequence xs (loops_from a k) one.0 one.1 one.2)) ∙ run) in
         (r.0, r.1 ∙ ap (λ (u : Store). let v : State = record s { store = u; steps = r.0 } in v) stays)

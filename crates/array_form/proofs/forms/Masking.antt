@@ -1,5 +1,5 @@
 -- The array form of an assignment under a guard in which one of its loops stands: a WHERE stores what its instances store.
-use Rattle.std.proofs.Common.{◌≡◌, refl, sym, ap, ◌∙◌, subst, ◌⊎◌, inl, inr, ℕ, suc, ◌+◌, ◌-◌, ℤ, Bool, true, false, cond, ◌&&◌, List, [], ◌∷◌, ◌++◌, map, length, Result, Ok, Err, Option, Some, None, arith, Contains}
+use Rattle.std.proofs.Common.{◌≡◌, ◌≤◌, refl, sym, ap, ◌∙◌, subst, ◌⊎◌, inl, inr, ℕ, suc, ◌+◌, ◌-◌, ℤ, Bool, true, false, cond, ◌&&◌, List, [], ◌∷◌, ◌++◌, map, length, Result, Ok, Err, Option, Some, None, arith, Contains}
 use Rattle.std.specs.List.{AllByRecursion}
 use Rattle.std.proofs.lemmas.List.Elements.{recursion_from_All}
 use mathlib.Core.Path.{ap₂}
@@ -14,6 +14,7 @@ use Rattle.tree.specs.declared.stmts.Mark.{Mark}
 use Rattle.meaning.specs.ArrayStatements.{axes_named, storable, writes_of}
 use Rattle.meaning.specs.ArrayValues.{Elements, each, positions, conform}
 use Rattle.meaning.specs.Dialect.{Dialect, fortran90}
+use Rattle.tree.specs.declared.width.Width.{Width}
 use Rattle.meaning.specs.Reads.{names_in, names_in_subscripts}
 use Rattle.meaning.specs.CellsRead.{cells_read, cells_read_by}
 use Rattle.meaning.specs.Run.{State, Going, does_all}
@@ -33,13 +34,13 @@ use Rattle.meaning_laws.proofs.arrays.OneToOne.{positions_are_one_to_one}
 use Rattle.meaning_laws.proofs.arrays.Stages.{bound}
 use Rattle.meaning_laws.proofs.arrays.Turns.{in_turn_is_at_once}
 use Rattle.linear_forms.proofs.Sizes.{both}
-use Rattle.array_form.specs.forms.Following.{has_none, are_moved, is_regular, are_regular, are_regular_subscripts}
+use Rattle.array_form.specs.forms.Following.{has_no_loop, are_moved, is_regular, are_regular, are_regular_subscripts}
 use Rattle.array_form.specs.forms.Forms.{form, forms, subscript_forms}
 use Rattle.array_form.specs.forms.Guarded.{stored_if, guarded_at, guarded_from, ReferencesHaveValues, EachHasValues, FormHasValuesOrFaults}
 use Rattle.array_form.specs.forms.Instances.{at_iterations, counts_of, in_sequence}
 use Rattle.array_form.specs.forms.Laws.{Turns, AreKnown, AreTurning, HasValues}
-use Rattle.array_form.specs.forms.Loops.{Loop, Surroundings, variables_of, names_of, loops_in_order, loops_among}
-use Rattle.array_form.specs.forms.Statements.{loops_from, unguarded_hold, loops_assigned, left_form, right_form, tests_of, guarded_by}
+use Rattle.array_form.specs.forms.Loops.{FormLoop, FormSurroundings, form_variables_of, form_names_of, loops_in_order, loops_among}
+use Rattle.array_form.specs.forms.Statements.{loops_from, unguarded_hold, loops_assigned, left_form, right_form, form_tests_of, guarded_by}
 use Rattle.array_form.proofs.forms.Axes as axes
 use Rattle.array_form.proofs.forms.Axes.{Fit, Within, NoFault, Takes, places}
 use Rattle.array_form.proofs.forms.Forming.{conforming, unary, binary, HasEach, no_arguments, one_argument, applied}
@@ -50,24 +51,25 @@ use Rattle.array_form.proofs.forms.Positions.{from_sequence, sequence_from, iter
 use Rattle.array_form.proofs.forms.Taking.{takes}
 use Rattle.array_form.proofs.forms.Values.{fitting, bounded_by, same_length, by_position}
 use Rattle.array_form.proofs.forms.Whole.{held_kept, bounds_kept, same_variables, from_within, linear_regular, linear_vectors, unsubscripted}
+use Rattle.meaning.proofs.Widths.{narrowest}
 
 -- ---- forms of expressions that may meet faults, but for their references
 
-module _ (d : Dialect) (bits : d.bits ≡ 31) (a : Surroundings) (s : Store) (xs : List ℤ) (k : AreKnown a s xs) where
-  abbrev InD : List Loop → (List ℕ → ℕ) → Type 0
+module _ (d : Dialect) (bits : 31 ≤ d.bits) (a : FormSurroundings) (s : Store) (xs : List ℤ) (k : AreKnown a s xs) where
+  abbrev InD : List FormLoop → (List ℕ → ℕ) → Type 0
   InD D ι = Within d a s xs k.few k.values k.sized k.distinct D ι
 
-  abbrev SafeD : List Loop → Expression → Type 0
+  abbrev SafeD : List FormLoop → Expression → Type 0
   SafeD D e = NoFault d a s xs k.few k.values k.sized k.distinct D e
 
-  abbrev HasD : List Loop → Expression → Expression → Type 0
+  abbrev HasD : List FormLoop → Expression → Expression → Type 0
   HasD D e F = Takes d a s xs k.few k.values k.sized k.distinct D e F
 
-  abbrev fitD : (D : List Loop) → AreTurning a D xs → Fit d a s xs k.few k.values k.sized k.distinct D
+  abbrev fitD : (D : List FormLoop) → AreTurning a D xs → Fit d a s xs k.few k.values k.sized k.distinct D
   fitD D t = fitting d a D s xs k t
 
   abbrev mutual
-    pub Safely : List Loop → Expression → Type 0
+    pub Safely : List FormLoop → Expression → Type 0
     Safely D (Named x ps) = SafeD D (Named x ps)
     Safely D (Unary o e) = Safely D e
     Safely D (Binary o e f) = Safely D e × Safely D f
@@ -75,12 +77,12 @@ module _ (d : Dialect) (bits : d.bits ≡ 31) (a : Surroundings) (s : Store) (xs
     Safely D (Reduce r e) = SafeD D (Reduce r e)
     Safely D _ = Unit {0}
 
-    pub SafelyEach : List Loop → Expressions → Type 0
+    pub SafelyEach : List FormLoop → Expressions → Type 0
     SafelyEach D no_expressions = Unit {0}
     SafelyEach D (expression e es) = Safely D e × SafelyEach D es
 
   mutual
-    pub takes_safely : (e : Expression) (D : List Loop) (t : AreTurning a D xs) → is_regular a D e ≡ true → Safely D e → HasD D e (form a D e)
+    pub takes_safely : (e : Expression) (D : List FormLoop) (t : AreTurning a D xs) → is_regular a D e ≡ true → Safely D e → HasD D e (form a D e)
     takes_safely (Number n) D t h safe = takes d bits a s xs k (Number n) D t h (λ ι w. (Int n, refl))
     takes_safely (Logic b) D t h safe = takes d bits a s xs k (Logic b) D t h (λ ι w. (Truth b, refl))
     takes_safely (Named x ps) D t h safe = takes d bits a s xs k (Named x ps) D t h safe
@@ -95,28 +97,28 @@ module _ (d : Dialect) (bits : d.bits ≡ 31) (a : Surroundings) (s : Store) (xs
     takes_safely (Transpose e) D t h safe = absurd cc
     takes_safely (Reshape e es) D t h safe = absurd cc
 
-    takes_each_safely : (es : Expressions) (D : List Loop) (t : AreTurning a D xs) (b : Bool) → are_regular a D es ≡ true → SafelyEach D es → HasEach d a s xs k.few k.values k.sized k.distinct D (fitD D t) es (forms a D es) b
+    takes_each_safely : (es : Expressions) (D : List FormLoop) (t : AreTurning a D xs) (b : Bool) → are_regular a D es ≡ true → SafelyEach D es → HasEach d a s xs k.few k.values k.sized k.distinct D (fitD D t) es (forms a D es) b
     takes_each_safely no_expressions D t b h safe = no_arguments d a s xs k.few k.values k.sized k.distinct D (fitD D t) b
     takes_each_safely (expression e es) D t b h safe =
         let parts = both (is_regular a D e) (are_regular a D es) h in
         one_argument d a s xs k.few k.values k.sized k.distinct D (fitD D t) e (form a D e) es (forms a D es) b
-        (takes_safely e D t parts.0 safe.0) (takes_each_safely es D t (b && has_none (loops_among D (names_in e))) parts.1 safe.1)
+        (takes_safely e D t parts.0 safe.0) (takes_each_safely es D t (b && has_no_loop (loops_among D (names_in e))) parts.1 safe.1)
 
   -- the iterations of a position
-  iterated : (D : List Loop) (ι : List ℕ → ℕ) → InD D ι → (ls : List Loop) → ((l : Loop) → Contains ls l → Contains D l) → map suc (map (λ (l : Loop). ι l.variable - 1) ls) ≡ iterations ι ls
+  iterated : (D : List FormLoop) (ι : List ℕ → ℕ) → InD D ι → (ls : List FormLoop) → ((l : FormLoop) → Contains ls l → Contains D l) → map suc (map (λ (l : FormLoop). ι l.variable - 1) ls) ≡ iterations ι ls
   iterated D ι w [] h = refl
   iterated D ι w (l ∷ ls) h =
       let low = (w l (h l (here l ls))).0 in
       ap₂ (λ (x : ℕ) (ys : List ℕ). x ∷ ys) (omega (arith, low)) (iterated D ι w ls (λ m g. h m (there l ls m g)))
 
-  pub no_fault : (D : List Loop) (e : Expression) → HasValues d xs D e s → SafeD D e
+  pub no_fault : (D : List FormLoop) (e : Expression) → HasValues d xs D e s → SafeD D e
   no_fault D e has ι w =
-      let is = map (λ (l : Loop). ι l.variable - 1) D in
+      let is = map (λ (l : FormLoop). ι l.variable - 1) D in
       let v = has is (axes.contained d a s xs k.few k.values k.sized k.distinct D ι w) in
       (v.0, ap (λ js. value_of d e (at_iterations D js s)) (sym (iterated D ι w D (λ l g. g))) ∙ v.1)
 
   mutual
-    pub safely : (D : List Loop) (e : Expression) → ReferencesHaveValues d xs D e s → Safely D e
+    pub safely : (D : List FormLoop) (e : Expression) → ReferencesHaveValues d xs D e s → Safely D e
     safely D (Number n) h = tt
     safely D (Logic b) h = tt
     safely D (Named x ps) h = no_fault D (Named x ps) h
@@ -129,7 +131,7 @@ module _ (d : Dialect) (bits : d.bits ≡ 31) (a : Surroundings) (s : Store) (xs
     safely D (Transpose e) h = tt
     safely D (Reshape e es) h = tt
 
-    safely_each : (D : List Loop) (es : Expressions) → EachHasValues d xs D es s → SafelyEach D es
+    safely_each : (D : List FormLoop) (es : Expressions) → EachHasValues d xs D es s → SafelyEach D es
     safely_each D no_expressions h = tt
     safely_each D (expression e es) h = (safely D e h.0, safely_each D es h.1)
 
@@ -147,7 +149,7 @@ form_has_values_or_faults lang a D e s xs bits k t regular has =
 
 -- ---- an instance depends on the cells that it reads alone
 
-module _ (d : Dialect) (ls : List Loop) (guard : Expression) (left : Reference) (right : Expression) where
+module _ (d : Dialect) (ls : List FormLoop) (guard : Expression) (left : Reference) (right : Expression) where
   from_reads : (is : List ℕ) → ComesFromReads (guarded_at d ls (Some guard) left right is)
   from_reads is = record {
     same = λ s t e m.
@@ -182,17 +184,17 @@ module _ (d : Dialect) (ls : List Loop) (guard : Expression) (left : Reference) 
 
 -- ---- the assignment to an element with subscripts
 
-module _ (d : Dialect) (bits : d.bits ≡ 31) (a : Surroundings) (k : ℕ) (s : Store) (xs : List ℤ) (known : AreKnown a s xs) (turns : (l : Loop) → Contains (loops_from a k) l → Turns a xs l)
+module _ (d : Dialect) (bits : 31 ≤ d.bits) (a : FormSurroundings) (k : ℕ) (s : Store) (xs : List ℤ) (known : AreKnown a s xs) (turns : (l : FormLoop) → Contains (loops_from a k) l → Turns a xs l)
     (x : List ℕ) (e : Expression) (ps : Subscripts) (guard right : Expression) (no_hold : unguarded_hold a k (record { name = x; subscripts = subscript (Only e) ps }) ≡ None)
     (moved : are_moved a (loops_assigned a k (record { name = x; subscripts = subscript (Only e) ps })) (subscript (Only e) ps) ≡ true)
     (t : Store) where
   abbrev left : Reference
   left = record { name = x; subscripts = subscript (Only e) ps }
 
-  abbrev mine : List Loop
+  abbrev mine : List FormLoop
   mine = loops_from a k
 
-  abbrev D : List Loop
+  abbrev D : List FormLoop
   D = loops_assigned a k left
 
   abbrev instances : List Instance
@@ -317,10 +319,10 @@ module _ (d : Dialect) (bits : d.bits ≡ 31) (a : Surroundings) (k : ℕ) (s : 
     listed is c =
         let from = sequence_from (counts_of xs mine) is c in
         let ι = iteration_of mine is in
-        let are = iterations_are 1 mine (counts_of xs mine) is (distinct_drop (k - 1) a.loops (distinct_front (variables_of a.loops) a.symbols known.distinct)) (same_length xs mine) from in
+        let are = iterations_are 1 mine (counts_of xs mine) is (distinct_drop (k - 1) a.loops (distinct_front (form_variables_of a.loops) a.symbols known.distinct)) (same_length xs mine) from in
         record { ι = ι; within = λ l h. let b = bounded_by xs 1 mine is ι are from l (order.into l h) in let low = b.0 in let high = b.1 in (low, omega (arith, high)); are = are }
 
-    at_member : (f g : Loop → ℕ) (ls : List Loop) → map f ls ≡ map g ls → (l : Loop) → Contains ls l → f l ≡ g l
+    at_member : (f g : FormLoop → ℕ) (ls : List FormLoop) → map f ls ≡ map g ls → (l : FormLoop) → Contains ls l → f l ≡ g l
     at_member f g [] e l c = absurd (nowhere l c)
     at_member f g (m ∷ ls) e l c =
         let first : f m ≡ g m = cc in
@@ -328,16 +330,16 @@ module _ (d : Dialect) (bits : d.bits ≡ 31) (a : Surroundings) (k : ℕ) (s : 
         by first (cases_of m ls l c) (at_member f g ls others l)
       where
         by : f m ≡ g m → (m ≡ l) ⊎ Contains ls l → (Contains ls l → f l ≡ g l) → f l ≡ g l
-        by p (inl q) more = subst (λ (i : Loop). f i ≡ g i) q p
+        by p (inl q) more = subst (λ (i : FormLoop). f i ≡ g i) q p
         by p (inr h) more = more h
 
-    same_on : (ι κ : List ℕ → ℕ) → In ι → In κ → spots ι ≡ spots κ → (ls : List Loop) → ((l : Loop) → Contains ls l → Contains D l) → iterations ι ls ≡ iterations κ ls
+    same_on : (ι κ : List ℕ → ℕ) → In ι → In κ → spots ι ≡ spots κ → (ls : List FormLoop) → ((l : FormLoop) → Contains ls l → Contains D l) → iterations ι ls ≡ iterations κ ls
     same_on ι κ v w e [] h = refl
     same_on ι κ v w e (l ∷ ls) h =
         let c = h l (here l ls) in
         let low = (v l c).0 in
         let low' = (w l c).0 in
-        let same = at_member (λ (m : Loop). ι m.variable - 1) (λ (m : Loop). κ m.variable - 1) D e l c in
+        let same = at_member (λ (m : FormLoop). ι m.variable - 1) (λ (m : FormLoop). κ m.variable - 1) D e l c in
         ap₂ (λ (i : ℕ) (is : List ℕ). i ∷ is) (omega (arith, low, low', same)) (same_on ι κ v w e ls (λ m g. h m (there l ls m g)))
 
     pair_same : (c c' : Cell) (v v' : Value) → ◌≡◌ {A = Result (Option (Cell × Value)) Fault} (Ok (Some (c, v))) (Ok (Some (c', v'))) → (c ≡ c') × (v ≡ v')
@@ -420,9 +422,9 @@ module _ (d : Dialect) (bits : d.bits ≡ 31) (a : Surroundings) (k : ℕ) (s : 
     shape =
         ap₂ (λ (rm : Result (Elements Value) Fault) (ra : Result (List Axis) Fault). do m ← rm; axes ← ra; ns ← conform m.extents (extents_of axes); g ← array_of d R s; conform ns g.extents) M_values.known L_axes
         ∙ (ap (λ (r : Result (List ℕ) Fault). do ns ← r; g ← array_of d R s; conform ns g.extents)
-        (ap₂ conform M_values.extents L_extents ∙ (conforming (has_none (loops_among D (names_in guard))) false (counts_of xs D) ∙ whole (has_none (loops_among D (names_in guard)))))
+        (ap₂ conform M_values.extents L_extents ∙ (conforming (has_no_loop (loops_among D (names_in guard))) false (counts_of xs D) ∙ whole (has_no_loop (loops_among D (names_in guard)))))
         ∙ (ap (λ (r : Result (Elements Value) Fault). do g ← r; conform (counts_of xs D) g.extents) R_values.known
-        ∙ (ap (conform (counts_of xs D)) R_values.extents ∙ conforming false (has_none (loops_among D (names_in right))) (counts_of xs D))))
+        ∙ (ap (conform (counts_of xs D)) R_values.extents ∙ conforming false (has_no_loop (loops_among D (names_in right))) (counts_of xs D))))
       where
         whole : (b : Bool) → ◌≡◌ {A = Result (List ℕ) Fault} (Ok (cond (b && false) [] (counts_of xs D))) (Ok (counts_of xs D))
         whole true = refl
@@ -467,34 +469,34 @@ module _ (d : Dialect) (bits : d.bits ≡ 31) (a : Surroundings) (k : ℕ) (s : 
 
 -- ---- the whole
 
-abbrev pub masked_form_of : Surroundings → ℕ → ℕ → Option Mark → Expression → Reference → Expression → Block
-masked_form_of a k line mark guard left right = guarded_by line (tests_of (names_of a) (loops_from a k))
+abbrev pub masked_form_of : FormSurroundings → ℕ → ℕ → Option Mark → Expression → Reference → Expression → Block
+masked_form_of a k line mark guard left right = guarded_by line (form_tests_of (form_names_of a) (loops_from a k))
     (statement (Where line mark (form a (loops_assigned a k left) guard) (left_form a k left) (right_form a k left right)) no_statements)
 
-module _ (a : Surroundings) (k line : ℕ) (mark : Option Mark) (guard : Expression) (s : State) (t : Store) (xs : List ℤ) (known : AreKnown a s.store xs) (turns : (l : Loop) → Contains (loops_from a k) l → Turns a xs l) (some : has_none (loops_from a k) ≡ false) where
+module _ (width : Width) (a : FormSurroundings) (k line : ℕ) (mark : Option Mark) (guard : Expression) (s : State) (t : Store) (xs : List ℤ) (known : AreKnown a s.store xs) (turns : (l : FormLoop) → Contains (loops_from a k) l → Turns a xs l) (some : has_no_loop (loops_from a k) ≡ false) where
   abbrev Result_of : Reference → Expression → Type 0
-  Result_of left right = (n : ℕ) × (does_all fortran90 None (masked_form_of a k line mark guard left right) (ready s) ≡ record s { store = t; steps = n; way = Going })
+  Result_of left right = (n : ℕ) × (does_all (fortran90 width) None (masked_form_of a k line mark guard left right) (ready s) ≡ record s { store = t; steps = n; way = Going })
 
   with_subscripts : (x : List ℕ) (e : Expression) (ps : Subscripts) (right : Expression) → let left : Reference = record { name = x; subscripts = subscript (Only e) ps } in unguarded_hold a k left ≡ None
       → are_moved a (loops_assigned a k left) (subscript (Only e) ps) ≡ true → is_regular a (loops_assigned a k left) guard ≡ true → is_regular a (loops_assigned a k left) right ≡ true
-      → HasValues fortran90 xs (loops_assigned a k left) (Named x (subscript (Only e) ps)) s.store → ReferencesHaveValues fortran90 xs (loops_assigned a k left) right s.store
-      → NoneReadsWritten [] (guarded_from fortran90 a k xs (Some guard) left right) s.store
-      → in_turn (guarded_from fortran90 a k xs (Some guard) left right) s.store ≡ Ok t → Result_of left right
+      → HasValues (fortran90 width) xs (loops_assigned a k left) (Named x (subscript (Only e) ps)) s.store → ReferencesHaveValues (fortran90 width) xs (loops_assigned a k left) right s.store
+      → NoneReadsWritten [] (guarded_from (fortran90 width) a k xs (Some guard) left right) s.store
+      → in_turn (guarded_from (fortran90 width) a k xs (Some guard) left right) s.store ≡ Ok t → Result_of left right
   with_subscripts x e ps right no_hold moved regular_guard regular hl hr none run =
-      let w = written fortran90 refl a k s.store xs known turns x e ps guard right no_hold moved t regular_guard regular hl hr none run in
+      let w = written (fortran90 width) (narrowest width) a k s.store xs known turns x e ps guard right no_hold moved t regular_guard regular hl hr none run in
       let left : Reference = record { name = x; subscripts = subscript (Only e) ps } in
       let mask = form a (loops_assigned a k left) guard in
-      let g = block_done fortran90 a line (statement (Where line mark mask (left_form a k left) (right_form a k left right)) no_statements) s xs known (loops_from a k) turns in (
+      let g = block_done (fortran90 width) a line (statement (Where line mark mask (left_form a k left) (right_form a k left right)) no_statements) s xs known (loops_from a k) turns in (
         g.0 + 1 + length w.writes,
-        g.1 ∙ (where_stores fortran90 line mark mask (right_form a k left right) (left_form a k left) (ready (record s { steps = g.0 })) w.writes refl refl w.writes_known
+        g.1 ∙ (where_stores (fortran90 width) line mark mask (right_form a k left right) (left_form a k left) (ready (record s { steps = g.0 })) w.writes refl refl w.writes_known
             ∙ ap (λ (u : Store). let r : State = record s { store = u; steps = g.0 + 1 + length w.writes; way = Going } in r) w.are),
       )
 
   pub stores_masked : (left : Reference) (right : Expression) → unguarded_hold a k left ≡ None → are_moved a (loops_assigned a k left) left.subscripts ≡ true
       → is_regular a (loops_assigned a k left) guard ≡ true → is_regular a (loops_assigned a k left) right ≡ true
-      → HasValues fortran90 xs (loops_assigned a k left) (Named left.name left.subscripts) s.store → ReferencesHaveValues fortran90 xs (loops_assigned a k left) right s.store
-      → NoneReadsWritten [] (guarded_from fortran90 a k xs (Some guard) left right) s.store
-      → in_turn (guarded_from fortran90 a k xs (Some guard) left right) s.store ≡ Ok t → Result_of left right
+      → HasValues (fortran90 width) xs (loops_assigned a k left) (Named left.name left.subscripts) s.store → ReferencesHaveValues (fortran90 width) xs (loops_assigned a k left) right s.store
+      → NoneReadsWritten [] (guarded_from (fortran90 width) a k xs (Some guard) left right) s.store
+      → in_turn (guarded_from (fortran90 width) a k xs (Some guard) left right) s.store ≡ Ok t → Result_of left right
   stores_masked left right no_hold moved regular_guard regular hl hr none run = by left.subscripts refl
     where
       again : (qs : Subscripts) → left.subscripts ≡ qs → left ≡ record { name = left.name; subscripts = qs }
@@ -510,7 +512,7 @@ module _ (a : Surroundings) (k line : ℕ) (mark : Option Mark) (guard : Express
           (subst (λ (r : Reference). are_moved a (loops_assigned a k r) r.subscripts ≡ true) same moved)
           (subst (λ (r : Reference). is_regular a (loops_assigned a k r) guard ≡ true) same regular_guard)
           (subst (λ (r : Reference). is_regular a (loops_assigned a k r) right ≡ true) same regular)
-          (subst (λ (r : Reference). HasValues fortran90 xs (loops_assigned a k r) (Named r.name r.subscripts) s.store) same hl)
-          (subst (λ (r : Reference). ReferencesHaveValues fortran90 xs (loops_assigned a k r) right s.store) same hr)
-          (subst (λ (r : Reference). NoneReadsWritten [] (guarded_from fortran90 a k xs (Some guard) r right) s.store) same none)
-          (subst (λ (r : Reference). in_turn (guarded_from fortran90 a k xs (Some guard) r right) s.store ≡ Ok t) same run))
+          (subst (λ (r : Reference). HasValues (fortran90 width) xs (loops_assigned a k r) (Named r.name r.subscripts) s.store) same hl)
+          (subst (λ (r : Reference). ReferencesHaveValues (fortran90 width) xs (loops_assigned a k r) right s.store) same hr)
+          (subst (λ (r : Reference). NoneReadsWritten [] (guarded_from (fortran90 width) a k xs (Some guard) r right) s.store) same none)
+          (subst (λ (r : Reference). in_turn (guarded_from (fortran90 width) a k xs (Some guard) r right) s.store ≡ Ok t) same run))

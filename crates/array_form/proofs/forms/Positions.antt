@@ -9,7 +9,7 @@ use Rattle.meaning.specs.ArrayValues.{counted, positions}
 use Rattle.meaning_laws.proofs.arrays.Members.{here, there, nowhere, cases_of, in_map, of_map}
 use Rattle.meaning_laws.proofs.arrays.OneToOne.{of_flat_map}
 use Rattle.array_form.specs.forms.Instances.{in_sequence}
-use Rattle.array_form.specs.forms.Loops.{Loop, variables_of, is_among}
+use Rattle.array_form.specs.forms.Loops.{FormLoop, form_variables_of, is_among}
 use Rattle.array_form.specs.forms.Trips.{AreDistinct}
 use Rattle.array_form.proofs.forms.Iterations.{iterations}
 
@@ -87,13 +87,13 @@ from_sequence (n ∷ ns) (i ∷ is) h =
 
 -- ---- iterations by the names of the loops
 
-abbrev pub iteration_of : List Loop → List ℕ → List ℕ → ℕ
+abbrev pub iteration_of : List FormLoop → List ℕ → List ℕ → ℕ
 iteration_of [] is x = 1
 iteration_of (l ∷ ls) [] x = 1
 iteration_of (l ∷ ls) (i ∷ is) x = cond (bytes_eq l.variable x) i (iteration_of ls is x)
 
 -- other names don't matter
-others_same : (l : Loop) (i : ℕ) (ls ms : List Loop) (is : List ℕ) → is_among (variables_of ms) l.variable ≡ false → iterations (iteration_of (l ∷ ls) (i ∷ is)) ms ≡ iterations (iteration_of ls is) ms
+others_same : (l : FormLoop) (i : ℕ) (ls ms : List FormLoop) (is : List ℕ) → is_among (form_variables_of ms) l.variable ≡ false → iterations (iteration_of (l ∷ ls) (i ∷ is)) ms ≡ iterations (iteration_of ls is) ms
 others_same l i ls [] is h = refl
 others_same l i ls (m ∷ ms) is h = by (bytes_eq m.variable l.variable) refl h (others_same l i ls ms is)
   where
@@ -104,13 +104,13 @@ others_same l i ls (m ∷ ms) is h = by (bytes_eq m.variable l.variable) refl h 
         of false p = refl
         of true p = absurd (let bad : false ≡ true = sym e ∙ (bytes_eq-Decides m.variable l.variable).1 (sym ((bytes_eq-Decides l.variable m.variable).0 p)) in cc)
 
-    by : (b : Bool) → bytes_eq m.variable l.variable ≡ b → cond b true (is_among (variables_of ms) l.variable) ≡ false
-        → (is_among (variables_of ms) l.variable ≡ false → iterations (iteration_of (l ∷ ls) (i ∷ is)) ms ≡ iterations (iteration_of ls is) ms)
+    by : (b : Bool) → bytes_eq m.variable l.variable ≡ b → cond b true (is_among (form_variables_of ms) l.variable) ≡ false
+        → (is_among (form_variables_of ms) l.variable ≡ false → iterations (iteration_of (l ∷ ls) (i ∷ is)) ms ≡ iterations (iteration_of ls is) ms)
         → cond (bytes_eq l.variable m.variable) i (iteration_of ls is m.variable) ∷ iterations (iteration_of (l ∷ ls) (i ∷ is)) ms ≡ iteration_of ls is m.variable ∷ iterations (iteration_of ls is) ms
     by true e h more = absurd cc
     by false e h more = ap₂ (λ (x : ℕ) (xs : List ℕ). x ∷ xs) (ap (λ b. cond b i (iteration_of ls is m.variable)) (other_way e)) (more h)
 
-pub iterations_are : (low : ℕ) (ls : List Loop) (ns is : List ℕ) → AreDistinct (variables_of ls) → length ns ≡ length ls → AreFrom low ns is → iterations (iteration_of ls is) ls ≡ is
+pub iterations_are : (low : ℕ) (ls : List FormLoop) (ns is : List ℕ) → AreDistinct (form_variables_of ls) → length ns ≡ length ls → AreFrom low ns is → iterations (iteration_of ls is) ls ≡ is
 iterations_are low [] [] [] d e h = refl
 iterations_are low [] [] (i ∷ is) d e h = absurd h
 iterations_are low [] (n ∷ ns) is d e h = absurd (omega (arith, e))

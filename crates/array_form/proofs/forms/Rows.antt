@@ -9,31 +9,32 @@ use Rattle.tree.specs.declared.ops.Fault.{Fault}
 use Rattle.tree.specs.declared.ops.Value.{Value}
 use Rattle.tree.specs.declared.ops.Value.TheVariants.{Int}
 use Rattle.meaning.specs.Dialect.{fortran90}
+use Rattle.tree.specs.declared.width.Width.TheVariants.{Plain}
 use Rattle.meaning.specs.Store.{Store}
 use Rattle.meaning.proofs.DeckWords.{n, v, at, part, to_part, to_element, name, cell}
 use Rattle.meaning_laws.specs.arrays.Instances.{in_turn}
 use Rattle.array_form.specs.forms.Instances.{in_sequence, instances_of}
-use Rattle.array_form.specs.forms.Loops.{Trip, Loop, Surroundings}
+use Rattle.array_form.specs.forms.Loops.{FormTrip, FormLoop, FormSurroundings}
 use Rattle.array_form.specs.forms.Statements.{FormHold, TriangleHold, BoundsHold, hold_at, unguarded_hold, array_form_of}
 
 -- ---- words
 
-abbrev to_trip : List ℤ → ℤ → Trip
+abbrev to_trip : List ℤ → ℤ → FormTrip
 to_trip cs c = record { form = record { coefficients = cs; constant = c }; divisor = 1 }
 
-abbrev around : String → List ℤ → ℤ → Loop
+abbrev around : String → List ℤ → ℤ → FormLoop
 around x cs c = record { variable = name x; trip = to_trip cs c }
 
-abbrev through : String → ℕ → Loop
+abbrev through : String → ℕ → FormLoop
 through x k = around x [] (pos k)
 
-abbrev within : List Loop → Surroundings
+abbrev within : List FormLoop → FormSurroundings
 within ls = record { loops = ls; symbols = name "N" ∷ []; may_spread = true }
 
-abbrev without_spread : List Loop → Surroundings
+abbrev without_spread : List FormLoop → FormSurroundings
 without_spread ls = record { loops = ls; symbols = name "N" ∷ []; may_spread = false }
 
-abbrev assigned : Surroundings → ℕ → Reference → Expression → Block
+abbrev assigned : FormSurroundings → ℕ → Reference → Expression → Block
 assigned a k left right = array_form_of a k 7 None None left right
 
 abbrev alone : Reference → Expression → Block
@@ -59,7 +60,7 @@ stride_below_nought : assigned (within (through "I" 4 ∷ [])) 1 (to_element "A"
 stride_below_nought = refl
 
 -- A(I,J) = B(J,I) + C(I) is A(1:3, 1:2) = TRANSPOSE(B(1:2, 1:3)) + SPREAD(C(1:3), 2, 2)
-abbrev three_by_two : List Loop
+abbrev three_by_two : List FormLoop
 three_by_two = through "I" 3 ∷ through "J" 2 ∷ []
 
 exchange : assigned (within three_by_two) 1 (to_element "A" (v "I" ∷ v "J" ∷ [])) (Binary Add (at "B" (v "J" ∷ v "I" ∷ [])) (at "C" (v "I" ∷ [])))
@@ -96,7 +97,7 @@ two_loops_in_a_subscript : assigned (within three_by_two) 1 (to_element "A" (v "
 two_loops_in_a_subscript = refl
 
 -- G(I,J,L) = H(I,L) + Q(L), for I to 3, J to 2 and L to 4
-abbrev three_loops : List Loop
+abbrev three_loops : List FormLoop
 three_loops = through "I" 3 ∷ through "J" 2 ∷ through "L" 4 ∷ []
 
 missing_loops : assigned (within three_loops) 1 (to_element "G" (v "I" ∷ v "J" ∷ v "L" ∷ [])) (Binary Add (at "H" (v "I" ∷ v "L" ∷ [])) (at "Q" (v "L" ∷ [])))
@@ -141,7 +142,7 @@ past_the_limits = refl
 
 -- ---- under a guard
 
-abbrev under : Surroundings → ℕ → Expression → Reference → Expression → Block
+abbrev under : FormSurroundings → ℕ → Expression → Reference → Expression → Block
 under a k guard left right = array_form_of a k 7 None (Some guard) left right
 
 -- A(I) = B(I) / C(I) under C(I) /= 0
@@ -221,7 +222,7 @@ tens = record { bounds = λ x. if bytes_eq x (name "A") then Some ((pos 1, pos 4
 
 abbrev held_in_turn : Reference → Expression → Result (List Value) Fault
 held_in_turn left right = do
-  s ← in_turn (instances_of fortran90 (through "I" 3 ∷ []) (3 ∷ []) left right) tens
+  s ← in_turn (instances_of (fortran90 Plain) (through "I" 3 ∷ []) (3 ∷ []) left right) tens
   Ok (map (λ z. s.held (cell "A" (z ∷ []))) (pos 1 ∷ pos 2 ∷ pos 3 ∷ pos 4 ∷ []))
 
 abbrev values : List ℕ → List Value

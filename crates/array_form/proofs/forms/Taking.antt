@@ -21,11 +21,11 @@ use Rattle.meaning_laws.proofs.arrays.Sections.{section_of, element_of_section}
 use Rattle.meaning_laws.proofs.arrays.Stages.{bound, same_answer}
 use Rattle.linear_forms.specs.Linear.{Form, HaveValues, form_of}
 use Rattle.linear_forms.proofs.Sizes.{both}
-use Rattle.array_form.specs.forms.Following.{has_none, is_moved, is_regular, are_regular, are_regular_subscripts}
-use Rattle.array_form.specs.forms.Forms.{placed, constructed, name_form, form, forms, subscript_forms}
+use Rattle.array_form.specs.forms.Following.{has_no_loop, is_moved, is_regular, are_regular, are_regular_subscripts}
+use Rattle.array_form.specs.forms.Forms.{placed_expression, constructed, name_form, form, forms, subscript_forms}
 use Rattle.array_form.specs.forms.Instances.{at_iterations, count_of, counts_of}
 use Rattle.array_form.specs.forms.Laws.{AreKnown, AreTurning, FormHasInstanceValues}
-use Rattle.array_form.specs.forms.Loops.{Loop, Surroundings, variables_of, names_of, is_among, loops_among}
+use Rattle.array_form.specs.forms.Loops.{FormLoop, FormSurroundings, form_variables_of, form_names_of, is_among, loops_among}
 use Rattle.array_form.specs.forms.Loops.{loops_in_order, one_each}
 use Rattle.array_form.specs.forms.Trips.{AreDistinct}
 use Rattle.array_form.proofs.forms.Axes as axes
@@ -46,34 +46,34 @@ scalar_name (y ∷ ys) s (v ∷ xs) x h e = by (bytes_eq y x) refl e (scalar_nam
     by true p e more = ap s.bounds (sym ((bytes_eq-Decides y x).0 p)) ∙ h.0
     by false p e more = more e
 
-none_in_order : (D : List Loop) (ps : Subscripts) → has_none (loops_in_order D ps) ≡ has_none (loops_among D (names_in_subscripts ps))
+none_in_order : (D : List FormLoop) (ps : Subscripts) → has_no_loop (loops_in_order D ps) ≡ has_no_loop (loops_among D (names_in_subscripts ps))
 none_in_order D no_subscripts = sym (nothing D)
   where
-    nothing : (ls : List Loop) → has_none (loops_among ls []) ≡ true
+    nothing : (ls : List FormLoop) → has_no_loop (loops_among ls []) ≡ true
     nothing [] = refl
     nothing (l ∷ ls) = nothing ls
-none_in_order D (subscript p ps) = of_both (loops_among D (names_in_subscript p)) (loops_in_order D ps) ∙ (ap (λ b. has_none (loops_among D (names_in_subscript p)) && b) (none_in_order D ps) ∙ sym (none_append D (names_in_subscript p) (names_in_subscripts ps)))
+none_in_order D (subscript p ps) = of_both (loops_among D (names_in_subscript p)) (loops_in_order D ps) ∙ (ap (λ b. has_no_loop (loops_among D (names_in_subscript p)) && b) (none_in_order D ps) ∙ sym (none_append D (names_in_subscript p) (names_in_subscripts ps)))
   where
-    of_both : (ls ms : List Loop) → has_none (ls ++ ms) ≡ (has_none ls && has_none ms)
+    of_both : (ls ms : List FormLoop) → has_no_loop (ls ++ ms) ≡ (has_no_loop ls && has_no_loop ms)
     of_both [] ms = refl
     of_both (l ∷ ls) ms = refl
 
-first_loop : (ls : List Loop) → has_none ls ≡ false → (l : Loop) × Contains ls l
+first_loop : (ls : List FormLoop) → has_no_loop ls ≡ false → (l : FormLoop) × Contains ls l
 first_loop [] h = absurd cc
 first_loop (l ∷ ls) h = (l, here l ls)
 
-no_member : (ls : List Loop) → has_none ls ≡ true → (l : Loop) → Contains ls l → ⊥
+no_member : (ls : List FormLoop) → has_no_loop ls ≡ true → (l : FormLoop) → Contains ls l → ⊥
 no_member [] h l c = nowhere l c
 no_member (m ∷ ls) h l c = absurd cc
 
-module _ (d : Dialect) (bits : d.bits ≡ 31) (a : Surroundings) (D : List Loop) (s : Store) (xs : List ℤ) (k : AreKnown a s xs) (t : AreTurning a D xs) where
+module _ (d : Dialect) (bits : 31 ≤ d.bits) (a : FormSurroundings) (D : List FormLoop) (s : Store) (xs : List ℤ) (k : AreKnown a s xs) (t : AreTurning a D xs) where
   abbrev fits : Fit d a s xs k.few k.values k.sized k.distinct D
   fits = fit d bits a D s xs k t
 
   abbrev In : (List ℕ → ℕ) → Type 0
   In ι = Within d a s xs k.few k.values k.sized k.distinct D ι
 
-  abbrev spots : (List ℕ → ℕ) → List Loop → List ℕ
+  abbrev spots : (List ℕ → ℕ) → List FormLoop → List ℕ
   spots ι ls = places d a s xs k.few k.values k.sized k.distinct ι ls
 
   abbrev Safe : Expression → Type 0
@@ -82,7 +82,7 @@ module _ (d : Dialect) (bits : d.bits ≡ 31) (a : Surroundings) (D : List Loop)
   abbrev Has : Expression → Expression → Type 0
   Has e F = Takes d a s xs k.few k.values k.sized k.distinct D e F
 
-  abbrev OverThese : List Loop → Expression → ((List ℕ → ℕ) → Value) → Type 0
+  abbrev OverThese : List FormLoop → Expression → ((List ℕ → ℕ) → Value) → Type 0
   OverThese ls F V = Over d bits a D s xs k t ls F V
 
   abbrev pub Vecs : Subscripts → Type 0
@@ -92,7 +92,7 @@ module _ (d : Dialect) (bits : d.bits ≡ 31) (a : Surroundings) (D : List Loop)
   value e = value_there d bits a D s xs k t e
 
   abbrev no_loops_in : Expression → Bool
-  no_loops_in e = has_none (loops_among D (names_in e))
+  no_loops_in e = has_no_loop (loops_among D (names_in e))
 
   from_over : (e F : Expression) → Safe e → no_loops_in e ≡ false → OverThese D F (value e) → Has e F
   from_over e F safe some o = record {
@@ -103,12 +103,12 @@ module _ (d : Dialect) (bits : d.bits ≡ 31) (a : Surroundings) (D : List Loop)
     at = λ ι w. o.at ι w ∙ sym (has_value d bits a D s xs k t e safe ι w);
   }
 
-  some_D : (names : List (List ℕ)) → has_none (loops_among D names) ≡ false → has_none D ≡ false
-  some_D names h = by (has_none D) refl
+  some_D : (names : List (List ℕ)) → has_no_loop (loops_among D names) ≡ false → has_no_loop D ≡ false
+  some_D names h = by (has_no_loop D) refl
     where
-      by : (b : Bool) → has_none D ≡ b → b ≡ false
+      by : (b : Bool) → has_no_loop D ≡ b → b ≡ false
       by false e = refl
-      by true e = let l = first_loop (loops_among D names) h in absurd (no_member D e l.0 (of_filter (λ (m : Loop). is_among names m.variable) D l.0 l.1).0)
+      by true e = let l = first_loop (loops_among D names) h in absurd (no_member D e l.0 (of_filter (λ (m : FormLoop). is_among names m.variable) D l.0 l.1).0)
 
   -- ---- an element whose subscripts have one loop each at most
 
@@ -120,7 +120,7 @@ module _ (d : Dialect) (bits : d.bits ≡ 31) (a : Surroundings) (D : List Loop)
     abbrev formed : Subscripts
     formed = subscript_forms a D whole
 
-    abbrev ls : List Loop
+    abbrev ls : List FormLoop
     ls = loops_in_order D whole
 
     abbrev picked : axes.SelectsAll d a s xs k.few k.values k.sized k.distinct D whole formed bs ls
@@ -130,16 +130,16 @@ module _ (d : Dialect) (bits : d.bits ≡ 31) (a : Surroundings) (D : List Loop)
     there' = axes.axes_there d a s xs k.few k.values k.sized k.distinct D fits x e ps bs bounds one moves vectors safe
 
     -- the array is no loop variable
-    has_some : no_loops_in (Named x whole) ≡ false → has_none ls ≡ false
-    has_some h = by (has_none ls) refl
+    has_some : no_loops_in (Named x whole) ≡ false → has_no_loop ls ≡ false
+    has_some h = by (has_no_loop ls) refl
       where
-        by : (b : Bool) → has_none ls ≡ b → b ≡ false
+        by : (b : Bool) → has_no_loop ls ≡ b → b ≡ false
         by false p = refl
         by true p =
             let ι : List ℕ → ℕ = λ y. 1 in
             let l = first_loop (loops_among D (names_in (Named x whole))) h in
-            let m = of_filter (λ (n : Loop). is_among (names_in (Named x whole)) n.variable) D l.0 l.1 in
-            let none : has_none (loops_among D (names_in_subscripts whole)) ≡ true = sym (none_in_order D whole) ∙ p in
+            let m = of_filter (λ (n : FormLoop). is_among (names_in (Named x whole)) n.variable) D l.0 l.1 in
+            let none : has_no_loop (loops_among D (names_in_subscripts whole)) ≡ true = sym (none_in_order D whole) ∙ p in
             let el = axes.element d a s xs k.few k.values k.sized k.distinct D fits x e ps bs bounds one moves vectors safe ι (axes.firsts d a s xs k.few k.values k.sized k.distinct D fits) in
             let i = bound (subscript_value d (Only e) (at_those ι D s)) (λ i. do is ← subscript_values d ps (at_those ι D s); Ok (i ∷ is)) el.numbers el.known in
             let is = bound (subscript_values d ps (at_those ι D s)) (λ is. Ok (i.0 ∷ is)) el.numbers i.2 in
@@ -149,12 +149,12 @@ module _ (d : Dialect) (bits : d.bits ≡ 31) (a : Surroundings) (D : List Loop)
             empty z zs [] q w = absurd (let bad : false ≡ true = w in cc)
             empty z zs (c ∷ cs) q w = absurd cc
 
-            either_name : (l : Loop) → Contains D l → (z : ℤ) (zs : List ℤ) → has_none (loops_among D (names_in_subscripts whole)) ≡ true → (x ≡ l.variable) ⊎ Contains (names_in_subscripts whole) l.variable → is_within bs (z ∷ zs) ≡ true → true ≡ false
+            either_name : (l : FormLoop) → Contains D l → (z : ℤ) (zs : List ℤ) → has_no_loop (loops_among D (names_in_subscripts whole)) ≡ true → (x ≡ l.variable) ⊎ Contains (names_in_subscripts whole) l.variable → is_within bs (z ∷ zs) ≡ true → true ≡ false
             either_name l c z zs none (inl q) w =
-                let known : ◌≡◌ {A = Option (List (ℤ × ℤ))} (Some bs) (Some []) = sym bounds ∙ (ap s.bounds q ∙ scalar_name (names_of a) s xs l.variable k.values (fits.among l c)) in
+                let known : ◌≡◌ {A = Option (List (ℤ × ℤ))} (Some bs) (Some []) = sym bounds ∙ (ap s.bounds q ∙ scalar_name (form_names_of a) s xs l.variable k.values (fits.among l c)) in
                 let same : bs ≡ [] = cc in
                 empty z zs bs (sym same) w
-            either_name l c z zs none (inr g) w = absurd (no_member (loops_among D (names_in_subscripts whole)) none l (in_filter (λ (n : Loop). is_among (names_in_subscripts whole) n.variable) D l c (among (names_in_subscripts whole) l.variable g)))
+            either_name l c z zs none (inr g) w = absurd (no_member (loops_among D (names_in_subscripts whole)) none l (in_filter (λ (n : FormLoop). is_among (names_in_subscripts whole) n.variable) D l c (among (names_in_subscripts whole) l.variable g)))
 
     element_over : no_loops_in (Named x whole) ≡ false → OverThese ls (Named x formed) (value (Named x whole))
     element_over some = record {
@@ -174,14 +174,14 @@ module _ (d : Dialect) (bits : d.bits ≡ 31) (a : Surroundings) (D : List Loop)
   reference_over : (x : List ℕ) (ps : Subscripts) → no_loops_in (Named x ps) ≡ false → (not (one_each D ps) || are_regular_subscripts a D ps) ≡ true → (are_regular_subscripts a D ps ≡ true → Vecs ps) → Safe (Named x ps) → OverThese D (form a D (Named x ps)) (value (Named x ps))
   reference_over x no_subscripts some h vectors safe = by (loops_among D (x ∷ [])) refl some
     where
-      among_these : (ls : List Loop) → loops_among D (x ∷ []) ≡ ls → (l : Loop) → Contains ls l → Contains D l
-      among_these ls e l c = (of_filter (λ (m : Loop). is_among (x ∷ []) m.variable) D l (subst (λ ms. Contains ms l) (sym e) c)).0
+      among_these : (ls : List FormLoop) → loops_among D (x ∷ []) ≡ ls → (l : FormLoop) → Contains ls l → Contains D l
+      among_these ls e l c = (of_filter (λ (m : FormLoop). is_among (x ∷ []) m.variable) D l (subst (λ ms. Contains ms l) (sym e) c)).0
 
-      by : (ls : List Loop) → loops_among D (x ∷ []) ≡ ls → has_none ls ≡ false → OverThese D (name_form a D ls x no_subscripts no_subscripts) (value (Named x no_subscripts))
+      by : (ls : List FormLoop) → loops_among D (x ∷ []) ≡ ls → has_no_loop ls ≡ false → OverThese D (name_form a D ls x no_subscripts no_subscripts) (value (Named x no_subscripts))
       by [] e h = absurd cc
       by (l ∷ ls) e h =
-          placed_over d bits a D s xs k t (l ∷ ls) (constructed (names_of a) (l ∷ ls) (Named x no_subscripts)) (Named x no_subscripts) (among_these (l ∷ ls) e) safe (some_D (x ∷ []) some)
-          (constructed_over d bits a D s xs k t (l ∷ ls) (among_these (l ∷ ls) e) (subst (λ ms. AreDistinct (variables_of ms)) e (filter_distinct (λ (m : Loop). is_among (x ∷ []) m.variable) D t.once)) (Named x no_subscripts) safe
+          placed_over d bits a D s xs k t (l ∷ ls) (constructed (form_names_of a) (l ∷ ls) (Named x no_subscripts)) (Named x no_subscripts) (among_these (l ∷ ls) e) safe (some_D (x ∷ []) some)
+          (constructed_over d bits a D s xs k t (l ∷ ls) (among_these (l ∷ ls) e) (subst (λ ms. AreDistinct (form_variables_of ms)) e (filter_distinct (λ (m : FormLoop). is_among (x ∷ []) m.variable) D t.once)) (Named x no_subscripts) safe
           (λ ι. ap (λ ms. value_of d (Named x no_subscripts) (at_those ι ms s)) (sym e) ∙ sym (value_part ι d D (Named x no_subscripts) s)) refl)
   reference_over x (subscript p ps) some h vectors safe =
       subst (λ F. OverThese D F (value (Named x whole))) (sym (by_loops (loops_among D (names_in (Named x whole))) some)) (by (one_each D whole) refl h)
@@ -189,13 +189,13 @@ module _ (d : Dialect) (bits : d.bits ≡ 31) (a : Surroundings) (D : List Loop)
       whole : Subscripts
       whole = subscript p ps
 
-      by_loops : (ls : List Loop) → has_none ls ≡ false → name_form a D ls x (subscript p ps) (subscript_forms a D (subscript p ps))
-          ≡ cond (one_each D (subscript p ps)) (placed a D (loops_in_order D (subscript p ps)) (Named x (subscript_forms a D (subscript p ps))) (Named x (subscript p ps))) (constructed (names_of a) D (Named x (subscript p ps)))
+      by_loops : (ls : List FormLoop) → has_no_loop ls ≡ false → name_form a D ls x (subscript p ps) (subscript_forms a D (subscript p ps))
+          ≡ cond (one_each D (subscript p ps)) (placed_expression a D (loops_in_order D (subscript p ps)) (Named x (subscript_forms a D (subscript p ps))) (Named x (subscript p ps))) (constructed (form_names_of a) D (Named x (subscript p ps)))
       by_loops [] h = absurd cc
       by_loops (l ∷ ls) h = refl
 
       by : (b : Bool) → one_each D (subscript p ps) ≡ b → (not b || are_regular_subscripts a D (subscript p ps)) ≡ true
-          → OverThese D (cond b (placed a D (loops_in_order D (subscript p ps)) (Named x (subscript_forms a D (subscript p ps))) (Named x (subscript p ps))) (constructed (names_of a) D (Named x (subscript p ps)))) (value (Named x (subscript p ps)))
+          → OverThese D (cond b (placed_expression a D (loops_in_order D (subscript p ps)) (Named x (subscript_forms a D (subscript p ps))) (Named x (subscript p ps))) (constructed (form_names_of a) D (Named x (subscript p ps)))) (value (Named x (subscript p ps)))
       by false e h = constructed_over d bits a D s xs k t D (λ l c. c) t.once (Named x (subscript p ps)) safe (λ ι. refl) (some_D (names_in (Named x (subscript p ps))) some)
       by true e h =
           placed_over d bits a D s xs k t (loops_in_order D (subscript p ps)) (Named x (subscript_forms a D (subscript p ps))) (Named x (subscript p ps)) (all_of_mine D (subscript p ps)) safe (some_D (names_in (Named x (subscript p ps))) some) (plain p refl e h)
@@ -232,7 +232,7 @@ module _ (d : Dialect) (bits : d.bits ≡ 31) (a : Surroundings) (D : List Loop)
   reference : (x : List ℕ) (ps : Subscripts) → (no_loops_in (Named x ps) || (not (one_each D ps) || are_regular_subscripts a D ps)) ≡ true → (are_regular_subscripts a D ps ≡ true → Vecs ps) → Safe (Named x ps) → Has (Named x ps) (form a D (Named x ps))
   reference x ps h vectors safe = by (or_cases (no_loops_in (Named x ps)) ((not (one_each D ps) || are_regular_subscripts a D ps)) h)
     where
-      without_loops : (ls : List Loop) → has_none ls ≡ true → name_form a D ls x ps (subscript_forms a D ps) ≡ Named x ps
+      without_loops : (ls : List FormLoop) → has_no_loop ls ≡ true → name_form a D ls x ps (subscript_forms a D ps) ≡ Named x ps
       without_loops [] e = refl
       without_loops (l ∷ ls) e = absurd cc
 
@@ -241,7 +241,7 @@ module _ (d : Dialect) (bits : d.bits ≡ 31) (a : Surroundings) (D : List Loop)
       by (inr some) = from_over (Named x ps) (form a D (Named x ps)) safe some.0 (reference_over x ps some.0 some.1 vectors safe)
 
   -- a subscript of one loop by its form
-  vector : (l : Loop) → Contains D l → (e : Expression) → loops_among D (names_in e) ≡ l ∷ [] → Takes d a s xs k.few k.values k.sized k.distinct (l ∷ []) e (form a (l ∷ []) e) → axes.IsVector d a s xs k.few k.values k.sized k.distinct l e (form a (l ∷ []) e)
+  vector : (l : FormLoop) → Contains D l → (e : Expression) → loops_among D (names_in e) ≡ l ∷ [] → Takes d a s xs k.few k.values k.sized k.distinct (l ∷ []) e (form a (l ∷ []) e) → axes.IsVector d a s xs k.few k.values k.sized k.distinct l e (form a (l ∷ []) e)
   vector l c e only_one h = record {
     array = h.array;
     known = h.known;
@@ -251,23 +251,23 @@ module _ (d : Dialect) (bits : d.bits ≡ 31) (a : Surroundings) (D : List Loop)
   }
     where
       stands : is_among (names_in e) l.variable ≡ true
-      stands = (of_filter (λ (m : Loop). is_among (names_in e) m.variable) D l (subst (λ ms. Contains ms l) (sym only_one) (here l []))).1
+      stands = (of_filter (λ (m : FormLoop). is_among (names_in e) m.variable) D l (subst (λ ms. Contains ms l) (sym only_one) (here l []))).1
 
-      some : has_none (loops_among (l ∷ []) (names_in e)) ≡ false
-      some = ap (λ b. has_none (cond b (l ∷ []) [])) stands
+      some : has_no_loop (loops_among (l ∷ []) (names_in e)) ≡ false
+      some = ap (λ b. has_no_loop (cond b (l ∷ []) [])) stands
 
-      sole : (m : Loop) → Contains (l ∷ []) m → l ≡ m
+      sole : (m : FormLoop) → Contains (l ∷ []) m → l ≡ m
       sole m g = of (cases_of l [] m g)
         where
           of : (l ≡ m) ⊎ Contains [] m → l ≡ m
           of (inl q) = q
           of (inr n) = absurd (nowhere m n)
 
-      within : (i : ℕ) → i < count_of xs l → (m : Loop) → l ≡ m → (1 ≤ suc i) × (suc i ≤ count_of xs m)
-      within i low m q = (omega arith, subst (λ (n : Loop). suc i ≤ count_of xs n) q (omega (arith, low)))
+      within : (i : ℕ) → i < count_of xs l → (m : FormLoop) → l ≡ m → (1 ≤ suc i) × (suc i ≤ count_of xs m)
+      within i low m q = (omega arith, subst (λ (n : FormLoop). suc i ≤ count_of xs n) q (omega (arith, low)))
 
   -- one loop alone
-  one_turning : (l : Loop) → Contains D l → AreTurning a (l ∷ []) xs
+  one_turning : (l : FormLoop) → Contains D l → AreTurning a (l ∷ []) xs
   one_turning l c = record {
     loops = λ m g. t.loops m (to_D m g);
     once = (refl, tt);
@@ -275,7 +275,7 @@ module _ (d : Dialect) (bits : d.bits ≡ 31) (a : Surroundings) (D : List Loop)
     apart = λ m n g h ne. t.apart m n (to_D m g) (to_D n h) ne;
   }
     where
-      to_D : (m : Loop) → Contains (l ∷ []) m → Contains D m
+      to_D : (m : FormLoop) → Contains (l ∷ []) m → Contains D m
       to_D m g = of (cases_of l [] m g)
         where
           of : (l ≡ m) ⊎ Contains [] m → Contains D m
@@ -283,7 +283,7 @@ module _ (d : Dialect) (bits : d.bits ≡ 31) (a : Surroundings) (D : List Loop)
           of (inr n) = absurd (nowhere m n)
 
   -- at each iteration of its loop it has a value
-  one_safe : (l : Loop) → Contains D l → (e : Expression) → loops_among D (names_in e) ≡ l ∷ [] → Safe e → NoFault d a s xs k.few k.values k.sized k.distinct (l ∷ []) e
+  one_safe : (l : FormLoop) → Contains D l → (e : Expression) → loops_among D (names_in e) ≡ l ∷ [] → Safe e → NoFault d a s xs k.few k.values k.sized k.distinct (l ∷ []) e
   one_safe l c e only_one safe ι w =
       let b = w l (here l []) in
       let κ = axes.only d a s xs k.few k.values k.sized k.distinct l (ι l.variable) in
@@ -295,39 +295,39 @@ module _ (d : Dialect) (bits : d.bits ≡ 31) (a : Surroundings) (D : List Loop)
 
 -- ---- all of it
 
-nothing : (ls : List Loop) → has_none (loops_among ls []) ≡ true
+nothing : (ls : List FormLoop) → has_no_loop (loops_among ls []) ≡ true
 nothing [] = refl
 nothing (l ∷ ls) = nothing ls
 
-module _ (d : Dialect) (bits : d.bits ≡ 31) (a : Surroundings) (s : Store) (xs : List ℤ) (k : AreKnown a s xs) where
-  abbrev InD : List Loop → (List ℕ → ℕ) → Type 0
+module _ (d : Dialect) (bits : 31 ≤ d.bits) (a : FormSurroundings) (s : Store) (xs : List ℤ) (k : AreKnown a s xs) where
+  abbrev InD : List FormLoop → (List ℕ → ℕ) → Type 0
   InD D ι = Within d a s xs k.few k.values k.sized k.distinct D ι
 
-  abbrev SafeD : List Loop → Expression → Type 0
+  abbrev SafeD : List FormLoop → Expression → Type 0
   SafeD D e = NoFault d a s xs k.few k.values k.sized k.distinct D e
 
-  abbrev HasD : List Loop → Expression → Expression → Type 0
+  abbrev HasD : List FormLoop → Expression → Expression → Type 0
   HasD D e F = Takes d a s xs k.few k.values k.sized k.distinct D e F
 
-  abbrev SafeEach : List Loop → Expressions → Type 0
+  abbrev SafeEach : List FormLoop → Expressions → Type 0
   SafeEach D es = (ι : List ℕ → ℕ) → InD D ι → (vs : List Value) × (values_of d es (at_those ι D s) ≡ Ok vs)
 
-  abbrev SafeSubscripts : List Loop → Subscripts → Type 0
+  abbrev SafeSubscripts : List FormLoop → Subscripts → Type 0
   SafeSubscripts D ps = (ι : List ℕ → ℕ) → InD D ι → (zs : List ℤ) × (subscript_values d ps (at_those ι D s) ≡ Ok zs)
 
-  abbrev fitD : (D : List Loop) → AreTurning a D xs → Fit d a s xs k.few k.values k.sized k.distinct D
+  abbrev fitD : (D : List FormLoop) → AreTurning a D xs → Fit d a s xs k.few k.values k.sized k.distinct D
   fitD D t = fit d bits a D s xs k t
 
   -- a subscript's vector, where it needs one
-  vector_for : (D : List Loop) (t : AreTurning a D xs) (e : Expression) (hs : List Loop) → loops_among D (names_in e) ≡ hs → (o : Option Form) → is_moved a hs o (is_regular a hs e) ≡ true
-      → ((l : Loop) → hs ≡ l ∷ [] → is_regular a hs e ≡ true → HasD (l ∷ []) e (form a (l ∷ []) e)) → axes.VectorFor d a s xs k.few k.values k.sized k.distinct hs e o
+  vector_for : (D : List FormLoop) (t : AreTurning a D xs) (e : Expression) (hs : List FormLoop) → loops_among D (names_in e) ≡ hs → (o : Option Form) → is_moved a hs o (is_regular a hs e) ≡ true
+      → ((l : FormLoop) → hs ≡ l ∷ [] → is_regular a hs e ≡ true → HasD (l ∷ []) e (form a (l ∷ []) e)) → axes.VectorFor d a s xs k.few k.values k.sized k.distinct hs e o
   vector_for D t e [] p o h f = tt
   vector_for D t e (l ∷ []) p (Some g) h f = tt
-  vector_for D t e (l ∷ []) p None h f = vector d bits a D s xs k t l (of_filter (λ (m : Loop). is_among (names_in e) m.variable) D l (subst (λ ms. Contains ms l) (sym p) (here l []))).0 e p (f l refl h)
+  vector_for D t e (l ∷ []) p None h f = vector d bits a D s xs k t l (of_filter (λ (m : FormLoop). is_among (names_in e) m.variable) D l (subst (λ ms. Contains ms l) (sym p) (here l []))).0 e p (f l refl h)
   vector_for D t e (l ∷ m ∷ hs) p o h f = tt
 
   mutual
-    pub takes : (e : Expression) (D : List Loop) (t : AreTurning a D xs) → is_regular a D e ≡ true → SafeD D e → HasD D e (form a D e)
+    pub takes : (e : Expression) (D : List FormLoop) (t : AreTurning a D xs) → is_regular a D e ≡ true → SafeD D e → HasD D e (form a D e)
     takes (Number n) D t h safe = still d bits a D s xs k t (Number n) (nothing D) safe
     takes (Logic b) D t h safe = still d bits a D s xs k t (Logic b) (nothing D) safe
     takes (Named x ps) D t h safe = reference d bits a D s xs k t x ps h
@@ -349,30 +349,30 @@ module _ (d : Dialect) (bits : d.bits ≡ 31) (a : Surroundings) (s : Store) (xs
     takes (Transpose e) D t h safe = absurd cc
     takes (Reshape e es) D t h safe = absurd cc
 
-    takes_each : (es : Expressions) (D : List Loop) (t : AreTurning a D xs) (b : Bool) → are_regular a D es ≡ true → SafeEach D es → HasEach d a s xs k.few k.values k.sized k.distinct D (fitD D t) es (forms a D es) b
+    takes_each : (es : Expressions) (D : List FormLoop) (t : AreTurning a D xs) (b : Bool) → are_regular a D es ≡ true → SafeEach D es → HasEach d a s xs k.few k.values k.sized k.distinct D (fitD D t) es (forms a D es) b
     takes_each no_expressions D t b h safe = no_arguments d a s xs k.few k.values k.sized k.distinct D (fitD D t) b
     takes_each (expression e es) D t b h safe =
         let parts = both (is_regular a D e) (are_regular a D es) h in
         one_argument d a s xs k.few k.values k.sized k.distinct D (fitD D t) e (form a D e) es (forms a D es) b
         (takes e D t parts.0 (λ ι w. let v = safe ι w in let x = bound (value_of d e (at_those ι D s)) (λ x. do ys ← values_of d es (at_those ι D s); Ok (x ∷ ys)) v.0 v.1 in (x.0, x.1)))
-        (takes_each es D t (b && has_none (loops_among D (names_in e))) parts.1 (λ ι w.
+        (takes_each es D t (b && has_no_loop (loops_among D (names_in e))) parts.1 (λ ι w.
         let v = safe ι w in
         let x = bound (value_of d e (at_those ι D s)) (λ x. do ys ← values_of d es (at_those ι D s); Ok (x ∷ ys)) v.0 v.1 in
         let ys = bound (values_of d es (at_those ι D s)) (λ ys. Ok (x.0 ∷ ys)) v.0 x.2 in (ys.0, ys.1)))
 
-    vectors : (ps : Subscripts) (D : List Loop) (t : AreTurning a D xs) → are_regular_subscripts a D ps ≡ true → SafeSubscripts D ps → Vectors d a s xs k.few k.values k.sized k.distinct D ps
+    vectors : (ps : Subscripts) (D : List FormLoop) (t : AreTurning a D xs) → are_regular_subscripts a D ps ≡ true → SafeSubscripts D ps → Vectors d a s xs k.few k.values k.sized k.distinct D ps
     vectors no_subscripts D t h safe = tt
     vectors (subscript (Section i j n) ps) D t h safe = tt
     vectors (subscript (Only e) ps) D t h safe =
         let hs = loops_among D (names_in e) in
-        let o = form_of (variables_of a.loops) a.symbols e in
+        let o = form_of (form_variables_of a.loops) a.symbols e in
         let parts = both (is_moved a hs o (is_regular a hs e)) (are_regular_subscripts a D ps) h in
         let one : SafeD D e = λ ι w.
         let v = safe ι w in
         let i = bound (subscript_value d (Only e) (at_those ι D s)) (λ i. do is ← subscript_values d ps (at_those ι D s); Ok (i ∷ is)) v.0 v.1 in
         let x = bound (value_of d e (at_those ι D s)) (λ x. as_number x) i.0 i.1 in (x.0, x.1) in (
           vector_for D t e hs refl o parts.0 (λ l p regular.
-              let c = (of_filter (λ (m : Loop). is_among (names_in e) m.variable) D l (subst (λ ms. Contains ms l) (sym p) (here l []))).0 in
+              let c = (of_filter (λ (m : FormLoop). is_among (names_in e) m.variable) D l (subst (λ ms. Contains ms l) (sym p) (here l []))).0 in
               takes e (l ∷ []) (one_turning d bits a D s xs k t l c) (ap (λ ms. is_regular a ms e) (sym p) ∙ regular) (one_safe d bits a D s xs k t l c e p one)),
           vectors ps D t parts.1 (λ ι w.
               let v = safe ι w in
@@ -394,7 +394,7 @@ form_has_instance_values lang a D e s xs bits k t regular has =
           ap h.array.at (sym b.places_are) ∙ (h.at b.ι b.within ∙ ap (λ js. value_of lang e (at_iterations D js s)) b.iterations_are);
     }
   where
-    after : (ι : List ℕ → ℕ) → Within lang a s xs k.few k.values k.sized k.distinct D ι → (ls : List Loop) → ((l : Loop) → Contains ls l → Contains D l) → map suc (map (λ (l : Loop). ι l.variable - 1) ls) ≡ iterations ι ls
+    after : (ι : List ℕ → ℕ) → Within lang a s xs k.few k.values k.sized k.distinct D ι → (ls : List FormLoop) → ((l : FormLoop) → Contains ls l → Contains D l) → map suc (map (λ (l : FormLoop). ι l.variable - 1) ls) ≡ iterations ι ls
     after ι w [] h = refl
     after ι w (l ∷ ls) h =
         let low = (w l (h l (here l ls))).0 in
@@ -402,6 +402,6 @@ form_has_instance_values lang a D e s xs bits k t regular has =
 
     safe : NoFault lang a s xs k.few k.values k.sized k.distinct D e
     safe ι w =
-        let is = map (λ (l : Loop). ι l.variable - 1) D in
+        let is = map (λ (l : FormLoop). ι l.variable - 1) D in
         let v = has is (axes.contained lang a s xs k.few k.values k.sized k.distinct D ι w) in
         (v.0, ap (λ js. value_of lang e (at_iterations D js s)) (sym (after ι w D (λ l g. g))) ∙ v.1)

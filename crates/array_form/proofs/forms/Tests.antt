@@ -22,18 +22,18 @@ use Rattle.meaning.specs.Store.{Store}
 use Rattle.meaning.specs.Value.{value_of, truth_of}
 use Rattle.meaning_laws.proofs.arrays.Members.{here, there, nowhere, cases_of}
 use Rattle.linear_forms.specs.Linear.{weighted, number_at, not_zero, is_limited}
-use Rattle.array_form.specs.forms.Forms.{trip_text}
+use Rattle.array_form.specs.forms.Forms.{form_trip_text}
 use Rattle.array_form.specs.forms.Instances.{count_of, counts_of, in_sequence}
 use Rattle.array_form.specs.forms.Laws.{Turns, AreKnown}
-use Rattle.array_form.specs.forms.Loops.{Loop, Surroundings, names_of, is_positive_constant}
+use Rattle.array_form.specs.forms.Loops.{FormLoop, FormSurroundings, form_names_of, is_positive_constant}
 use Rattle.array_form.specs.forms.Trips.{trip_number}
-use Rattle.array_form.specs.forms.Statements.{tests_of, and_all, guarded_by, loops_from, guarded_form, array_form_of}
+use Rattle.array_form.specs.forms.Statements.{form_tests_of, and_all, guarded_by, loops_from, guarded_form, array_form_of}
 use Rattle.array_form.proofs.forms.Bounds.{text_value}
 use Rattle.linear_forms.proofs.Sizes.{both}
 
 -- ---- tests
 
-abbrev truths : List ℤ → List Loop → List Bool
+abbrev truths : List ℤ → List FormLoop → List Bool
 truths xs [] = []
 truths xs (l ∷ ls) = cond (is_positive_constant l.trip) (truths xs ls) (int_le (pos 1) (trip_number l.trip xs) ∷ truths xs ls)
 
@@ -53,15 +53,15 @@ joined_truth d s e b [] (c ∷ cs) h k = absurd k
 joined_truth d s e b (f ∷ es) [] h k = absurd k
 
 -- the trip of a loop has a value, whether it can be counted or not
-abbrev pub HasText : Surroundings → Loop → Type 0
+abbrev pub HasText : FormSurroundings → FormLoop → Type 0
 HasText a l = (is_limited (length a.loops) l.trip.form ≡ true) × (1 ≤ l.trip.divisor)
 
-test_truths : (d : Dialect) (a : Surroundings) (s : Store) (xs : List ℤ) → AreKnown a s xs → (ls : List Loop) → ((l : Loop) → Contains ls l → HasText a l) → AreTruths d s (tests_of (names_of a) ls) (truths xs ls)
+test_truths : (d : Dialect) (a : FormSurroundings) (s : Store) (xs : List ℤ) → AreKnown a s xs → (ls : List FormLoop) → ((l : FormLoop) → Contains ls l → HasText a l) → AreTruths d s (form_tests_of (form_names_of a) ls) (truths xs ls)
 test_truths d a s xs k [] t = tt
 test_truths d a s xs k (l ∷ ls) t = by (is_positive_constant l.trip) (test_truths d a s xs k ls (λ m c. t m (there l ls m c)))
   where
-    by : (b : Bool) → AreTruths d s (tests_of (names_of a) ls) (truths xs ls)
-        → AreTruths d s (cond b (tests_of (names_of a) ls) (Binary Ge (trip_text (names_of a) l.trip) (Number (pos 1)) ∷ tests_of (names_of a) ls)) (cond b (truths xs ls) (int_le (pos 1) (trip_number l.trip xs) ∷ truths xs ls))
+    by : (b : Bool) → AreTruths d s (form_tests_of (form_names_of a) ls) (truths xs ls)
+        → AreTruths d s (cond b (form_tests_of (form_names_of a) ls) (Binary Ge (form_trip_text (form_names_of a) l.trip) (Number (pos 1)) ∷ form_tests_of (form_names_of a) ls)) (cond b (truths xs ls) (int_le (pos 1) (trip_number l.trip xs) ∷ truths xs ls))
     by true more = more
     by false more = (ap (λ (r : Result Value Fault). do x ← r; apply Ge x (Int (pos 1))) (text_value d a s xs k.few k.values k.sized l (t l (here l ls)).0 (t l (here l ls)).1), more)
 
@@ -71,7 +71,7 @@ turns_once : (z : ℤ) → 1 ≤ not_negative z → int_le (pos 1) z ≡ true
 turns_once (pos n) h = le-leb 1 n h
 turns_once (negsuc n) h = absurd (omega (arith, h))
 
-all_true : (xs : List ℤ) (ls : List Loop) → ((l : Loop) → Contains ls l → 1 ≤ count_of xs l) → and_of true (truths xs ls) ≡ true
+all_true : (xs : List ℤ) (ls : List FormLoop) → ((l : FormLoop) → Contains ls l → 1 ≤ count_of xs l) → and_of true (truths xs ls) ≡ true
 all_true xs [] h = refl
 all_true xs (l ∷ ls) h = by (is_positive_constant l.trip) (all_true xs ls (λ m c. h m (there l ls m c)))
   where
@@ -95,7 +95,7 @@ all_nought (c ∷ cs) (x ∷ xs) h = by (int_eq c (pos 0)) refl h (all_nought cs
     by true e h more = ap₂ (λ p q. p +ℤ q) (ap (λ w. w *ℤ x) ((Decides-int_eq c (pos 0)).0 e) ∙ zero-*ℤ x) (more h)
     by false e h more = absurd (omega (arith, h))
 
-constant_turns : (xs : List ℤ) (l : Loop) → is_positive_constant l.trip ≡ true → 1 ≤ count_of xs l
+constant_turns : (xs : List ℤ) (l : FormLoop) → is_positive_constant l.trip ≡ true → 1 ≤ count_of xs l
 constant_turns xs l h =
     let one = both (l.trip.divisor == 1) ((not_zero l.trip.form.coefficients == 0) && int_le (pos 1) l.trip.form.constant) h in
     let two = both (not_zero l.trip.form.coefficients == 0) (int_le (pos 1) l.trip.form.constant) one.1 in
@@ -112,7 +112,7 @@ false_stays : (bs : List Bool) → and_of false bs ≡ false
 false_stays [] = refl
 false_stays (b ∷ bs) = false_stays bs
 
-has_false : (xs : List ℤ) (ls : List Loop) (l : Loop) → Contains ls l → count_of xs l ≡ 0 → Contains (truths xs ls) false
+has_false : (xs : List ℤ) (ls : List FormLoop) (l : FormLoop) → Contains ls l → count_of xs l ≡ 0 → Contains (truths xs ls) false
 has_false xs [] l c h = absurd (nowhere l c)
 has_false xs (m ∷ ls) l c h = by (is_positive_constant m.trip) refl (cases_of m ls l c) (λ g. has_false xs ls l g h)
   where
@@ -160,9 +160,9 @@ run_by d line (e ∷ es) [] body s h c = absurd h
 run_by d line (e ∷ es) (b ∷ bs) body s h c =
     (s.steps + 1, taken d line (and_all e es) body s (ap (λ (r : Result Value Fault). do x ← r; as_truth x) (joined_truth d s.store e b es bs h.0 h.1) ∙ ap Ok c))
 
-pub block_done : (d : Dialect) (a : Surroundings) (line : ℕ) (body : Block) (s : State) (xs : List ℤ) → AreKnown a s.store xs → (ls : List Loop) → ((l : Loop) → Contains ls l → Turns a xs l)
-    → (n : ℕ) × (does_all d None (guarded_by line (tests_of (names_of a) ls) body) (ready s) ≡ does_all d None body (ready (record s { steps = n })))
-block_done d a line body s xs k ls t = run_by d line (tests_of (names_of a) ls) (truths xs ls) body s (test_truths d a s.store xs k ls (λ l c. let h = (t l c).trip in (h.limits, h.divisor))) (all_true xs ls (λ l c. (t l c).least))
+pub block_done : (d : Dialect) (a : FormSurroundings) (line : ℕ) (body : Block) (s : State) (xs : List ℤ) → AreKnown a s.store xs → (ls : List FormLoop) → ((l : FormLoop) → Contains ls l → Turns a xs l)
+    → (n : ℕ) × (does_all d None (guarded_by line (form_tests_of (form_names_of a) ls) body) (ready s) ≡ does_all d None body (ready (record s { steps = n })))
+block_done d a line body s xs k ls t = run_by d line (form_tests_of (form_names_of a) ls) (truths xs ls) body s (test_truths d a s.store xs k ls (λ l c. let h = (t l c).trip in (h.limits, h.divisor))) (all_true xs ls (λ l c. (t l c).least))
 
 pub passed : (d : Dialect) (line : ℕ) (test : Expression) (body : Block) (s : State) → truth_of d test s.store ≡ Ok false
     → does d None (If line (arm test body no_arms) no_statements) (ready s) ≡ ready (record s { steps = s.steps + 1 })
@@ -177,13 +177,13 @@ passed_over d line (e ∷ es) [] body s h c = absurd h
 passed_over d line (e ∷ es) (b ∷ bs) body s h c =
     (s.steps + 1, passed d line (and_all e es) body s (ap (λ (r : Result Value Fault). do x ← r; as_truth x) (joined_truth d s.store e b es bs h.0 h.1) ∙ ap Ok (all_false b bs c)))
 
-pub nothing_done : (d : Dialect) (a : Surroundings) (line : ℕ) (body : Block) (s : State) (xs : List ℤ) → AreKnown a s.store xs → (ls : List Loop) → ((l : Loop) → Contains ls l → HasText a l) → (l : Loop) → Contains ls l → count_of xs l ≡ 0
-    → (n : ℕ) × (does_all d None (guarded_by line (tests_of (names_of a) ls) body) (ready s) ≡ ready (record s { steps = n }))
-nothing_done d a line body s xs k ls t l c h = passed_over d line (tests_of (names_of a) ls) (truths xs ls) body s (test_truths d a s.store xs k ls t) (has_false xs ls l c h)
+pub nothing_done : (d : Dialect) (a : FormSurroundings) (line : ℕ) (body : Block) (s : State) (xs : List ℤ) → AreKnown a s.store xs → (ls : List FormLoop) → ((l : FormLoop) → Contains ls l → HasText a l) → (l : FormLoop) → Contains ls l → count_of xs l ≡ 0
+    → (n : ℕ) × (does_all d None (guarded_by line (form_tests_of (form_names_of a) ls) body) (ready s) ≡ ready (record s { steps = n }))
+nothing_done d a line body s xs k ls t l c h = passed_over d line (form_tests_of (form_names_of a) ls) (truths xs ls) body s (test_truths d a s.store xs k ls t) (has_false xs ls l c h)
 
 -- where a loop doesn't turn, an array form stores nothing, whether the other trips can be counted or not
-pub form_passes : (d : Dialect) (a : Surroundings) (k line : ℕ) (mark : Option Mark) (guard : Option Expression) (left : Reference) (right : Expression) (s : State) (xs : List ℤ) → s.way ≡ Going → AreKnown a s.store xs
-    → ((l : Loop) → Contains (loops_from a k) l → HasText a l) → (l : Loop) → Contains (loops_from a k) l → count_of xs l ≡ 0
+pub form_passes : (d : Dialect) (a : FormSurroundings) (k line : ℕ) (mark : Option Mark) (guard : Option Expression) (left : Reference) (right : Expression) (s : State) (xs : List ℤ) → s.way ≡ Going → AreKnown a s.store xs
+    → ((l : FormLoop) → Contains (loops_from a k) l → HasText a l) → (l : FormLoop) → Contains (loops_from a k) l → count_of xs l ≡ 0
     → (n : ℕ) × (does_all d None (array_form_of a k line mark guard left right) s ≡ record s { steps = n })
 form_passes d a k line mark guard left right s xs going known texts l c none =
     let r = nothing_done d a line (statement (guarded_form a k line mark guard left right) no_statements) s xs known (loops_from a k) texts l c none in
@@ -195,7 +195,7 @@ nothing_flat : {A B : Type 0} (f : A → List B) (ys : List A) → ((y : A) → 
 nothing_flat f [] h = refl
 nothing_flat f (y ∷ ys) h = ap₂ (λ as' bs. as' ++ bs) (h y) (nothing_flat f ys h)
 
-pub no_sequence : (xs : List ℤ) (ls : List Loop) (l : Loop) → Contains ls l → count_of xs l ≡ 0 → in_sequence (counts_of xs ls) ≡ []
+pub no_sequence : (xs : List ℤ) (ls : List FormLoop) (l : FormLoop) → Contains ls l → count_of xs l ≡ 0 → in_sequence (counts_of xs ls) ≡ []
 no_sequence xs [] l c h = absurd (nowhere l c)
 no_sequence xs (m ∷ ls) l c h = by (cases_of m ls l c) (λ g. no_sequence xs ls l g h)
   where
@@ -204,15 +204,15 @@ no_sequence xs (m ∷ ls) l c h = by (cases_of m ls l c) (λ g. no_sequence xs l
     by (inr g) more = nothing_flat (λ i. map (λ is. i ∷ is) (in_sequence (counts_of xs ls))) (counted 1 (count_of xs m)) (λ i. ap (λ iss. map (λ is. i ∷ is) iss) (more g))
 
 -- either all turn, or one doesn't
-pub all_or_one : (xs : List ℤ) (ls : List Loop) → ((l : Loop) → Contains ls l → 1 ≤ count_of xs l) ⊎ ((l : Loop) × Contains ls l × (count_of xs l ≡ 0))
+pub all_or_one : (xs : List ℤ) (ls : List FormLoop) → ((l : FormLoop) → Contains ls l → 1 ≤ count_of xs l) ⊎ ((l : FormLoop) × Contains ls l × (count_of xs l ≡ 0))
 all_or_one xs [] = inl (λ l c. absurd (nowhere l c))
 all_or_one xs (m ∷ ls) = by (count_of xs m) refl (all_or_one xs ls)
   where
-    by : (n : ℕ) → count_of xs m ≡ n → ((l : Loop) → Contains ls l → 1 ≤ count_of xs l) ⊎ ((l : Loop) × Contains ls l × (count_of xs l ≡ 0)) → ((l : Loop) → Contains (m ∷ ls) l → 1 ≤ count_of xs l) ⊎ ((l : Loop) × Contains (m ∷ ls) l × (count_of xs l ≡ 0))
+    by : (n : ℕ) → count_of xs m ≡ n → ((l : FormLoop) → Contains ls l → 1 ≤ count_of xs l) ⊎ ((l : FormLoop) × Contains ls l × (count_of xs l ≡ 0)) → ((l : FormLoop) → Contains (m ∷ ls) l → 1 ≤ count_of xs l) ⊎ ((l : FormLoop) × Contains (m ∷ ls) l × (count_of xs l ≡ 0))
     by zero e more = inr (m, here m ls, e)
     by (suc n) e (inr r) = inr (r.0, there m ls r.0 r.1, r.2)
     by (suc n) e (inl f) = inl (λ l c. of l (cases_of m ls l c))
       where
-        of : (l : Loop) → (m ≡ l) ⊎ Contains ls l → 1 ≤ count_of xs l
-        of l (inl q) = subst (λ (i : Loop). 1 ≤ count_of xs i) q (omega (arith, e))
+        of : (l : FormLoop) → (m ≡ l) ⊎ Contains ls l → 1 ≤ count_of xs l
+        of l (inl q) = subst (λ (i : FormLoop). 1 ≤ count_of xs i) q (omega (arith, e))
         of l (inr g) = f l g

@@ -13,6 +13,7 @@ use Rattle.tree.specs.declared.stmts.Mark.{Mark}
 use Rattle.meaning.specs.ArrayStatements.{axes_named, storable, writes_of}
 use Rattle.meaning.specs.ArrayValues.{Elements, each, positions, conform}
 use Rattle.meaning.specs.Dialect.{Dialect, fortran90}
+use Rattle.tree.specs.declared.width.Width.{Width}
 use Rattle.meaning.specs.Reads.{names_in, names_in_subscripts}
 use Rattle.meaning.specs.CellsRead.{cells_read, cells_read_by}
 use Rattle.meaning.specs.Run.{State, Going, does_all}
@@ -32,11 +33,11 @@ use Rattle.meaning_laws.proofs.arrays.Stages.{bound, same_answer}
 use Rattle.meaning_laws.proofs.arrays.Turns.{in_turn_is_at_once}
 use Rattle.linear_forms.specs.Linear.{Form, form_of}
 use Rattle.linear_forms.proofs.Sizes.{both}
-use Rattle.array_form.specs.forms.Following.{has_none, is_moved, are_moved, is_regular, are_regular_subscripts}
+use Rattle.array_form.specs.forms.Following.{has_no_loop, is_moved, are_moved, is_regular, are_regular_subscripts}
 use Rattle.array_form.specs.forms.Forms.{subscript_forms}
 use Rattle.array_form.specs.forms.Instances.{at_iterations, count_of, counts_of, in_sequence, instance_at, instances_of}
 use Rattle.array_form.specs.forms.Laws.{Turns, AreKnown, AreTurning, instances_from, OwnCells, InstancesHaveOwnCells, ArrayFormStoresInstances}
-use Rattle.array_form.specs.forms.Loops.{Loop, Surroundings, variables_of, names_of, loops_in_order, loops_among}
+use Rattle.array_form.specs.forms.Loops.{FormLoop, FormSurroundings, form_variables_of, form_names_of, loops_in_order, loops_among}
 use Rattle.array_form.specs.forms.Trips.{AreDistinct}
 use Rattle.array_form.specs.forms.Statements.{loops_from, unguarded_hold, loops_assigned, left_form, right_form, array_assignment, array_form_of}
 use Rattle.array_form.proofs.forms.Axes as axes
@@ -48,6 +49,7 @@ use Rattle.array_form.proofs.forms.Orders.{Ordered, ordered_loops, no_triangle, 
 use Rattle.array_form.proofs.forms.Positions.{AreFrom, from_sequence, sequence_from, iteration_of, iterations_are}
 use Rattle.array_form.proofs.forms.Taking.{takes}
 use Rattle.array_form.proofs.forms.Values.{fitting, bounded_by, same_length, by_position}
+use Rattle.meaning.proofs.Widths.{narrowest}
 
 -- ---- an instance depends on the cells that it reads alone
 
@@ -55,17 +57,17 @@ pub bound_kept : (x : List ℕ) (z : ℤ) (s t : Store) (cs : List Cell) → All
 bound_kept x z s t [] h = tt
 bound_kept x z s t (c ∷ cs) h = (ap (cond (same_cell (record { name = x; subscripts = [] }) c) (Int z)) h.0, bound_kept x z s t cs h.1)
 
-pub held_kept : (ls : List Loop) (is : List ℕ) (s t : Store) (cs : List Cell) → AllByRecursion (λ c. s.held c ≡ t.held c) cs → AllByRecursion (λ c. (at_iterations ls is s).held c ≡ (at_iterations ls is t).held c) cs
+pub held_kept : (ls : List FormLoop) (is : List ℕ) (s t : Store) (cs : List Cell) → AllByRecursion (λ c. s.held c ≡ t.held c) cs → AllByRecursion (λ c. (at_iterations ls is s).held c ≡ (at_iterations ls is t).held c) cs
 held_kept [] is s t cs h = h
 held_kept (l ∷ ls) [] s t cs h = h
 held_kept (l ∷ ls) (i ∷ is) s t cs h = held_kept ls is (bound_to l.variable (pos i) s) (bound_to l.variable (pos i) t) cs (bound_kept l.variable (pos i) s t cs h)
 
-pub bounds_kept : (ls : List Loop) (is : List ℕ) (s t : Store) → s.bounds ≡ t.bounds → (at_iterations ls is s).bounds ≡ (at_iterations ls is t).bounds
+pub bounds_kept : (ls : List FormLoop) (is : List ℕ) (s t : Store) → s.bounds ≡ t.bounds → (at_iterations ls is s).bounds ≡ (at_iterations ls is t).bounds
 bounds_kept [] is s t e = e
 bounds_kept (l ∷ ls) [] s t e = e
 bounds_kept (l ∷ ls) (i ∷ is) s t e = bounds_kept ls is (bound_to l.variable (pos i) s) (bound_to l.variable (pos i) t) e
 
-module _ (d : Dialect) (ls : List Loop) (left : Reference) (right : Expression) where
+module _ (d : Dialect) (ls : List FormLoop) (left : Reference) (right : Expression) where
   from_reads : (is : List ℕ) → ComesFromReads (instance_at d ls left right is)
   from_reads is = record {
     same = λ s t e m.
@@ -90,7 +92,7 @@ either_way true q h k = sym (h refl)
 either_way false true h k = k refl
 either_way false false h k = refl
 
-variable_found : (ls : List Loop) (l : Loop) (c : Cell) → Contains ls l → same_cell (variable_cell l.variable) c ≡ true → is_variable ls c ≡ true
+variable_found : (ls : List FormLoop) (l : FormLoop) (c : Cell) → Contains ls l → same_cell (variable_cell l.variable) c ≡ true → is_variable ls c ≡ true
 variable_found [] l c h e = absurd (nowhere l h)
 variable_found (m ∷ ls) l c h e = by (cases_of m ls l h) (λ k. variable_found ls l c k e)
   where
@@ -99,19 +101,19 @@ variable_found (m ∷ ls) l c h e = by (cases_of m ls l h) (λ k. variable_found
     any false = refl
 
     by : (m ≡ l) ⊎ Contains ls l → (Contains ls l → is_variable ls c ≡ true) → cond (is_variable ls c) true (same_cell (variable_cell m.variable) c) ≡ true
-    by (inl p) more = ap (cond (is_variable ls c) true) (ap (λ (k : Loop). same_cell (variable_cell k.variable) c) p ∙ e) ∙ any (is_variable ls c)
+    by (inl p) more = ap (cond (is_variable ls c) true) (ap (λ (k : FormLoop). same_cell (variable_cell k.variable) c) p ∙ e) ∙ any (is_variable ls c)
     by (inr k) more = ap (λ b. cond b true (same_cell (variable_cell m.variable) c)) (more k)
 
-variable_of : (ls : List Loop) (c : Cell) → is_variable ls c ≡ true → (l : Loop) × Contains ls l × (same_cell (variable_cell l.variable) c ≡ true)
+variable_of : (ls : List FormLoop) (c : Cell) → is_variable ls c ≡ true → (l : FormLoop) × Contains ls l × (same_cell (variable_cell l.variable) c ≡ true)
 variable_of [] c h = absurd cc
 variable_of (m ∷ ls) c h = by (is_variable ls c) refl h (variable_of ls c)
   where
-    by : (b : Bool) → is_variable ls c ≡ b → cond b true (same_cell (variable_cell m.variable) c) ≡ true → (is_variable ls c ≡ true → (l : Loop) × Contains ls l × (same_cell (variable_cell l.variable) c ≡ true))
-        → (l : Loop) × Contains (m ∷ ls) l × (same_cell (variable_cell l.variable) c ≡ true)
+    by : (b : Bool) → is_variable ls c ≡ b → cond b true (same_cell (variable_cell m.variable) c) ≡ true → (is_variable ls c ≡ true → (l : FormLoop) × Contains ls l × (same_cell (variable_cell l.variable) c ≡ true))
+        → (l : FormLoop) × Contains (m ∷ ls) l × (same_cell (variable_cell l.variable) c ≡ true)
     by true e h more = let r = more e in (r.0, there m ls r.0 r.1, r.2)
     by false e h more = (m, here m ls, h)
 
-pub same_variables : (ls ms : List Loop) → ((l : Loop) → Contains ls l → Contains ms l) → ((l : Loop) → Contains ms l → Contains ls l) → (c : Cell) → is_variable ls c ≡ is_variable ms c
+pub same_variables : (ls ms : List FormLoop) → ((l : FormLoop) → Contains ls l → Contains ms l) → ((l : FormLoop) → Contains ms l → Contains ls l) → (c : Cell) → is_variable ls c ≡ is_variable ms c
 same_variables ls ms h k c = either_way (is_variable ls c) (is_variable ms c)
     (λ e. let r = variable_of ls c e in variable_found ms r.0 c (h r.0 r.1) r.2)
     (λ e. let r = variable_of ms c e in variable_found ls r.0 c (k r.0 r.1) r.2)
@@ -120,54 +122,54 @@ pub value_of_cell : (r : Result (List ℤ) Fault) (f : List ℤ → Result Cell 
 value_of_cell (Ok is) f h c e = ap (λ (q : Result Cell Fault). do k ← q; Ok (h k)) e
 value_of_cell (Err g) f h c e = absurd cc
 
-pub from_within : (xs : List ℤ) (ι : List ℕ → ℕ) (ls : List Loop) → ((l : Loop) → Contains ls l → (1 ≤ ι l.variable) × (ι l.variable ≤ count_of xs l)) → AreFrom 1 (counts_of xs ls) (iterations ι ls)
+pub from_within : (xs : List ℤ) (ι : List ℕ → ℕ) (ls : List FormLoop) → ((l : FormLoop) → Contains ls l → (1 ≤ ι l.variable) × (ι l.variable ≤ count_of xs l)) → AreFrom 1 (counts_of xs ls) (iterations ι ls)
 from_within xs ι [] h = tt
 from_within xs ι (l ∷ ls) h = let b = h l (here l ls) in let low = b.0 in let high = b.1 in ((low, omega (arith, high)), from_within xs ι ls (λ m g. h m (there l ls m g)))
 
 -- ---- linear subscripts
 
-linear_one : (a : Surroundings) (hs : List Loop) (o : Option Form) (other : Bool) → is_moved a hs o false ≡ true → is_moved a hs o other ≡ true
+linear_one : (a : FormSurroundings) (hs : List FormLoop) (o : Option Form) (other : Bool) → is_moved a hs o false ≡ true → is_moved a hs o other ≡ true
 linear_one a [] o other h = refl
 linear_one a (l ∷ hs) (Some f) other h = h
 linear_one a (l ∷ hs) None other h = absurd cc
 
-pub linear_regular : (a : Surroundings) (D : List Loop) (ps : Subscripts) → are_moved a D ps ≡ true → are_regular_subscripts a D ps ≡ true
+pub linear_regular : (a : FormSurroundings) (D : List FormLoop) (ps : Subscripts) → are_moved a D ps ≡ true → are_regular_subscripts a D ps ≡ true
 linear_regular a D no_subscripts h = refl
 linear_regular a D (subscript (Section i j k) ps) h = absurd cc
 linear_regular a D (subscript (Only e) ps) h =
     let hs = loops_among D (names_in e) in
-    let o = form_of (variables_of a.loops) a.symbols e in
+    let o = form_of (form_variables_of a.loops) a.symbols e in
     let parts = both (is_moved a hs o false) (are_moved a D ps) h in
     ap₂ (λ p q. p && q) (linear_one a hs o (is_regular a hs e) parts.0) (linear_regular a D ps parts.1)
 
-no_vector : (d : Dialect) (a : Surroundings) (s : Store) (xs : List ℤ) (k : AreKnown a s xs) (e : Expression) (hs : List Loop) (o : Option Form) → is_moved a hs o false ≡ true → axes.VectorFor d a s xs k.few k.values k.sized k.distinct hs e o
+no_vector : (d : Dialect) (a : FormSurroundings) (s : Store) (xs : List ℤ) (k : AreKnown a s xs) (e : Expression) (hs : List FormLoop) (o : Option Form) → is_moved a hs o false ≡ true → axes.VectorFor d a s xs k.few k.values k.sized k.distinct hs e o
 no_vector d a s xs k e [] o h = tt
 no_vector d a s xs k e (l ∷ []) (Some f) h = tt
 no_vector d a s xs k e (l ∷ []) None h = absurd cc
 no_vector d a s xs k e (l ∷ m ∷ hs) o h = tt
 
-pub linear_vectors : (d : Dialect) (a : Surroundings) (s : Store) (xs : List ℤ) (k : AreKnown a s xs) (D : List Loop) (ps : Subscripts) → are_moved a D ps ≡ true → axes.Vectors d a s xs k.few k.values k.sized k.distinct D ps
+pub linear_vectors : (d : Dialect) (a : FormSurroundings) (s : Store) (xs : List ℤ) (k : AreKnown a s xs) (D : List FormLoop) (ps : Subscripts) → are_moved a D ps ≡ true → axes.Vectors d a s xs k.few k.values k.sized k.distinct D ps
 linear_vectors d a s xs k D no_subscripts h = tt
 linear_vectors d a s xs k D (subscript (Section i j l) ps) h = tt
 linear_vectors d a s xs k D (subscript (Only e) ps) h =
     let hs = loops_among D (names_in e) in
-    let o = form_of (variables_of a.loops) a.symbols e in
+    let o = form_of (form_variables_of a.loops) a.symbols e in
     let parts = both (is_moved a hs o false) (are_moved a D ps) h in
     (no_vector d a s xs k e hs o parts.0, linear_vectors d a s xs k D ps parts.1)
 
 -- ---- the assignment to an element with subscripts
 
-module _ (d : Dialect) (bits : d.bits ≡ 31) (a : Surroundings) (k : ℕ) (s : Store) (xs : List ℤ) (known : AreKnown a s xs) (turns : (l : Loop) → Contains (loops_from a k) l → Turns a xs l)
+module _ (d : Dialect) (bits : 31 ≤ d.bits) (a : FormSurroundings) (k : ℕ) (s : Store) (xs : List ℤ) (known : AreKnown a s xs) (turns : (l : FormLoop) → Contains (loops_from a k) l → Turns a xs l)
     (x : List ℕ) (e : Expression) (ps : Subscripts) (right : Expression) (no_hold : unguarded_hold a k (record { name = x; subscripts = subscript (Only e) ps }) ≡ None)
     (moved : are_moved a (loops_assigned a k (record { name = x; subscripts = subscript (Only e) ps })) (subscript (Only e) ps) ≡ true)
     (t : Store) where
   abbrev left : Reference
   left = record { name = x; subscripts = subscript (Only e) ps }
 
-  abbrev mine : List Loop
+  abbrev mine : List FormLoop
   mine = loops_from a k
 
-  abbrev D : List Loop
+  abbrev D : List FormLoop
   D = loops_assigned a k left
 
   abbrev instances : List Instance
@@ -280,7 +282,7 @@ module _ (d : Dialect) (bits : d.bits ≡ 31) (a : Surroundings) (k : ℕ) (s : 
           let js = of_map (instance_at d mine left right) (in_sequence (counts_of xs mine)) y c in
           let from = sequence_from (counts_of xs mine) js.0 js.1 in
           let ι = iteration_of mine js.0 in
-          let are = iterations_are 1 mine (counts_of xs mine) js.0 (distinct_drop (k - 1) a.loops (distinct_front (variables_of a.loops) a.symbols known.distinct)) (same_length xs mine) from in
+          let are = iterations_are 1 mine (counts_of xs mine) js.0 (distinct_drop (k - 1) a.loops (distinct_front (form_variables_of a.loops) a.symbols known.distinct)) (same_length xs mine) from in
           record {
             ι = ι;
             within = λ l h. let b = bounded_by xs 1 mine js.0 ι are from l (order.into l h) in let low = b.0 in let high = b.1 in (low, omega (arith, high));
@@ -300,10 +302,10 @@ module _ (d : Dialect) (bits : d.bits ≡ 31) (a : Surroundings) (k : ℕ) (s : 
       listed is c =
           let from = sequence_from (counts_of xs mine) is c in
           let ι = iteration_of mine is in
-          let are = iterations_are 1 mine (counts_of xs mine) is (distinct_drop (k - 1) a.loops (distinct_front (variables_of a.loops) a.symbols known.distinct)) (same_length xs mine) from in
+          let are = iterations_are 1 mine (counts_of xs mine) is (distinct_drop (k - 1) a.loops (distinct_front (form_variables_of a.loops) a.symbols known.distinct)) (same_length xs mine) from in
           record { ι = ι; within = λ l h. let b = bounded_by xs 1 mine is ι are from l (order.into l h) in let low = b.0 in let high = b.1 in (low, omega (arith, high)); are = are }
 
-      at_member : (f g : Loop → ℕ) (ls : List Loop) → map f ls ≡ map g ls → (l : Loop) → Contains ls l → f l ≡ g l
+      at_member : (f g : FormLoop → ℕ) (ls : List FormLoop) → map f ls ≡ map g ls → (l : FormLoop) → Contains ls l → f l ≡ g l
       at_member f g [] e l c = absurd (nowhere l c)
       at_member f g (m ∷ ls) e l c =
           let first : f m ≡ g m = cc in
@@ -311,16 +313,16 @@ module _ (d : Dialect) (bits : d.bits ≡ 31) (a : Surroundings) (k : ℕ) (s : 
           by first (cases_of m ls l c) (at_member f g ls others l)
         where
           by : f m ≡ g m → (m ≡ l) ⊎ Contains ls l → (Contains ls l → f l ≡ g l) → f l ≡ g l
-          by p (inl q) more = subst (λ (i : Loop). f i ≡ g i) q p
+          by p (inl q) more = subst (λ (i : FormLoop). f i ≡ g i) q p
           by p (inr h) more = more h
 
-      same_on : (ι κ : List ℕ → ℕ) → In ι → In κ → spots ι ≡ spots κ → (ls : List Loop) → ((l : Loop) → Contains ls l → Contains D l) → iterations ι ls ≡ iterations κ ls
+      same_on : (ι κ : List ℕ → ℕ) → In ι → In κ → spots ι ≡ spots κ → (ls : List FormLoop) → ((l : FormLoop) → Contains ls l → Contains D l) → iterations ι ls ≡ iterations κ ls
       same_on ι κ v w e [] h = refl
       same_on ι κ v w e (l ∷ ls) h =
           let c = h l (here l ls) in
           let low = (v l c).0 in
           let low' = (w l c).0 in
-          let same = at_member (λ (m : Loop). ι m.variable - 1) (λ (m : Loop). κ m.variable - 1) D e l c in
+          let same = at_member (λ (m : FormLoop). ι m.variable - 1) (λ (m : FormLoop). κ m.variable - 1) D e l c in
           ap₂ (λ (i : ℕ) (is : List ℕ). i ∷ is) (omega (arith, low, low', same)) (same_on ι κ v w e ls (λ m g. h m (there l ls m g)))
 
       -- instances with one cell are one
@@ -342,8 +344,8 @@ module _ (d : Dialect) (bits : d.bits ≡ 31) (a : Surroundings) (k : ℕ) (s : 
           let same : y ≡ z = sym m.2 ∙ (ap (instance_at d mine left right) one ∙ n.2) in
           (pair_same c c v w (sym ey ∙ (ap (λ (i : Instance). i.effect s) same ∙ ez))).1
 
-      left_is_array : d.arrays ≡ true → has_none D ≡ false → is_array d (named L) s ≡ true
-      left_is_array arrays some = ap₂ (λ p q. p && not q) arrays (picked.indices ∙ (ap has_none order.same ∙ some))
+      left_is_array : d.arrays ≡ true → has_no_loop D ≡ false → is_array d (named L) s ≡ true
+      left_is_array arrays some = ap₂ (λ p q. p && not q) arrays (picked.indices ∙ (ap has_no_loop order.same ∙ some))
 
       -- a regular right side
       module _ (regular : is_regular a D right ≡ true) where
@@ -374,7 +376,7 @@ module _ (d : Dialect) (bits : d.bits ≡ 31) (a : Surroundings) (k : ℕ) (s : 
         shape : shape_assigned d (Logic true) L R s ≡ Ok (counts_of xs D)
         shape =
             ap₂ (λ (ra : Result (List Axis) Fault) (rg : Result (Elements Value) Fault). do axes ← ra; g ← rg; conform (extents_of axes) g.extents) L_axes R_values.known
-            ∙ (ap₂ conform L_extents R_values.extents ∙ conforming false (has_none (loops_among D (names_in right))) (counts_of xs D))
+            ∙ (ap₂ conform L_extents R_values.extents ∙ conforming false (has_no_loop (loops_among D (names_in right))) (counts_of xs D))
 
         writes_there : NoneReadsWritten [] instances s → in_turn instances s ≡ Ok t → (ws : List (Cell × Value)) × (writes_of d (Logic true) L R s ≡ Ok ws) × (puts ws s ≡ t)
         writes_there none run = array_form_is_instances d (Logic true) R L picked.axes (counts_of xs D) instances s t L_axes shape (all_from_reads d mine left right (in_sequence (counts_of xs mine))) none run stands apart
@@ -387,18 +389,18 @@ module _ (d : Dialect) (bits : d.bits ≡ 31) (a : Surroundings) (k : ℕ) (s : 
       let o = effect_of s instances os.0 os.1 (instance_at d mine left right (iterations ι mine)) (in_instances ι w) in
       done_by ι o.0 o.1
 
-  some_D : has_none mine ≡ false → has_none D ≡ false
-  some_D h = by (has_none D) refl
+  some_D : has_no_loop mine ≡ false → has_no_loop D ≡ false
+  some_D h = by (has_no_loop D) refl
     where
-      first_one : (ls : List Loop) → has_none ls ≡ false → (l : Loop) × Contains ls l
+      first_one : (ls : List FormLoop) → has_no_loop ls ≡ false → (l : FormLoop) × Contains ls l
       first_one [] h = absurd cc
       first_one (l ∷ ls) h = (l, here l ls)
 
-      none_in : (ls : List Loop) → has_none ls ≡ true → (l : Loop) → Contains ls l → ⊥
+      none_in : (ls : List FormLoop) → has_no_loop ls ≡ true → (l : FormLoop) → Contains ls l → ⊥
       none_in [] h l c = nowhere l c
       none_in (m ∷ ls) h l c = absurd cc
 
-      by : (b : Bool) → has_none D ≡ b → b ≡ false
+      by : (b : Bool) → has_no_loop D ≡ b → b ≡ false
       by false p = refl
       by true p = let l = first_one mine h in absurd (none_in D p l.0 (order.onto l.0 l.1))
 
@@ -418,7 +420,7 @@ module _ (d : Dialect) (bits : d.bits ≡ 31) (a : Surroundings) (k : ℕ) (s : 
       let bad : ◌≡◌ {A = Result Cell Fault} (Err Allocated) (Ok done.cell) = ap (λ o. cell_in o x zs.0) (sym nowhere') ∙ zs.2 in
       cc
 
-  written : is_regular a D right ≡ true → d.arrays ≡ true → has_none mine ≡ false → NoneReadsWritten [] instances s → in_turn instances s ≡ Ok t → Written
+  written : is_regular a D right ≡ true → d.arrays ≡ true → has_no_loop mine ≡ false → NoneReadsWritten [] instances s → in_turn instances s ≡ Ok t → Written
   written regular arrays some none run = by (s.bounds x) refl
     where
       by : (o : Option (List (ℤ × ℤ))) → s.bounds x ≡ o → Written
@@ -430,7 +432,7 @@ module _ (d : Dialect) (bits : d.bits ≡ 31) (a : Surroundings) (k : ℕ) (s : 
 
 -- ---- what they store in is their own
 
-module _ (d : Dialect) (bits : d.bits ≡ 31) (a : Surroundings) (k : ℕ) (s t : Store) (xs : List ℤ) (known : AreKnown a s xs) (turns : (l : Loop) → Contains (loops_from a k) l → Turns a xs l) where
+module _ (d : Dialect) (bits : 31 ≤ d.bits) (a : FormSurroundings) (k : ℕ) (s t : Store) (xs : List ℤ) (known : AreKnown a s xs) (turns : (l : FormLoop) → Contains (loops_from a k) l → Turns a xs l) where
   element_own : (x : List ℕ) (e : Expression) (ps : Subscripts) (right : Expression) → let left : Reference = record { name = x; subscripts = subscript (Only e) ps } in unguarded_hold a k left ≡ None
       → are_moved a (loops_assigned a k left) (subscript (Only e) ps) ≡ true → NoneReadsWritten [] (instances_from d a k xs left right) s → in_turn (instances_from d a k xs left right) s ≡ Ok t
       → OwnCells d a k xs left right s
@@ -441,41 +443,41 @@ module _ (d : Dialect) (bits : d.bits ≡ 31) (a : Surroundings) (k : ℕ) (s t 
       by None b = absurd (no_bounds d bits a k s xs known turns x e ps right no_hold moved t none run b)
 
 -- a left side in which loops stand has subscripts
-pub unsubscripted : (a : Surroundings) (k : ℕ) (left : Reference) → AreDistinct (names_of a) → has_none (loops_from a k) ≡ false → unguarded_hold a k left ≡ None → left.subscripts ≡ no_subscripts → ⊥
+pub unsubscripted : (a : FormSurroundings) (k : ℕ) (left : Reference) → AreDistinct (form_names_of a) → has_no_loop (loops_from a k) ≡ false → unguarded_hold a k left ≡ None → left.subscripts ≡ no_subscripts → ⊥
 unsubscripted a k left distinct some no_hold e =
     let order = ordered_loops a k left distinct no_hold in
     let empty : loops_assigned a k left ≡ [] = ap (loops_in_order (loops_from a k)) e in
     one_of (loops_from a k) some (λ l c. nowhere l (subst (λ ls. Contains ls l) empty (order.onto l c)))
   where
-    one_of : (ls : List Loop) → has_none ls ≡ false → ((l : Loop) → Contains ls l → ⊥) → ⊥
+    one_of : (ls : List FormLoop) → has_no_loop ls ≡ false → ((l : FormLoop) → Contains ls l → ⊥) → ⊥
     one_of [] h f = absurd cc
     one_of (l ∷ ls) h f = f l (here l ls)
 
 -- ---- the whole
 
-module _ (a : Surroundings) (k line : ℕ) (mark : Option Mark) (s : State) (t : Store) (xs : List ℤ) (known : AreKnown a s.store xs) (turns : (l : Loop) → Contains (loops_from a k) l → Turns a xs l) (some : has_none (loops_from a k) ≡ false) where
+module _ (width : Width) (a : FormSurroundings) (k line : ℕ) (mark : Option Mark) (s : State) (t : Store) (xs : List ℤ) (known : AreKnown a s.store xs) (turns : (l : FormLoop) → Contains (loops_from a k) l → Turns a xs l) (some : has_no_loop (loops_from a k) ≡ false) where
   abbrev Result_of : Reference → Expression → Type 0
-  Result_of left right = (n : ℕ) × (does_all fortran90 None (array_form_of a k line mark None left right) (ready s) ≡ record s { store = t; steps = n; way = Going })
+  Result_of left right = (n : ℕ) × (does_all (fortran90 width) None (array_form_of a k line mark None left right) (ready s) ≡ record s { store = t; steps = n; way = Going })
 
   -- whatever the number of steps is
   abbrev Done_by : Reference → Expression → Type 0
-  Done_by left right = (ws : List (Cell × Value)) × ((n : ℕ) → does_all fortran90 None (statement (array_assignment a k line mark left right) no_statements) (ready (record s { steps = n })) ≡ record s { store = t; steps = n + 1 + length ws; way = Going })
+  Done_by left right = (ws : List (Cell × Value)) × ((n : ℕ) → does_all (fortran90 width) None (statement (array_assignment a k line mark left right) no_statements) (ready (record s { steps = n })) ≡ record s { store = t; steps = n + 1 + length ws; way = Going })
 
   with_subscripts : (x : List ℕ) (e : Expression) (ps : Subscripts) (right : Expression) → let left : Reference = record { name = x; subscripts = subscript (Only e) ps } in unguarded_hold a k left ≡ None
       → are_moved a (loops_assigned a k left) (subscript (Only e) ps) ≡ true → is_regular a (loops_assigned a k left) right ≡ true
-      → NoneReadsWritten [] (instances_of fortran90 (loops_from a k) (counts_of xs (loops_from a k)) left right) s.store
-      → in_turn (instances_of fortran90 (loops_from a k) (counts_of xs (loops_from a k)) left right) s.store ≡ Ok t → Done_by left right
+      → NoneReadsWritten [] (instances_of (fortran90 width) (loops_from a k) (counts_of xs (loops_from a k)) left right) s.store
+      → in_turn (instances_of (fortran90 width) (loops_from a k) (counts_of xs (loops_from a k)) left right) s.store ≡ Ok t → Done_by left right
   with_subscripts x e ps right no_hold moved regular none run =
-      let w = written fortran90 refl a k s.store xs known turns x e ps right no_hold moved t regular refl some none run in
+      let w = written (fortran90 width) (narrowest width) a k s.store xs known turns x e ps right no_hold moved t regular refl some none run in
       let left : Reference = record { name = x; subscripts = subscript (Only e) ps } in (
         w.writes,
-        λ n. array_statement_stores fortran90 line mark (right_form a k left right) (left_form a k left) (ready (record s { steps = n })) w.writes refl w.is_array_there w.writes_known
+        λ n. array_statement_stores (fortran90 width) line mark (right_form a k left right) (left_form a k left) (ready (record s { steps = n })) w.writes refl w.is_array_there w.writes_known
             ∙ ap (λ (u : Store). let r : State = record s { store = u; steps = n + 1 + length w.writes; way = Going } in r) w.are,
       )
 
   pub assignment_done : (left : Reference) (right : Expression) → unguarded_hold a k left ≡ None → are_moved a (loops_assigned a k left) left.subscripts ≡ true → is_regular a (loops_assigned a k left) right ≡ true
-      → NoneReadsWritten [] (instances_of fortran90 (loops_from a k) (counts_of xs (loops_from a k)) left right) s.store
-      → in_turn (instances_of fortran90 (loops_from a k) (counts_of xs (loops_from a k)) left right) s.store ≡ Ok t → Done_by left right
+      → NoneReadsWritten [] (instances_of (fortran90 width) (loops_from a k) (counts_of xs (loops_from a k)) left right) s.store
+      → in_turn (instances_of (fortran90 width) (loops_from a k) (counts_of xs (loops_from a k)) left right) s.store ≡ Ok t → Done_by left right
   assignment_done left right no_hold moved regular none run = by left.subscripts refl
     where
       again : (qs : Subscripts) → left.subscripts ≡ qs → left ≡ record { name = left.name; subscripts = qs }
@@ -490,15 +492,15 @@ module _ (a : Surroundings) (k line : ℕ) (mark : Option Mark) (s : State) (t :
           (subst (λ (r : Reference). unguarded_hold a k r ≡ None) same no_hold)
           (subst (λ (r : Reference). are_moved a (loops_assigned a k r) r.subscripts ≡ true) same moved)
           (subst (λ (r : Reference). is_regular a (loops_assigned a k r) right ≡ true) same regular)
-          (subst (λ (r : Reference). NoneReadsWritten [] (instances_of fortran90 (loops_from a k) (counts_of xs (loops_from a k)) r right) s.store) same none)
-          (subst (λ (r : Reference). in_turn (instances_of fortran90 (loops_from a k) (counts_of xs (loops_from a k)) r right) s.store ≡ Ok t) same run))
+          (subst (λ (r : Reference). NoneReadsWritten [] (instances_of (fortran90 width) (loops_from a k) (counts_of xs (loops_from a k)) r right) s.store) same none)
+          (subst (λ (r : Reference). in_turn (instances_of (fortran90 width) (loops_from a k) (counts_of xs (loops_from a k)) r right) s.store ≡ Ok t) same run))
 
   pub stores_instances : (left : Reference) (right : Expression) → unguarded_hold a k left ≡ None → are_moved a (loops_assigned a k left) left.subscripts ≡ true → is_regular a (loops_assigned a k left) right ≡ true
-      → NoneReadsWritten [] (instances_of fortran90 (loops_from a k) (counts_of xs (loops_from a k)) left right) s.store
-      → in_turn (instances_of fortran90 (loops_from a k) (counts_of xs (loops_from a k)) left right) s.store ≡ Ok t → Result_of left right
+      → NoneReadsWritten [] (instances_of (fortran90 width) (loops_from a k) (counts_of xs (loops_from a k)) left right) s.store
+      → in_turn (instances_of (fortran90 width) (loops_from a k) (counts_of xs (loops_from a k)) left right) s.store ≡ Ok t → Result_of left right
   stores_instances left right no_hold moved regular none run =
       let r = assignment_done left right no_hold moved regular none run in
-      let g = block_done fortran90 a line (statement (array_assignment a k line mark left right) no_statements) s xs known (loops_from a k) turns in
+      let g = block_done (fortran90 width) a line (statement (array_assignment a k line mark left right) no_statements) s xs known (loops_from a k) turns in
       (g.0 + 1 + length r.0, g.1 ∙ r.1 g.0)
 
 pub instances_have_own_cells : InstancesHaveOwnCells
@@ -507,7 +509,7 @@ instances_have_own_cells lang a k left right s t xs bits known trips some no_hol
     again : (qs : Subscripts) → left.subscripts ≡ qs → left ≡ record { name = left.name; subscripts = qs }
     again qs e = ap (λ rs. let r : Reference = record { name = left.name; subscripts = rs } in r) e
 
-    by_subscripts : ((l : Loop) → Contains (loops_from a k) l → Turns a xs l) → (qs : Subscripts) → left.subscripts ≡ qs → OwnCells lang a k xs left right s
+    by_subscripts : ((l : FormLoop) → Contains (loops_from a k) l → Turns a xs l) → (qs : Subscripts) → left.subscripts ≡ qs → OwnCells lang a k xs left right s
     by_subscripts turns no_subscripts e = absurd (unsubscripted a k left known.distinct some no_hold e)
     by_subscripts turns (subscript (Section i j l) ps) e = absurd (let bad : false ≡ true = ap (are_moved a (loops_assigned a k left)) (sym e) ∙ moved in cc)
     by_subscripts turns (subscript (Only i) ps) e =
@@ -518,28 +520,28 @@ instances_have_own_cells lang a k left right s t xs bits known trips some no_hol
         (subst (λ (r : Reference). NoneReadsWritten [] (instances_from lang a k xs r right) s) same none)
         (subst (λ (r : Reference). in_turn (instances_from lang a k xs r right) s ≡ Ok t) same run))
 
-    by : ((l : Loop) → Contains (loops_from a k) l → 1 ≤ count_of xs l) ⊎ ((l : Loop) × Contains (loops_from a k) l × (count_of xs l ≡ 0)) → OwnCells lang a k xs left right s
+    by : ((l : FormLoop) → Contains (loops_from a k) l → 1 ≤ count_of xs l) ⊎ ((l : FormLoop) × Contains (loops_from a k) l × (count_of xs l ≡ 0)) → OwnCells lang a k xs left right s
     by (inl turn) = by_subscripts (λ l c. record { trip = trips l c; least = turn l c }) left.subscripts refl
     by (inr one) = λ is js c v w hi hj ei ej. absurd (nowhere is (subst (λ iss. Contains iss is) (no_sequence xs (loops_from a k) one.0 one.1 one.2) hi))
 
-pub array_form_stores_instances : ArrayFormStoresInstances
-array_form_stores_instances a k line mark left right s t xs going known trips some no_hold moved regular none run = by (all_or_one xs (loops_from a k))
+pub array_form_stores_instances : (width : Width) → ArrayFormStoresInstances width
+array_form_stores_instances width a k line mark left right s t xs going known trips some no_hold moved regular none run = by (all_or_one xs (loops_from a k))
   where
     Outcome : Type 0
-    Outcome = (n : ℕ) × (does_all fortran90 None (array_form_of a k line mark None left right) s ≡ record s { store = t; steps = n })
+    Outcome = (n : ℕ) × (does_all (fortran90 width) None (array_form_of a k line mark None left right) s ≡ record s { store = t; steps = n })
 
-    at_going : (u : Store) → u ≡ t → (n : ℕ) → does_all fortran90 None (array_form_of a k line mark None left right) (ready s) ≡ record s { store = u; steps = n; way = Going } → Outcome
+    at_going : (u : Store) → u ≡ t → (n : ℕ) → does_all (fortran90 width) None (array_form_of a k line mark None left right) (ready s) ≡ record s { store = u; steps = n; way = Going } → Outcome
     at_going u e n h = (
       n,
-      subst (λ (v : State). does_all fortran90 None (array_form_of a k line mark None left right) v ≡ record v { store = t; steps = n }) (λ i. let v : State = record s { way = sym going i } in v)
+      subst (λ (v : State). does_all (fortran90 width) None (array_form_of a k line mark None left right) v ≡ record v { store = t; steps = n }) (λ i. let v : State = record s { way = sym going i } in v)
           (h ∙ ap (λ (v : Store). let r : State = record s { store = v; steps = n; way = Going } in r) e),
     )
 
-    by : ((l : Loop) → Contains (loops_from a k) l → 1 ≤ count_of xs l) ⊎ ((l : Loop) × Contains (loops_from a k) l × (count_of xs l ≡ 0)) → Outcome
+    by : ((l : FormLoop) → Contains (loops_from a k) l → 1 ≤ count_of xs l) ⊎ ((l : FormLoop) × Contains (loops_from a k) l × (count_of xs l ≡ 0)) → Outcome
     by (inl turn) =
-        let r = stores_instances a k line mark s t xs known (λ l c. record { trip = trips l c; least = turn l c }) some left right no_hold moved regular none run in
+        let r = stores_instances width a k line mark s t xs known (λ l c. record { trip = trips l c; least = turn l c }) some left right no_hold moved regular none run in
         at_going t refl r.0 r.1
     by (inr one) =
-        let r = nothing_done fortran90 a line (statement (array_assignment a k line mark left right) no_statements) s xs known (loops_from a k) (λ l c. let h = trips l c in (h.limits, h.divisor)) one.0 one.1 one.2 in
-        let stays = ap (λ iss. in_turn (map (instance_at fortran90 (loops_from a k) left right) iss) s.store) (sym (no_sequence xs (loops_from a k) one.0 one.1 one.2)) ∙ run in
+        let r = nothing_done (fortran90 width) a line (statement (array_assignment a k line mark left right) no_statements) s xs known (loops_from a k) (λ l c. let h = trips l c in (h.limits, h.divisor)) one.0 one.1 one.2 in
+        let stays = ap (λ iss. in_turn (map (instance_at (fortran90 width) (loops_from a k) left right) iss) s.store) (sym (no_sequence xs (loops_from a k) one.0 one.1 one.2)) ∙ run in
         at_going s.store (same_answer s.store t stays) r.0 r.1

@@ -17,7 +17,7 @@ use Rattle.array_form.specs.holds.Holds.{hold_at_level, holds_of_standing}
 use Rattle.array_form.specs.holds.Noted.{AreNoted, IsNoted}
 use Rattle.array_form.specs.holds.Plain.{HasFewLoops}
 use Rattle.array_form.specs.holds.Statements.{no_statement, statement_at}
-use Rattle.array_form.specs.holds.Surroundings.{counted, surroundings_of}
+use Rattle.array_form.specs.holds.Surroundings.{counted_loop, surroundings_of}
 use Rattle.array_form.specs.holds.View.{surroundings_view}
 use Rattle.array_form.specs.declared.holds.loops.Surroundings.{Surroundings}
 use Rattle.array_form.specs.declared.holds.noted.Noted.{Noted}
@@ -33,24 +33,24 @@ standing_at n all s x h k e =
 pub as_many : (n : Nest) (all : List Standing) → map standing_of all ≡ bodies.nest_statements n → length all ≡ length (bodies.nest_statements n)
 as_many n all h = sym (length-map all standing_of) ∙ ap length h
 
-pub few_loops : (a : Surroundings) (x : Standing) → a.loops ≡ map counted (map loop_of x.loops) → length a.loops ≡ length x.loops
-few_loops a x e = ap length e ∙ (length-map (map loop_of x.loops) counted ∙ length-map x.loops loop_of)
+pub few_loops : (a : Surroundings) (x : Standing) → a.loops ≡ map counted_loop (map loop_of x.loops) → length a.loops ≡ length x.loops
+few_loops a x e = ap length e ∙ (length-map (map loop_of x.loops) counted_loop ∙ length-map x.loops loop_of)
 
 -- without a guard it doesn't matter whether a statement is safe
-as_safe : (s : ℕ) (v : forms.Surroundings) (guard : Option Expression) (left : Reference) (safe b : Bool) (ks : List ℕ) → safe ≡ (is_none guard || b) → flat_map (hold_at_level s v guard left safe) ks ≡ flat_map (hold_at_level s v guard left b) ks
+as_safe : (s : ℕ) (v : forms.FormSurroundings) (guard : Option Expression) (left : Reference) (safe b : Bool) (ks : List ℕ) → safe ≡ (is_none guard || b) → flat_map (hold_at_level s v guard left safe) ks ≡ flat_map (hold_at_level s v guard left b) ks
 as_safe s v None left safe b ks is = refl
 as_safe s v (Some e) left safe b ks is = ap (λ d. flat_map (hold_at_level s v (Some e) left d) ks) is
 
-standing_holds : (n : Nest) (s : ℕ) (a : Surroundings) (x : Standing) (safe : Bool) (hs : List Hold) → surroundings_view a ≡ surroundings_of n (map loop_of x.loops) → a.loops ≡ map counted (map loop_of x.loops)
+standing_holds : (n : Nest) (s : ℕ) (a : Surroundings) (x : Standing) (safe : Bool) (hs : List Hold) → surroundings_view a ≡ surroundings_of n (map loop_of x.loops) → a.loops ≡ map counted_loop (map loop_of x.loops)
     → safe ≡ (is_none (standing_of x).statement.guard || is_safe n (standing_of x))
     → hs ≡ flat_map (hold_at_level s (surroundings_view a) (standing_of x).statement.guard (standing_of x).statement.left safe) (counted' 1 (length a.loops)) → hs ≡ holds_of_standing n s (standing_of x)
 standing_holds n s a x safe hs v l is h =
     let y = standing_of x in
-    h ∙ (ap (λ (b : forms.Surroundings). flat_map (hold_at_level s b y.statement.guard y.statement.left safe) (counted' 1 (length a.loops))) v
+    h ∙ (ap (λ (b : forms.FormSurroundings). flat_map (hold_at_level s b y.statement.guard y.statement.left safe) (counted' 1 (length a.loops))) v
     ∙ (as_safe s (surroundings_of n y.loops) y.statement.guard y.statement.left safe (is_safe n y) (counted' 1 (length a.loops)) is
-    ∙ ap (λ m. flat_map (hold_at_level s (surroundings_of n y.loops) y.statement.guard y.statement.left (is_safe n y)) (counted' 1 m)) (ap length l ∙ length-map (map loop_of x.loops) counted)))
+    ∙ ap (λ m. flat_map (hold_at_level s (surroundings_of n y.loops) y.statement.guard y.statement.left (is_safe n y)) (counted' 1 m)) (ap length l ∙ length-map (map loop_of x.loops) counted_loop)))
 
-pub standing_ok : (n : Nest) (s : ℕ) (a : Surroundings) (x : Standing) (safe : Bool) (r : Result (List Hold) Memory) → surroundings_view a ≡ surroundings_of n (map loop_of x.loops) → a.loops ≡ map counted (map loop_of x.loops)
+pub standing_ok : (n : Nest) (s : ℕ) (a : Surroundings) (x : Standing) (safe : Bool) (r : Result (List Hold) Memory) → surroundings_view a ≡ surroundings_of n (map loop_of x.loops) → a.loops ≡ map counted_loop (map loop_of x.loops)
     → safe ≡ (is_none (standing_of x).statement.guard || is_safe n (standing_of x))
     → IfOk r (λ hs. hs ≡ flat_map (hold_at_level s (surroundings_view a) (standing_of x).statement.guard (standing_of x).statement.left safe) (counted' 1 (length a.loops))) → IfOk r (λ hs. hs ≡ holds_of_standing n s (standing_of x))
 standing_ok n s a x safe (Ok hs) v l is h = standing_holds n s a x safe hs v l is h

@@ -20,11 +20,11 @@ use Rattle.array_form.specs.forms.Instances.{in_sequence}
 use Rattle.array_form.specs.forms.Loops as forms
 use Rattle.array_form.proofs.TextLaws.{none_in, not_none, zeros_pass, all_both}
 use Rattle.array_form.proofs.forms.Positions.{AreFrom, sequence_from, from_sequence}
-use Rattle.array_form.specs.holds.Bounds.{Term, coefficients_of, is_between, is_constant, is_in_box, iterations_of, stays_between, terms_in}
+use Rattle.array_form.specs.holds.Bounds.{Term, coefficients_of, is_between, is_constant_trip, is_in_box, iterations_of, stays_between, terms_in}
 use Rattle.array_form.specs.holds.Boxes.{AreEnds, HasEnds, moved_by, sum_at, trips_of, widened}
-use Rattle.array_form.specs.holds.Surroundings.{coefficients_from, form_of_affine, trip_of}
+use Rattle.array_form.specs.holds.Surroundings.{coefficients_from, form_of_affine, form_trip_of}
 use Rattle.array_form.specs.declared.holds.boxes.Ends.{Ends}
-use Rattle.array_form.specs.declared.holds.loops.Counted.{Counted}
+use Rattle.array_form.specs.declared.holds.loops.CountedLoop.{CountedLoop}
 
 abbrev is_zero : ℤ → Bool
 is_zero c = int_eq c (pos 0)
@@ -47,37 +47,37 @@ no_term_else n a part r p loops f =
 -- ---- constant trips
 
 abbrev all_constant : List Term → Bool
-all_constant ts = list_all (λ (t : Term). is_constant t.trip) ts
+all_constant ts = list_all (λ (t : Term). is_constant_trip t.trip) ts
 
-terms_cons : (t : forms.Trip) (ts : List forms.Trip) (c : ℤ) (cs : List ℤ) → all_constant (terms_in (t ∷ ts) (c ∷ cs)) ≡ ((int_eq c (pos 0) || is_constant t) && all_constant (terms_in ts cs))
+terms_cons : (t : forms.FormTrip) (ts : List forms.FormTrip) (c : ℤ) (cs : List ℤ) → all_constant (terms_in (t ∷ ts) (c ∷ cs)) ≡ ((int_eq c (pos 0) || is_constant_trip t) && all_constant (terms_in ts cs))
 terms_cons t ts c cs = by (int_eq c (pos 0))
   where
-    by : (b : Bool) → all_constant (cond b (terms_in ts cs) (record { coefficient = c; trip = t } ∷ terms_in ts cs)) ≡ ((b || is_constant t) && all_constant (terms_in ts cs))
+    by : (b : Bool) → all_constant (cond b (terms_in ts cs) (record { coefficient = c; trip = t } ∷ terms_in ts cs)) ≡ ((b || is_constant_trip t) && all_constant (terms_in ts cs))
     by true = refl
     by false = refl
 
-terms_of_none : (ts : List forms.Trip) → terms_in ts [] ≡ []
+terms_of_none : (ts : List forms.FormTrip) → terms_in ts [] ≡ []
 terms_of_none [] = refl
 terms_of_none (t ∷ ts) = refl
 
-pub constant_none : (depth : ℕ) (ls : List Counted) (cs : List ℤ) → ls ≡ [] → true ≡ list_all (λ (t : Term). is_constant t.trip) (terms_in (trips_of depth ls) cs)
+pub constant_none : (depth : ℕ) (ls : List CountedLoop) (cs : List ℤ) → ls ≡ [] → true ≡ list_all (λ (t : Term). is_constant_trip t.trip) (terms_in (trips_of depth ls) cs)
 constant_none depth ls cs h = sym (ap (λ ms. all_constant (terms_in (trips_of depth ms) cs)) h)
 
-pub constant_without : (depth : ℕ) (ls : List Counted) (cs : List ℤ) → cs ≡ [] → true ≡ list_all (λ (t : Term). is_constant t.trip) (terms_in (trips_of depth ls) cs)
+pub constant_without : (depth : ℕ) (ls : List CountedLoop) (cs : List ℤ) → cs ≡ [] → true ≡ list_all (λ (t : Term). is_constant_trip t.trip) (terms_in (trips_of depth ls) cs)
 constant_without depth ls cs h = sym (ap (λ ds. all_constant (terms_in (trips_of depth ls) ds)) h ∙ ap all_constant (terms_of_none (trips_of depth ls)))
 
-constant_both : (depth : ℕ) (ls ms : List Counted) (l : Counted) (cs ds : List ℤ) (c : ℤ) → ls ≡ l ∷ ms → cs ≡ c ∷ ds
-    → all_constant (terms_in (trips_of depth ls) cs) ≡ ((int_eq c (pos 0) || is_constant (trip_of depth l.trip)) && all_constant (terms_in (trips_of depth ms) ds))
+constant_both : (depth : ℕ) (ls ms : List CountedLoop) (l : CountedLoop) (cs ds : List ℤ) (c : ℤ) → ls ≡ l ∷ ms → cs ≡ c ∷ ds
+    → all_constant (terms_in (trips_of depth ls) cs) ≡ ((int_eq c (pos 0) || is_constant_trip (form_trip_of depth l.trip)) && all_constant (terms_in (trips_of depth ms) ds))
 constant_both depth ls ms l cs ds c h k =
-    ap₂ (λ ks es. all_constant (terms_in (trips_of depth ks) es)) h k ∙ terms_cons (trip_of depth l.trip) (trips_of depth ms) c ds
+    ap₂ (λ ks es. all_constant (terms_in (trips_of depth ks) es)) h k ∙ terms_cons (form_trip_of depth l.trip) (trips_of depth ms) c ds
 
-pub constant_then : (depth : ℕ) (ls ms : List Counted) (l : Counted) (cs ds : List ℤ) (c : ℤ) (b r : Bool) → ls ≡ l ∷ ms → cs ≡ c ∷ ds → b ≡ (int_eq c (pos 0) || is_constant (trip_of depth l.trip)) → b ≡ true
-    → r ≡ list_all (λ (t : Term). is_constant t.trip) (terms_in (trips_of depth ms) ds) → r ≡ list_all (λ (t : Term). is_constant t.trip) (terms_in (trips_of depth ls) cs)
+pub constant_then : (depth : ℕ) (ls ms : List CountedLoop) (l : CountedLoop) (cs ds : List ℤ) (c : ℤ) (b r : Bool) → ls ≡ l ∷ ms → cs ≡ c ∷ ds → b ≡ (int_eq c (pos 0) || is_constant_trip (form_trip_of depth l.trip)) → b ≡ true
+    → r ≡ list_all (λ (t : Term). is_constant_trip t.trip) (terms_in (trips_of depth ms) ds) → r ≡ list_all (λ (t : Term). is_constant_trip t.trip) (terms_in (trips_of depth ls) cs)
 constant_then depth ls ms l cs ds c b r h k is t more =
     more ∙ sym (constant_both depth ls ms l cs ds c h k ∙ ap (λ x. x && all_constant (terms_in (trips_of depth ms) ds)) (sym is ∙ t))
 
-pub constant_else : (depth : ℕ) (ls ms : List Counted) (l : Counted) (cs ds : List ℤ) (c : ℤ) (b : Bool) → ls ≡ l ∷ ms → cs ≡ c ∷ ds → b ≡ (int_eq c (pos 0) || is_constant (trip_of depth l.trip)) → b ≡ false
-    → b ≡ list_all (λ (t : Term). is_constant t.trip) (terms_in (trips_of depth ls) cs)
+pub constant_else : (depth : ℕ) (ls ms : List CountedLoop) (l : CountedLoop) (cs ds : List ℤ) (c : ℤ) (b : Bool) → ls ≡ l ∷ ms → cs ≡ c ∷ ds → b ≡ (int_eq c (pos 0) || is_constant_trip (form_trip_of depth l.trip)) → b ≡ false
+    → b ≡ list_all (λ (t : Term). is_constant_trip t.trip) (terms_in (trips_of depth ls) cs)
 constant_else depth ls ms l cs ds c b h k is f =
     f ∙ sym (constant_both depth ls ms l cs ds c h k ∙ ap (λ x. x && all_constant (terms_in (trips_of depth ms) ds)) (sym is ∙ f))
 
@@ -223,11 +223,11 @@ ends_of_none = over_ends [] no_ends (record {
     by : (is : List ℕ) → AreFrom 1 [] is → (pos 0 ≤ℤ weighted [] (map pos is)) × (weighted [] (map pos is) ≤ℤ pos 0)
     by is a = (omega (arith, ints), omega (arith, ints))
 
-abbrev with_term : ℤ → forms.Trip → List Term → List Term
+abbrev with_term : ℤ → forms.FormTrip → List Term → List Term
 with_term c t ts = record { coefficient = c; trip = t } ∷ ts
 
 -- a loop that doesn't turn leaves no iteration
-no_iteration : (c : ℤ) (t : forms.Trip) (ts : List Term) → not_negative t.form.constant ≡ 0 → iterations_of (with_term c t ts) ≡ []
+no_iteration : (c : ℤ) (t : forms.FormTrip) (ts : List Term) → not_negative t.form.constant ≡ 0 → iterations_of (with_term c t ts) ≡ []
 no_iteration c t ts h = ap (λ n. in_sequence (n ∷ counts_in ts)) h
 
 nothing_behind : (n : ℕ) (ns : List ℕ) → in_sequence ns ≡ [] → in_sequence (n ∷ ns) ≡ []
@@ -258,7 +258,7 @@ some_turn (negsuc n) h = let some = true_le (pos 1) (negsuc n) h in absurd (omeg
 abbrev Grow : Ends → Ends → Type 0
 Grow e f = (unsigned_abs f.least ≤ unsigned_abs e.least + 2 ^ 103) × (unsigned_abs f.greatest ≤ unsigned_abs e.greatest + 2 ^ 103)
 
-pub term_widened : (c : ℤ) (t : forms.Trip) (ts : List Term) (e : Ends) (r : Option Ends) → AreEnds ts e → r ≡ widened e c t.form.constant
+pub term_widened : (c : ℤ) (t : forms.FormTrip) (ts : List Term) (e : Ends) (r : Option Ends) → AreEnds ts e → r ≡ widened e c t.form.constant
     → IfSome r (λ (f : Ends). (unsigned_abs f.least ≤ unsigned_abs e.least + 2 ^ 103) × (unsigned_abs f.greatest ≤ unsigned_abs e.greatest + 2 ^ 103)) → HasEnds (record { coefficient = c; trip = t } ∷ ts) r
 term_widened c t ts e r h is sizes = by (int_le (pos 1) t.form.constant) refl is
   where
@@ -277,7 +277,7 @@ term_widened c t ts e r h is sizes = by (int_le (pos 1) t.form.constant) refl is
         (wider (coefficients_of ts) (counts_in ts) e (ends_over ts e h) c n turn.1 (int_le c (c *ℤ pos n)) refl))
         (one_more (length ts) made.least e.least h.small.0 grown.0, one_more (length ts) made.greatest e.greatest h.small.1 grown.1))
 
-few_terms : (trips : List forms.Trip) (cs : List ℤ) → length (terms_in trips cs) ≤ length trips
+few_terms : (trips : List forms.FormTrip) (cs : List ℤ) → length (terms_in trips cs) ≤ length trips
 few_terms [] cs = omega arith
 few_terms (t ∷ ts) [] = omega arith
 few_terms (t ∷ ts) (c ∷ cs) = by (int_eq c (pos 0)) (few_terms ts cs)
@@ -287,11 +287,11 @@ few_terms (t ∷ ts) (c ∷ cs) = by (int_eq c (pos 0)) (few_terms ts cs)
     by false h = omega (arith, h)
 
 -- one loop more
-module _ (depth : ℕ) (ls ms : List Counted) (l : Counted) (cs ds : List ℤ) (c : ℤ) (loops : ls ≡ l ∷ ms) (times : cs ≡ c ∷ ds) where
+module _ (depth : ℕ) (ls ms : List CountedLoop) (l : CountedLoop) (cs ds : List ℤ) (c : ℤ) (loops : ls ≡ l ∷ ms) (times : cs ≡ c ∷ ds) where
   abbrev inner : List Term
   inner = terms_in (trips_of depth ms) ds
 
-  with_loop : terms_in (trips_of depth ls) cs ≡ cond (int_eq c (pos 0)) (terms_in (trips_of depth ms) ds) (with_term c (trip_of depth l.trip) (terms_in (trips_of depth ms) ds))
+  with_loop : terms_in (trips_of depth ls) cs ≡ cond (int_eq c (pos 0)) (terms_in (trips_of depth ms) ds) (with_term c (form_trip_of depth l.trip) (terms_in (trips_of depth ms) ds))
   with_loop = ap₂ (λ ks es. terms_in (trips_of depth ks) es) loops times
 
   pub ends_of_no_turn : (o : Option Ends) → HasEnds (terms_in (trips_of depth ms) ds) o → o ≡ None → iterations_of (terms_in (trips_of depth ls) cs) ≡ []
@@ -300,33 +300,33 @@ module _ (depth : ℕ) (ls ms : List Counted) (l : Counted) (cs ds : List ℤ) (
       nothing : iterations_of inner ≡ []
       nothing = subst (HasEnds inner) e h
 
-      by : (b : Bool) → iterations_of (cond b inner (with_term c (trip_of depth l.trip) inner)) ≡ []
+      by : (b : Bool) → iterations_of (cond b inner (with_term c (form_trip_of depth l.trip) inner)) ≡ []
       by true = nothing
-      by false = nothing_behind (not_negative (trip_of depth l.trip).form.constant) (counts_in inner) nothing
+      by false = nothing_behind (not_negative (form_trip_of depth l.trip).form.constant) (counts_in inner) nothing
 
   pub ends_without : (o : Option Ends) (e : Ends) (b : Bool) → HasEnds (terms_in (trips_of depth ms) ds) o → o ≡ Some e → b ≡ int_eq c (pos 0) → b ≡ true → AreEnds (terms_in (trips_of depth ls) cs) e
   ends_without o e b h i is t =
-      subst (λ ts. AreEnds ts e) (sym (with_loop ∙ ap (λ d. cond d inner (with_term c (trip_of depth l.trip) inner)) (sym is ∙ t))) (subst (HasEnds inner) i h)
+      subst (λ ts. AreEnds ts e) (sym (with_loop ∙ ap (λ d. cond d inner (with_term c (form_trip_of depth l.trip) inner)) (sym is ∙ t))) (subst (HasEnds inner) i h)
 
   pub ends_wider : (o r : Option Ends) (e : Ends) (b : Bool) → HasEnds (terms_in (trips_of depth ms) ds) o → o ≡ Some e → b ≡ int_eq c (pos 0) → b ≡ false → r ≡ widened e c l.trip.top.constant
       → IfSome r (λ (f : Ends). (unsigned_abs f.least ≤ unsigned_abs e.least + 2 ^ 103) × (unsigned_abs f.greatest ≤ unsigned_abs e.greatest + 2 ^ 103)) → HasEnds (terms_in (trips_of depth ls) cs) r
   ends_wider o r e b h i is f made sizes =
-      subst (λ ts. HasEnds ts r) (sym (with_loop ∙ ap (λ d. cond d inner (with_term c (trip_of depth l.trip) inner)) (sym is ∙ f)))
-      (term_widened c (trip_of depth l.trip) inner e r (subst (HasEnds inner) i h) made sizes)
+      subst (λ ts. HasEnds ts r) (sym (with_loop ∙ ap (λ d. cond d inner (with_term c (form_trip_of depth l.trip) inner)) (sym is ∙ f)))
+      (term_widened c (form_trip_of depth l.trip) inner e r (subst (HasEnds inner) i h) made sizes)
 
 -- of at most seven loops
-pub ends_small : (depth : ℕ) (ls : List Counted) (cs : List ℤ) (o : Option Ends) (e : Ends) → length ls ≤ 7 → HasEnds (terms_in (trips_of depth ls) cs) o → o ≡ Some e
+pub ends_small : (depth : ℕ) (ls : List CountedLoop) (cs : List ℤ) (o : Option Ends) (e : Ends) → length ls ≤ 7 → HasEnds (terms_in (trips_of depth ls) cs) o → o ≡ Some e
     → (unsigned_abs e.least ≤ 7 * 2 ^ 103) × (unsigned_abs e.greatest ≤ 7 * 2 ^ 103)
 ends_small depth ls cs o e few h i =
     let ends : AreEnds (terms_in (trips_of depth ls) cs) e = subst (HasEnds (terms_in (trips_of depth ls) cs)) i h in
     let terms = few_terms (trips_of depth ls) cs in
-    let trips : length (trips_of depth ls) ≡ length ls = length-map ls (λ (l : Counted). trip_of depth l.trip) in
+    let trips : length (trips_of depth ls) ≡ length ls = length-map ls (λ (l : CountedLoop). form_trip_of depth l.trip) in
     (at_most_seven (length (terms_in (trips_of depth ls) cs)) (unsigned_abs e.least) (omega arith) ends.small.0, at_most_seven (length (terms_in (trips_of depth ls) cs)) (unsigned_abs e.greatest) (omega arith) ends.small.1)
   where
     at_most_seven : (k z : ℕ) → k ≤ 7 → z ≤ k * 2 ^ 103 → z ≤ 7 * 2 ^ 103
     at_most_seven k z f g = omega arith
 
-pub fewer : (ls ms : List Counted) (l : Counted) → ls ≡ l ∷ ms → length ls ≤ 7 → length ms ≤ 7
+pub fewer : (ls ms : List CountedLoop) (l : CountedLoop) → ls ≡ l ∷ ms → length ls ≤ 7 → length ms ≤ 7
 fewer ls ms l e few = let k = ap length e in omega arith
 
 -- ---- the whole
@@ -385,10 +385,10 @@ between_ends b z ts e h = either_way (stays_between b z ts) (int_le b.0 (e.least
         (le_true (sum_at ts is +ℤ z) b.1 (moved_high b.1 e.greatest (sum_at ts is) z (true_le (e.greatest +ℤ z) b.1 parts.1) w.1)))
 
 -- the coefficients of loops as the program has them
-no_coefficient : (ts : List forms.Trip) (c : ℤ) (cs : List ℤ) (t : forms.Trip) → c ≡ pos 0 → terms_in (t ∷ ts) (c ∷ cs) ≡ terms_in ts cs
+no_coefficient : (ts : List forms.FormTrip) (c : ℤ) (cs : List ℤ) (t : forms.FormTrip) → c ≡ pos 0 → terms_in (t ∷ ts) (c ∷ cs) ≡ terms_in ts cs
 no_coefficient ts c cs t h = ap (λ b. cond b (terms_in ts cs) (record { coefficient = c; trip = t } ∷ terms_in ts cs)) ((Decides-int_eq c (pos 0)).1 h)
 
-terms_same : (ts : List forms.Trip) (xs ys : List ℤ) → ((k : ℕ) → get_or xs k (pos 0) ≡ get_or (take (length ts) ys) k (pos 0)) → terms_in ts xs ≡ terms_in ts ys
+terms_same : (ts : List forms.FormTrip) (xs ys : List ℤ) → ((k : ℕ) → get_or xs k (pos 0) ≡ get_or (take (length ts) ys) k (pos 0)) → terms_in ts xs ≡ terms_in ts ys
 terms_same [] xs ys h = refl
 terms_same (t ∷ ts) [] [] h = refl
 terms_same (t ∷ ts) [] (y ∷ ys) h =
@@ -430,12 +430,12 @@ unused_is ds = by (front_term 0 ds)
 pub symbols_are : (n : ℕ) (f : Form) (a : Affine) (r : Bool) → IsAffineOf n f a → r ≡ list_all (λ c. int_eq c (pos 0)) (coefficients_from 0 a.syms) → r ≡ (not_zero (drop n f.coefficients) == 0)
 symbols_are n f a r h is = is ∙ (ap (λ ts. list_all is_zero (coefficients_from 0 ts)) h.symbols ∙ unused_is (drop n f.coefficients))
 
-module _ (ls : List Counted) (f : Form) (a : Affine) (b : ℤ × ℤ) (h : IsAffineOf (length ls) f a) where
-  abbrev trips : List forms.Trip
+module _ (ls : List CountedLoop) (f : Form) (a : Affine) (b : ℤ × ℤ) (h : IsAffineOf (length ls) f a) where
+  abbrev trips : List forms.FormTrip
   trips = trips_of (length ls) ls
 
   as_many : length trips ≡ length ls
-  as_many = length-map ls (λ (l : Counted). trip_of (length ls) l.trip)
+  as_many = length-map ls (λ (l : CountedLoop). form_trip_of (length ls) l.trip)
 
   own_terms : terms_in trips a.loops ≡ terms_in trips f.coefficients
   own_terms = terms_same trips a.loops f.coefficients (λ k. h.loops k ∙ ap (λ n. get_or (take n f.coefficients) k (pos 0)) (sym as_many))
@@ -451,26 +451,26 @@ module _ (ls : List Counted) (f : Form) (a : Affine) (b : ℤ × ℤ) (h : IsAff
   not_unused r is not_so = sym (box_is ∙ ap (λ s. s && (all_constant (terms_in trips a.loops) && stays_between b f.constant (terms_in trips a.loops))) (sym (symbols_are (length ls) f a r h is) ∙ not_so))
 
   pub not_constant : (r s : Bool) → r ≡ list_all (λ c. int_eq c (pos 0)) (coefficients_from 0 a.syms) → r ≡ true
-      → s ≡ list_all (λ (t : Term). is_constant t.trip) (terms_in (trips_of (length ls) ls) a.loops) → s ≡ false → false ≡ is_in_box (trips_of (length ls) ls) f b
+      → s ≡ list_all (λ (t : Term). is_constant_trip t.trip) (terms_in (trips_of (length ls) ls) a.loops) → s ≡ false → false ≡ is_in_box (trips_of (length ls) ls) f b
   not_constant r s is so c not_so =
       sym (box_is ∙ (ap (λ x. x && (all_constant (terms_in trips a.loops) && stays_between b f.constant (terms_in trips a.loops))) (sym (symbols_are (length ls) f a r h is) ∙ so)
       ∙ ap (λ x. x && stays_between b f.constant (terms_in trips a.loops)) (sym c ∙ not_so)))
 
   constant_box : (r s : Bool) → r ≡ list_all (λ c. int_eq c (pos 0)) (coefficients_from 0 a.syms) → r ≡ true
-      → s ≡ list_all (λ (t : Term). is_constant t.trip) (terms_in (trips_of (length ls) ls) a.loops) → s ≡ true → is_in_box (trips_of (length ls) ls) f b ≡ stays_between b f.constant (terms_in trips a.loops)
+      → s ≡ list_all (λ (t : Term). is_constant_trip t.trip) (terms_in (trips_of (length ls) ls) a.loops) → s ≡ true → is_in_box (trips_of (length ls) ls) f b ≡ stays_between b f.constant (terms_in trips a.loops)
   constant_box r s is so c too =
       box_is ∙ (ap (λ x. x && (all_constant (terms_in trips a.loops) && stays_between b f.constant (terms_in trips a.loops))) (sym (symbols_are (length ls) f a r h is) ∙ so)
       ∙ ap (λ x. x && stays_between b f.constant (terms_in trips a.loops)) (sym c ∙ too))
 
   pub empty_box : (r s : Bool) → r ≡ list_all (λ c. int_eq c (pos 0)) (coefficients_from 0 a.syms) → r ≡ true
-      → s ≡ list_all (λ (t : Term). is_constant t.trip) (terms_in (trips_of (length ls) ls) a.loops) → s ≡ true
+      → s ≡ list_all (λ (t : Term). is_constant_trip t.trip) (terms_in (trips_of (length ls) ls) a.loops) → s ≡ true
       → (o : Option Ends) → HasEnds (terms_in (trips_of (length ls) ls) a.loops) o → o ≡ None → true ≡ is_in_box (trips_of (length ls) ls) f b
   empty_box r s is so c too o h e =
       let none : iterations_of (terms_in trips a.loops) ≡ [] = subst (HasEnds (terms_in trips a.loops)) e h in
       sym (constant_box r s is so c too ∙ ap (list_all (λ js. is_between b (sum_at (terms_in trips a.loops) js +ℤ f.constant))) none)
 
   pub box_of_ends : (r s t : Bool) (o : Option Ends) (e : Ends) → r ≡ list_all (λ c. int_eq c (pos 0)) (coefficients_from 0 a.syms) → r ≡ true
-      → s ≡ list_all (λ (t : Term). is_constant t.trip) (terms_in (trips_of (length ls) ls) a.loops) → s ≡ true
+      → s ≡ list_all (λ (t : Term). is_constant_trip t.trip) (terms_in (trips_of (length ls) ls) a.loops) → s ≡ true
       → HasEnds (terms_in (trips_of (length ls) ls) a.loops) o → o ≡ Some e → t ≡ (int_le b.0 (e.least +ℤ a.constant) && int_le (e.greatest +ℤ a.constant) b.1) → t ≡ is_in_box (trips_of (length ls) ls) f b
   box_of_ends r s t o e is so c too ends i answer =
       answer ∙ (ap (λ z. int_le b.0 (e.least +ℤ z) && int_le (e.greatest +ℤ z) b.1) h.constant

@@ -17,9 +17,9 @@ use Rattle.array_form.specs.holds.Surroundings.{counted_of}
 use Rattle.array_form.specs.holds.View.{surroundings_view}
 use Rattle.array_form.specs.declared.holds.loops.Surroundings.{Surroundings}
 use Rattle.array_form.specs.holds.Levels.{loops_from_place}
-use Rattle.array_form.specs.holds.Holds.{hold_at_level, hold_with, reason_of}
+use Rattle.array_form.specs.holds.Holds.{hold_at_level, hold_with, hold_reason_of}
 
-abbrev first_of : Bool → Bool → Bool → Option forms.Hold
+abbrev first_of : Bool → Bool → Bool → Option forms.HoldCause
 first_of f t b = cond (not f) (Some forms.FormHold) (cond t (Some forms.TriangleHold) (cond b (Some forms.BoundsHold) None))
 
 abbrev has_form_from : Surroundings → ℕ → Ref → Bool
@@ -44,24 +44,24 @@ module _ (a : Surroundings) (from : ℕ) (guard : Option Expression) (left : Ref
   triangle = forms.is_triangle (surroundings_view a) (loops_from_place a from)
 
   abbrev reason : Option HoldReason
-  reason = reason_of (forms.hold_at (surroundings_view a) (from + 1) guard (reference_of left) safe)
+  reason = hold_reason_of (forms.hold_at (surroundings_view a) (from + 1) guard (reference_of left) safe)
 
-  pub reason-form : has_form_from a from left ≡ false → reason_of (forms.hold_at (surroundings_view a) (from + 1) guard (reference_of left) safe) ≡ Some Form
-  reason-form f = ap reason_of (hold-is a from guard left safe ∙ ap (λ b. first_of b triangle (is_outside a from guard safe)) f)
+  pub reason-form : has_form_from a from left ≡ false → hold_reason_of (forms.hold_at (surroundings_view a) (from + 1) guard (reference_of left) safe) ≡ Some Form
+  reason-form f = ap hold_reason_of (hold-is a from guard left safe ∙ ap (λ b. first_of b triangle (is_outside a from guard safe)) f)
 
   pub reason-triangle : has_form_from a from left ≡ true → forms.is_triangle (surroundings_view a) (loops_from_place a from) ≡ true
-      → reason_of (forms.hold_at (surroundings_view a) (from + 1) guard (reference_of left) safe) ≡ Some Triangle
-  reason-triangle f t = ap reason_of (hold-is a from guard left safe ∙ ap (λ b. first_of b triangle (is_outside a from guard safe)) f ∙ ap (λ b. first_of true b (is_outside a from guard safe)) t)
+      → hold_reason_of (forms.hold_at (surroundings_view a) (from + 1) guard (reference_of left) safe) ≡ Some Triangle
+  reason-triangle f t = ap hold_reason_of (hold-is a from guard left safe ∙ ap (λ b. first_of b triangle (is_outside a from guard safe)) f ∙ ap (λ b. first_of true b (is_outside a from guard safe)) t)
 
   pub reason-bounds : has_form_from a from left ≡ true → forms.is_triangle (surroundings_view a) (loops_from_place a from) ≡ false → (forms.stand_in_guard (loops_from_place a from) guard && not safe) ≡ true
-      → reason_of (forms.hold_at (surroundings_view a) (from + 1) guard (reference_of left) safe) ≡ Some Bounds
+      → hold_reason_of (forms.hold_at (surroundings_view a) (from + 1) guard (reference_of left) safe) ≡ Some Bounds
   reason-bounds f t b =
-      ap reason_of (hold-is a from guard left safe ∙ ap (λ b. first_of b triangle (is_outside a from guard safe)) f ∙ ap (λ b. first_of true b (is_outside a from guard safe)) t ∙ ap (first_of true false) b)
+      ap hold_reason_of (hold-is a from guard left safe ∙ ap (λ b. first_of b triangle (is_outside a from guard safe)) f ∙ ap (λ b. first_of true b (is_outside a from guard safe)) t ∙ ap (first_of true false) b)
 
   pub reason-none : has_form_from a from left ≡ true → forms.is_triangle (surroundings_view a) (loops_from_place a from) ≡ false → (forms.stand_in_guard (loops_from_place a from) guard && not safe) ≡ false
-      → reason_of (forms.hold_at (surroundings_view a) (from + 1) guard (reference_of left) safe) ≡ None
+      → hold_reason_of (forms.hold_at (surroundings_view a) (from + 1) guard (reference_of left) safe) ≡ None
   reason-none f t b =
-      ap reason_of (hold-is a from guard left safe ∙ ap (λ b. first_of b triangle (is_outside a from guard safe)) f ∙ ap (λ b. first_of true b (is_outside a from guard safe)) t ∙ ap (first_of true false) b)
+      ap hold_reason_of (hold-is a from guard left safe ∙ ap (λ b. first_of b triangle (is_outside a from guard safe)) f ∙ ap (λ b. first_of true b (is_outside a from guard safe)) t ∙ ap (first_of true false) b)
 
 pub ruleset hold_laws = (reason-form, reason-triangle, reason-bounds, reason-none)
 
@@ -85,8 +85,8 @@ number_more f n old new more before now is =
     ∙ sym (flat_map-append f (counted 1 n) ((1 + n) ∷ []))
     ∙ ap (flat_map f) (sym (counted_more 1 n))
 
-pub level_more : (s : ℕ) (a : forms'.Surroundings) (guard : Option Expression) (left : Reference) (safe : Bool) (n : ℕ) (old new : List Hold) (r : Option HoldReason)
-    → old ≡ flat_map (hold_at_level s a guard left safe) (counted 1 n) → new ≡ old ++ hold_with s (n + 1) r → r ≡ reason_of (forms.hold_at a (n + 1) guard left safe)
+pub level_more : (s : ℕ) (a : forms'.FormSurroundings) (guard : Option Expression) (left : Reference) (safe : Bool) (n : ℕ) (old new : List Hold) (r : Option HoldReason)
+    → old ≡ flat_map (hold_at_level s a guard left safe) (counted 1 n) → new ≡ old ++ hold_with s (n + 1) r → r ≡ hold_reason_of (forms.hold_at a (n + 1) guard left safe)
     → new ≡ flat_map (hold_at_level s a guard left safe) (counted 1 (n + 1))
 level_more s a guard left safe n old new r before now e =
     number_more (hold_at_level s a guard left safe) n old new (hold_with s (n + 1) r) before now (ap (hold_with s (n + 1)) e)

@@ -26,7 +26,7 @@ use Rattle.dependence_graph.proofs.dep_graph.Shapes.{affine_is_form}
 use Rattle.nest.specs.Bodies.{Standing}
 use Rattle.nest.specs.Plain.{Nest}
 use Rattle.array_form.specs.holds.Bounds as plain
-use Rattle.array_form.specs.holds.Bounds.{bounded_subscripts, declared_bounds, form_in, is_made, is_sized, subscripts_of, with_bounds}
+use Rattle.array_form.specs.holds.Bounds.{bounded_subscripts, declared_bounds, form_in, is_made, is_sized, subscripts_of, subscripts_with_bounds}
 use Rattle.array_form.specs.holds.Noted.{AreBounded, AreEach, AreFound, AreNoted, IsBounded, IsGathered, IsNoted, IsNotedBehind, beside, dims_in, dims_of, sized_by, sized_within, with_found}
 use Rattle.array_form.specs.declared.holds.noted.Bounded.{Bounded}
 use Rattle.array_form.specs.declared.holds.noted.Gathered.{Gathered}
@@ -86,7 +86,7 @@ with_more depth q x (Some qs) true xs h k = (h, k)
 with_more depth q x (Some qs) false xs h k = k
 
 sized_are : (n : Nest) (loops : List (List ℕ)) (ps : Subscripts) (fs : List (Option Affine)) (ds : List Dim) → AreFormsIn loops n.symbols ps fs
-    → AreFound (length loops) (with_bounds n loops ps (map bounds_of ds)) (sized_by fs ds)
+    → AreFound (length loops) (subscripts_with_bounds n loops ps (map bounds_of ds)) (sized_by fs ds)
 sized_are n loops no_subscripts [] [] h = tt
 sized_are n loops no_subscripts [] (d ∷ ds) h =
     subst (λ b. AreFound (length loops) None (cond b (Some []) None)) (sym (unequal 0 (suc (length ds)) (λ q. absurd (omega arith)))) tt
@@ -95,26 +95,26 @@ sized_are n loops (subscript p ps) [] ds h = absurd h
 sized_are n loops (subscript p ps) (f ∷ fs) [] h =
     subst (λ b. AreFound (length loops) None (cond b (Some []) None)) (sym (unequal (suc (length fs)) 0 (λ q. absurd (omega arith)))) tt
 sized_are n loops (subscript p ps) (f ∷ fs) (d ∷ ds) h =
-    subst (λ b. AreFound (length loops) (with_bounds n loops (subscript p ps) (map bounds_of (d ∷ ds))) (cond b (Some (beside (f ∷ fs) (d ∷ ds))) None)) (sym (one_less (length fs) (length ds)))
-    (with_more (length loops) (record { form = form_in n loops p; bounds = bounds_of d }) (record { form = f; bounds = d }) (with_bounds n loops ps (map bounds_of ds)) (length fs == length ds) (beside fs ds)
+    subst (λ b. AreFound (length loops) (subscripts_with_bounds n loops (subscript p ps) (map bounds_of (d ∷ ds))) (cond b (Some (beside (f ∷ fs) (d ∷ ds))) None)) (sym (one_less (length fs) (length ds)))
+    (with_more (length loops) (record { form = form_in n loops p; bounds = bounds_of d }) (record { form = f; bounds = d }) (subscripts_with_bounds n loops ps (map bounds_of ds)) (length fs == length ds) (beside fs ds)
     (bounded_is n loops p f d h.0) (sized_are n loops ps fs ds h.1))
 
 sized_within_are : (n : Nest) (loops : List (List ℕ)) (ps : Subscripts) (fs : List (Option Affine)) (o : Option (List Dim)) → AreFormsIn loops n.symbols ps fs
-    → AreFound (length loops) (elim (option_map (map bounds_of) o) [ None ↦ None | Some bs ↦ with_bounds n loops ps bs ]) (sized_within fs o)
+    → AreFound (length loops) (elim (option_map (map bounds_of) o) [ None ↦ None | Some bs ↦ subscripts_with_bounds n loops ps bs ]) (sized_within fs o)
 sized_within_are n loops ps fs None h = tt
 sized_within_are n loops ps fs (Some ds) h = sized_are n loops ps fs ds h
 
 -- the subscripts of a reference
 pub made_subscripts : (n : Nest) (loops : List (List ℕ)) (r : Reference) (b : Bool) → b ≡ is_made n r.name → b ≡ true → AreFound (length loops) (bounded_subscripts n loops r) (Some [])
 made_subscripts n loops r b is t =
-    subst (λ c. AreFound (length loops) (cond c (Some []) (elim (declared_bounds n r.name) [ None ↦ None | Some bs ↦ with_bounds n loops r.subscripts bs ])) (Some [])) (sym t ∙ is) tt
+    subst (λ c. AreFound (length loops) (cond c (Some []) (elim (declared_bounds n r.name) [ None ↦ None | Some bs ↦ subscripts_with_bounds n loops r.subscripts bs ])) (Some [])) (sym t ∙ is) tt
 
 declared_subscripts : (n : Nest) (ds : List Decl) (loops : List (List ℕ)) (r : Reference) (b : Bool) (fs : List (Option Affine)) (o : Option (List Bounded)) → n.declarations ≡ map declaration_of ds
     → b ≡ is_made n r.name → b ≡ false → AreFormsIn loops n.symbols r.subscripts fs → o ≡ sized_within fs (dims_in ds r.name) → AreFound (length loops) (bounded_subscripts n loops r) o
 declared_subscripts n ds loops r b fs o decls is f h answer =
-    subst (λ c. AreFound (length loops) (cond c (Some []) (elim (declared_bounds n r.name) [ None ↦ None | Some bs ↦ with_bounds n loops r.subscripts bs ])) o) (sym f ∙ is)
-    (subst (λ x. AreFound (length loops) (elim x [ None ↦ None | Some bs ↦ with_bounds n loops r.subscripts bs ]) o) (sym (ap (λ es. opening_bounds es r.name) decls ∙ bounds_declared ds r.name))
-    (subst (λ x. AreFound (length loops) (elim (option_map (map bounds_of) (dims_in ds r.name)) [ None ↦ None | Some bs ↦ with_bounds n loops r.subscripts bs ]) x) (sym answer)
+    subst (λ c. AreFound (length loops) (cond c (Some []) (elim (declared_bounds n r.name) [ None ↦ None | Some bs ↦ subscripts_with_bounds n loops r.subscripts bs ])) o) (sym f ∙ is)
+    (subst (λ x. AreFound (length loops) (elim x [ None ↦ None | Some bs ↦ subscripts_with_bounds n loops r.subscripts bs ]) o) (sym (ap (λ es. opening_bounds es r.name) decls ∙ bounds_declared ds r.name))
+    (subst (λ x. AreFound (length loops) (elim (option_map (map bounds_of) (dims_in ds r.name)) [ None ↦ None | Some bs ↦ subscripts_with_bounds n loops r.subscripts bs ]) x) (sym answer)
     (sized_within_are n loops r.subscripts fs (dims_in ds r.name) h)))
 
 -- ---- all references
@@ -196,7 +196,7 @@ some_viewed f None = refl
 some_viewed f (Some x) = refl
 
 pub noted_is : (n : Nest) (x : Standing) (loops : List (List ℕ)) (rs : List Reference) (numbers : List ℕ) (old new : Gathered) (guarded : Bool) → loops ≡ variables_round x → rs ≡ references_of x
-    → numbers ≡ plain.loop_numbers x → guarded ≡ is_some x.statement.guard → old.sized ≡ true → old.subscripts ≡ [] → IsGathered n loops rs old new
+    → numbers ≡ plain.loop_numbers_round x → guarded ≡ is_some x.statement.guard → old.sized ≡ true → old.subscripts ≡ [] → IsGathered n loops rs old new
     → IsNoted n x (record { guarded = guarded; loops = numbers; sized = new.sized; subscripts = new.subscripts })
 noted_is n x loops rs numbers old new guarded l r m g sized none h =
     let k = subst (λ qs. IsGathered n (variables_round x) qs old new) r (subst (λ ls. IsGathered n ls rs old new) l h) in

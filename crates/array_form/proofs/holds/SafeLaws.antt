@@ -14,13 +14,13 @@ use Rattle.tree.specs.View.{bounds_of}
 use Rattle.tree.specs.declared.programs.Dim.{Dim}
 use Rattle.nest.specs.Bodies.{Standing, nest_statements}
 use Rattle.nest.specs.Plain.{Loop, Nest}
-use Rattle.array_form.specs.forms.Loops.{Trip}
+use Rattle.array_form.specs.forms.Loops.{FormTrip}
 use Rattle.array_form.specs.holds.Bounds as plain
-use Rattle.array_form.specs.holds.Bounds.{is_in_box, is_met, is_safe, is_safe_subscript, is_same, is_sized, lies_within, loop_numbers, meets, subscripts_of, trips_round}
+use Rattle.array_form.specs.holds.Bounds.{is_in_box, is_met, is_safe, is_safe_subscript, is_same, is_sized, lies_within, loop_numbers_round, meets, subscripts_of, trips_round}
 use Rattle.array_form.specs.holds.Boxes.{trips_of}
 use Rattle.array_form.specs.holds.Noted.{AreBounded, AreNoted, HasSmallForm, IsBounded, IsNoted}
-use Rattle.array_form.specs.holds.Surroundings.{counted, trip_of}
-use Rattle.array_form.specs.declared.holds.loops.Counted.{Counted}
+use Rattle.array_form.specs.holds.Surroundings.{counted_loop, form_trip_of}
+use Rattle.array_form.specs.declared.holds.loops.CountedLoop.{CountedLoop}
 use Rattle.array_form.specs.declared.holds.noted.Bounded.{Bounded}
 use Rattle.array_form.specs.declared.holds.noted.Noted.{Noted}
 
@@ -78,7 +78,7 @@ module _ (n : Nest) (y : Standing) (s : Noted) (loops : List ℕ) (f : Form) (b 
   whole = meets n loops f (bounds_of b) y
 
   abbrev numbers_equal : Bool
-  numbers_equal = pointwise (λ i j. i == j) (loop_numbers y) loops
+  numbers_equal = pointwise (λ i j. i == j) (loop_numbers_round y) loops
 
   abbrev has_equal : Bool
   has_equal = list_any (λ (q : plain.Bounded). is_same f q.form && lies_within (bounds_of b) q.bounds) (subscripts_of n y)
@@ -101,7 +101,7 @@ module _ (n : Nest) (y : Standing) (s : Noted) (loops : List ℕ) (f : Form) (b 
   -- its subscripts are forms under as many loops
   pub as_deep : (r : Bool) → r ≡ pointwise (λ i j. i == j) s.loops loops → r ≡ true → AreBounded (length loops) (subscripts_of n y) s.subscripts
   as_deep r is so =
-      let long : length (loop_numbers y) ≡ length loops = same_long (loop_numbers y) loops (ap (λ ks. pointwise (λ i j. i == j) ks loops) (sym h.loops) ∙ (sym is ∙ so)) in
+      let long : length (loop_numbers_round y) ≡ length loops = same_long (loop_numbers_round y) loops (ap (λ ks. pointwise (λ i j. i == j) ks loops) (sym h.loops) ∙ (sym is ∙ so)) in
       subst (λ d. AreBounded d (subscripts_of n y) s.subscripts) (sym (length-map y.loops (λ (l : Loop). l.number)) ∙ long) h.subscripts
 
 -- ---- one among the statements
@@ -140,21 +140,21 @@ pub not_linear : (n : Nest) (x : Standing) (d : ℕ) (q : plain.Bounded) (b : Bo
 not_linear n x d q b e h = by q.form refl (subst (IsFound d q.form) e h.form)
   where
     by : (o : Option Form) → q.form ≡ o → IsFound d o None → false ≡ is_safe_subscript n x q
-    by None g k = sym (ap (λ o. elim o [ None ↦ false | Some f ↦ is_in_box (trips_round x) f q.bounds || is_met n (loop_numbers x) f q.bounds ]) g)
+    by None g k = sym (ap (λ o. elim o [ None ↦ false | Some f ↦ is_in_box (trips_round x) f q.bounds || is_met n (loop_numbers_round x) f q.bounds ]) g)
     by (Some f) g k = absurd k
 
 module _ (n : Nest) (x : Standing) (q : plain.Bounded) (d : Dim) (f : Form) (form : q.form ≡ Some f) (bounds : q.bounds ≡ bounds_of d) where
-  safe_is : is_safe_subscript n x q ≡ (is_in_box (trips_round x) f (bounds_of d) || is_met n (loop_numbers x) f (bounds_of d))
-  safe_is = ap₂ (λ o b. elim o [ None ↦ false | Some g ↦ is_in_box (trips_round x) g b || is_met n (loop_numbers x) g b ]) form bounds
+  safe_is : is_safe_subscript n x q ≡ (is_in_box (trips_round x) f (bounds_of d) || is_met n (loop_numbers_round x) f (bounds_of d))
+  safe_is = ap₂ (λ o b. elim o [ None ↦ false | Some g ↦ is_in_box (trips_round x) g b || is_met n (loop_numbers_round x) g b ]) form bounds
 
-  pub in_box : (ts : List Trip) (r : Bool) → ts ≡ trips_round x → r ≡ is_in_box ts f (bounds_of d) → r ≡ true → r ≡ is_safe_subscript n x q
-  in_box ts r e is t = t ∙ sym (safe_is ∙ ap (λ c. c || is_met n (loop_numbers x) f (bounds_of d)) (ap (λ us. is_in_box us f (bounds_of d)) (sym e) ∙ (sym is ∙ t)))
+  pub in_box : (ts : List FormTrip) (r : Bool) → ts ≡ trips_round x → r ≡ is_in_box ts f (bounds_of d) → r ≡ true → r ≡ is_safe_subscript n x q
+  in_box ts r e is t = t ∙ sym (safe_is ∙ ap (λ c. c || is_met n (loop_numbers_round x) f (bounds_of d)) (ap (λ us. is_in_box us f (bounds_of d)) (sym e) ∙ (sym is ∙ t)))
 
-  pub by_fellow : (ts : List Trip) (ks : List ℕ) (r s : Bool) → ts ≡ trips_round x → ks ≡ loop_numbers x → r ≡ is_in_box ts f (bounds_of d) → r ≡ false
+  pub by_fellow : (ts : List FormTrip) (ks : List ℕ) (r s : Bool) → ts ≡ trips_round x → ks ≡ loop_numbers_round x → r ≡ is_in_box ts f (bounds_of d) → r ≡ false
       → s ≡ list_any (meets n ks f (bounds_of d)) (nest_statements n) → s ≡ is_safe_subscript n x q
   by_fellow ts ks r s e k is not_so answer =
       answer ∙ (ap (λ js. list_any (meets n js f (bounds_of d)) (nest_statements n)) k
-      ∙ sym (safe_is ∙ ap (λ c. c || is_met n (loop_numbers x) f (bounds_of d)) (ap (λ us. is_in_box us f (bounds_of d)) (sym e) ∙ (sym is ∙ not_so))))
+      ∙ sym (safe_is ∙ ap (λ c. c || is_met n (loop_numbers_round x) f (bounds_of d)) (ap (λ us. is_in_box us f (bounds_of d)) (sym e) ∙ (sym is ∙ not_so))))
 
 -- ---- all of them
 
@@ -194,12 +194,12 @@ small_forms d qs [] h = All-nil HasSmallForm
 small_forms d [] (b ∷ bs) h = absurd h
 small_forms d (q ∷ qs) (b ∷ bs) h = All-cons HasSmallForm b bs h.0.small (small_forms d qs bs h.1)
 
-pub trips_are : (ls : List Loop) (cs : List Counted) → cs ≡ map counted ls → trips_of (length cs) cs ≡ map (λ l. trip_of (length ls) (counted l).trip) ls
-trips_are ls cs e = ap (λ ds. trips_of (length ds) ds) e ∙ (ap (λ k. trips_of k (map counted ls)) (length-map ls counted) ∙ twice (length ls) ls)
+pub trips_are : (ls : List Loop) (cs : List CountedLoop) → cs ≡ map counted_loop ls → trips_of (length cs) cs ≡ map (λ l. form_trip_of (length ls) (counted_loop l).trip) ls
+trips_are ls cs e = ap (λ ds. trips_of (length ds) ds) e ∙ (ap (λ k. trips_of k (map counted_loop ls)) (length-map ls counted_loop) ∙ twice (length ls) ls)
   where
-    twice : (k : ℕ) (ms : List Loop) → trips_of k (map counted ms) ≡ map (λ l. trip_of k (counted l).trip) ms
+    twice : (k : ℕ) (ms : List Loop) → trips_of k (map counted_loop ms) ≡ map (λ l. form_trip_of k (counted_loop l).trip) ms
     twice k [] = refl
-    twice k (m ∷ ms) = ap (λ ts. trip_of k (counted m).trip ∷ ts) (twice k ms)
+    twice k (m ∷ ms) = ap (λ ts. form_trip_of k (counted_loop m).trip ∷ ts) (twice k ms)
 
 -- the statement in a place
 pub noted_at : (n : Nest) (ys : List Standing) (ss : List Noted) (k : ℕ) (d : Standing) (s : Noted) → AreNoted n ys ss → k < length ss → s ≡ get_or ss k s → IsNoted n (get_or ys k d) s

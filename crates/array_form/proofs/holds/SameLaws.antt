@@ -11,7 +11,7 @@ use Rattle.linear_forms.specs.Affines.{IsAffineOf, IsFound}
 use Rattle.linear_forms.specs.Linear.{Form, is_limited, is_small, all_small, limited, multiple, not_zero, sum}
 use Rattle.array_form.proofs.TextLaws.{none_in, all_both}
 use Rattle.array_form.proofs.holds.BoxLaws.{symbols_are}
-use Rattle.array_form.specs.holds.Bounds.{is_same, is_zero}
+use Rattle.array_form.specs.holds.Bounds.{is_same, is_zero_form}
 use Rattle.array_form.specs.holds.Surroundings.{coefficients_from}
 
 abbrev is_nought : ℤ → Bool
@@ -52,21 +52,21 @@ abbrev zero_by : Bool → Bool → Bool → Bool
 zero_by a b c = (a && b) && c
 
 zero_is : (n : ℕ) (f : Form) (a : Affine) (r s : Bool) → IsAffineOf n f a → r ≡ list_all (λ c. int_eq c (pos 0)) a.loops → s ≡ list_all (λ c. int_eq c (pos 0)) (coefficients_from 0 a.syms)
-    → is_zero f ≡ zero_by r s (int_eq a.constant (pos 0))
+    → is_zero_form f ≡ zero_by r s (int_eq a.constant (pos 0))
 zero_is n f a r s h loops symbols =
     ap₂ (λ b z. b && int_eq z (pos 0)) (split_zero n f.coefficients ∙ ap₂ (λ b c. b && c) (sym (nought_alike a.loops (take n f.coefficients) h.loops) ∙ sym loops) (sym (symbols_are n f a s h symbols))) (sym h.constant)
 
 pub zero_then : (n : ℕ) (f : Form) (a : Affine) (r s t : Bool) → IsAffineOf n f a → r ≡ list_all (λ c. int_eq c (pos 0)) a.loops → r ≡ true → s ≡ list_all (λ c. int_eq c (pos 0)) (coefficients_from 0 a.syms) → s ≡ true
-    → t ≡ int_eq a.constant (pos 0) → t ≡ is_zero f
+    → t ≡ int_eq a.constant (pos 0) → t ≡ is_zero_form f
 zero_then n f a r s t h loops so symbols too constant =
     constant ∙ sym (zero_is n f a r s h loops symbols ∙ ap₂ (λ b c. zero_by b c (int_eq a.constant (pos 0))) so too)
 
 pub zero_not : (n : ℕ) (f : Form) (a : Affine) (r s : Bool) → IsAffineOf n f a → r ≡ list_all (λ c. int_eq c (pos 0)) a.loops → r ≡ true → s ≡ list_all (λ c. int_eq c (pos 0)) (coefficients_from 0 a.syms) → s ≡ false
-    → false ≡ is_zero f
+    → false ≡ is_zero_form f
 zero_not n f a r s h loops so symbols not_so =
     sym (zero_is n f a r s h loops symbols ∙ ap₂ (λ b c. zero_by b c (int_eq a.constant (pos 0))) so not_so)
 
-pub zero_else : (n : ℕ) (f : Form) (a : Affine) (r : Bool) → IsAffineOf n f a → r ≡ list_all (λ c. int_eq c (pos 0)) a.loops → r ≡ false → false ≡ is_zero f
+pub zero_else : (n : ℕ) (f : Form) (a : Affine) (r : Bool) → IsAffineOf n f a → r ≡ list_all (λ c. int_eq c (pos 0)) a.loops → r ≡ false → false ≡ is_zero_form f
 zero_else n f a r h loops not_so =
     sym (zero_is n f a r (list_all is_nought (coefficients_from 0 a.syms)) h loops refl ∙ ap (λ b. zero_by b (list_all is_nought (coefficients_from 0 a.syms)) (int_eq a.constant (pos 0))) not_so)
 
@@ -80,7 +80,7 @@ small_nought (c ∷ cs) h = by (is_nought c) refl (list_all is_nought cs) h (sma
     by true e b g more = ap₂ (λ x y. x && y) (ap is_small ((Decides-int_eq c (pos 0)).0 e)) (more g)
     by false e b g more = cc
 
-zero_limited : (n : ℕ) (f : Form) → is_zero f ≡ true → is_limited n f ≡ true
+zero_limited : (n : ℕ) (f : Form) → is_zero_form f ≡ true → is_limited n f ≡ true
 zero_limited n f h = by (not_zero f.coefficients == 0) refl (int_eq f.constant (pos 0)) refl h
   where
     by : (a : Bool) → (not_zero f.coefficients == 0) ≡ a → (b : Bool) → int_eq f.constant (pos 0) ≡ b → (a && b) ≡ true → is_limited n f ≡ true
@@ -99,10 +99,10 @@ zero_limited n f h = by (not_zero f.coefficients == 0) refl (int_eq f.constant (
     by true e false g k = cc
     by false e b g k = cc
 
-unlimited : (n : ℕ) (f : Form) → IsFound n (limited n (Some f)) None → is_zero f ≡ false
-unlimited n f h = by (is_zero f) refl (is_limited n f) refl h
+unlimited : (n : ℕ) (f : Form) → IsFound n (limited n (Some f)) None → is_zero_form f ≡ false
+unlimited n f h = by (is_zero_form f) refl (is_limited n f) refl h
   where
-    by : (a : Bool) → is_zero f ≡ a → (b : Bool) → is_limited n f ≡ b → IsFound n (cond b (Some f) None) None → is_zero f ≡ false
+    by : (a : Bool) → is_zero_form f ≡ a → (b : Bool) → is_limited n f ≡ b → IsFound n (cond b (Some f) None) None → is_zero_form f ≡ false
     by false e b g k = e
     by true e true g k = absurd k
     by true e false g k = absurd (let bad : false ≡ true = sym g ∙ zero_limited n f e in cc)
@@ -134,7 +134,7 @@ past_limits n f g b o r e h combined none = by g (subst (IsFound n g) e h)
 
 pub difference_is : (n : ℕ) (f : Form) (g : Option Form) (b d : Affine) (o r : Option Affine) (t : Bool) → o ≡ Some b → IsFound n g o
     → ((p : Form) → IsAffineOf n p b → IsFound n (limited n (Some (sum f (multiple (negsuc 0) p)))) r) → r ≡ Some d
-    → ((p : Form) → IsAffineOf n p d → t ≡ is_zero p) → t ≡ is_same f g
+    → ((p : Form) → IsAffineOf n p d → t ≡ is_zero_form p) → t ≡ is_same f g
 difference_is n f g b d o r t e h combined some answer = by g (subst (IsFound n g) e h)
   where
     by : (q : Option Form) → IsFound n q (Some b) → t ≡ is_same f q

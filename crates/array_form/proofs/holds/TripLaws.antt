@@ -11,7 +11,7 @@ use Rattle.array_form.specs.forms.Loops as forms
 use Rattle.array_form.specs.forms.Statements.{depends_on, is_triangle}
 use Rattle.array_form.specs.holds.Surroundings.{coefficients_from, counted_of}
 use Rattle.array_form.specs.holds.View.{loop_names, surroundings_view}
-use Rattle.array_form.specs.declared.holds.loops.Counted.{Counted}
+use Rattle.array_form.specs.declared.holds.loops.CountedLoop.{CountedLoop}
 use Rattle.array_form.specs.declared.holds.loops.Surroundings.{Surroundings}
 use Rattle.array_form.specs.holds.Levels.{AreWithin, loops_from_place}
 
@@ -36,22 +36,22 @@ among_loops (y ∷ ys) symbols x (c ∷ cs) ds h k =
     by_name (bytes_eq y x) c (forms.coefficient (ys ++ symbols) x (take (length ys) cs ++ ds)) (forms.coefficient ys x cs) (forms.is_among ys x)
     (λ e. among_loops ys symbols x cs ds e (omega arith)) h
 
-pub names_viewed : (n : ℕ) (ls : List Counted) → forms.variables_of (map (counted_of n) ls) ≡ loop_names ls
+pub names_viewed : (n : ℕ) (ls : List CountedLoop) → forms.form_variables_of (map (counted_of n) ls) ≡ loop_names ls
 names_viewed n [] = refl
 names_viewed n (l ∷ ls) = ap (λ xs. l.var ∷ xs) (names_viewed n ls)
 
-pub names_counted : (ls : List Counted) → length (loop_names ls) ≡ length ls
+pub names_counted : (ls : List CountedLoop) → length (loop_names ls) ≡ length ls
 names_counted [] = refl
 names_counted (l ∷ ls) = let e = names_counted ls in cc
 
-trip_coefficient : (a : Surroundings) (l m : Counted) → length a.loops ≤ length l.trip.top.loops → forms.is_among (loop_names a.loops) m.var ≡ true
-    → forms.coefficient (forms.names_of (surroundings_view a)) m.var (counted_of (length a.loops) l).trip.form.coefficients ≡ forms.coefficient (loop_names a.loops) m.var l.trip.top.loops
+trip_coefficient : (a : Surroundings) (l m : CountedLoop) → length a.loops ≤ length l.trip.top.loops → forms.is_among (loop_names a.loops) m.var ≡ true
+    → forms.coefficient (forms.form_names_of (surroundings_view a)) m.var (counted_of (length a.loops) l).trip.form.coefficients ≡ forms.coefficient (loop_names a.loops) m.var l.trip.top.loops
 trip_coefficient a l m k h =
     ap (λ xs. forms.coefficient (xs ++ a.symbols) m.var (take (length a.loops) l.trip.top.loops ++ coefficients_from 0 l.trip.top.syms)) (names_viewed (length a.loops) a.loops)
     ∙ ap (λ n. forms.coefficient (loop_names a.loops ++ a.symbols) m.var (take n l.trip.top.loops ++ coefficients_from 0 l.trip.top.syms)) (sym (names_counted a.loops))
     ∙ among_loops (loop_names a.loops) a.symbols m.var l.trip.top.loops (coefficients_from 0 l.trip.top.syms) h (let e = names_counted a.loops in omega arith)
 
-pub depends-is : (a : Surroundings) (l m : Counted) → length a.loops ≤ length l.trip.top.loops → forms.is_among (loop_names a.loops) m.var ≡ true
+pub depends-is : (a : Surroundings) (l m : CountedLoop) → length a.loops ≤ length l.trip.top.loops → forms.is_among (loop_names a.loops) m.var ≡ true
     → depends_on (surroundings_view a) (counted_of (length a.loops) l) (counted_of (length a.loops) m)
     ≡ (not (bytes_eq l.var m.var) && not (int_eq (forms.coefficient (loop_names a.loops) m.var l.trip.top.loops) (pos 0)))
 depends-is a l m k h = ap (λ z. not (bytes_eq l.var m.var) && not (int_eq z (pos 0))) (trip_coefficient a l m k h)
@@ -60,7 +60,7 @@ either : (b p : Bool) → p ≡ true → cond b true p ≡ true
 either true p h = refl
 either false p h = h
 
-pub among_at : (ls : List Counted) (i : ℕ) (d : Counted) → i < length ls → forms.is_among (loop_names ls) (get_or ls i d).var ≡ true
+pub among_at : (ls : List CountedLoop) (i : ℕ) (d : CountedLoop) → i < length ls → forms.is_among (loop_names ls) (get_or ls i d).var ≡ true
 among_at [] i d h = absurd (omega arith)
 among_at (l ∷ ls) zero d h = ap (λ b. cond b true (forms.is_among (loop_names ls) l.var)) ((bytes_eq-Decides l.var l.var).1 refl)
 among_at (l ∷ ls) (suc i) d h = either (bytes_eq l.var (get_or ls i d).var) (forms.is_among (loop_names ls) (get_or ls i d).var) (among_at ls i d (omega arith))
@@ -68,27 +68,27 @@ among_at (l ∷ ls) (suc i) d h = either (bytes_eq l.var (get_or ls i d).var) (f
 -- from a place on
 pub among_from : (a : Surroundings) (from : ℕ) → from ≤ length a.loops → AreWithin a (drop from a.loops)
 among_from a from h k d u =
-    subst (λ (l : Counted). forms.is_among (loop_names a.loops) l.var ≡ true) (sym (get_or-drop from a.loops k d)) (among_at a.loops (from + k) d (let e = length-drop from a.loops in omega arith))
+    subst (λ (l : CountedLoop). forms.is_among (loop_names a.loops) l.var ≡ true) (sym (get_or-drop from a.loops k d)) (among_at a.loops (from + k) d (let e = length-drop from a.loops in omega arith))
 
 pub triangle-is : (a : Surroundings) (from : ℕ) → is_triangle (surroundings_view a) (loops_from_place a from)
-    ≡ list_any (λ (l : Counted). list_any (λ (m : Counted). depends_on (surroundings_view a) (counted_of (length a.loops) l) (counted_of (length a.loops) m)) (drop from a.loops)) (drop from a.loops)
+    ≡ list_any (λ (l : CountedLoop). list_any (λ (m : CountedLoop). depends_on (surroundings_view a) (counted_of (length a.loops) l) (counted_of (length a.loops) m)) (drop from a.loops)) (drop from a.loops)
 triangle-is a from =
     let n = length a.loops in
     let ls = drop from a.loops in
-    any_map (λ (l : forms.Loop). list_any (depends_on (surroundings_view a) l) (map (counted_of n) ls)) (counted_of n) ls
-    ∙ any_alike (λ (l : Counted). list_any (depends_on (surroundings_view a) (counted_of n l)) (map (counted_of n) ls))
-    (λ (l : Counted). list_any (λ (m : Counted). depends_on (surroundings_view a) (counted_of n l) (counted_of n m)) ls)
+    any_map (λ (l : forms.FormLoop). list_any (depends_on (surroundings_view a) l) (map (counted_of n) ls)) (counted_of n) ls
+    ∙ any_alike (λ (l : CountedLoop). list_any (depends_on (surroundings_view a) (counted_of n l)) (map (counted_of n) ls))
+    (λ (l : CountedLoop). list_any (λ (m : CountedLoop). depends_on (surroundings_view a) (counted_of n l) (counted_of n m)) ls)
     (λ l. any_map (depends_on (surroundings_view a) (counted_of n l)) (counted_of n) ls) ls
 
 pub ruleset triangle_laws = (triangle-is, among_from)
 
 pub ruleset trip_laws = (depends-is)
 
-pub triangle_found : (a : Surroundings) (from : ℕ) (part : List Counted) (r : Bool) → part ≡ drop from a.loops
-    → r ≡ list_any (λ (l : Counted). list_any (λ (m : Counted). depends_on (surroundings_view a) (counted_of (length a.loops) l) (counted_of (length a.loops) m)) part) part
+pub triangle_found : (a : Surroundings) (from : ℕ) (part : List CountedLoop) (r : Bool) → part ≡ drop from a.loops
+    → r ≡ list_any (λ (l : CountedLoop). list_any (λ (m : CountedLoop). depends_on (surroundings_view a) (counted_of (length a.loops) l) (counted_of (length a.loops) m)) part) part
     → r ≡ is_triangle (surroundings_view a) (loops_from_place a from)
 triangle_found a from part r same is =
-    is ∙ ap (λ ls. list_any (λ (l : Counted). list_any (λ (m : Counted). depends_on (surroundings_view a) (counted_of (length a.loops) l) (counted_of (length a.loops) m)) ls) ls) same
+    is ∙ ap (λ ls. list_any (λ (l : CountedLoop). list_any (λ (m : CountedLoop). depends_on (surroundings_view a) (counted_of (length a.loops) l) (counted_of (length a.loops) m)) ls) ls) same
     ∙ sym (triangle-is a from)
 
 -- the rest of a list, as a range of it

@@ -15,6 +15,7 @@ use Rattle.tree.specs.declared.ops.Value.{Value}
 use Rattle.tree.specs.declared.ops.Value.TheVariants.{Int}
 use Rattle.meaning.specs.ArrayValues.{positions}
 use Rattle.meaning.specs.Dialect.{fortran90}
+use Rattle.tree.specs.declared.width.Width.{Width}
 use Rattle.meaning.specs.Store.{Store, Cell, cell_at, cell_in, same_cell}
 use Rattle.meaning.specs.Value.{value_of, subscript_values, bound_to}
 use Rattle.linear_forms.specs.Laws.{AreSized}
@@ -27,11 +28,11 @@ use Rattle.nest_order.proofs.orders.Common.{statement_stands}
 use Rattle.nest_order.proofs.orders.Lists.{In-left, In-right}
 use Rattle.nest_order.proofs.orders.Membership.{In-map}
 use Rattle.nest_order.specs.orders.Nests.{IsInstance}
-use Rattle.nest_order.specs.orders.Shapes.{loops, statements, Within}
+use Rattle.nest_order.specs.orders.Shapes.{loops_of_shape, statements, Within}
 use Rattle.nest_order.specs.runs.Guarded.{at_iterations, variable_cell}
-use Rattle.nest_order.specs.runs.Nests.{Nest, AreAt, variables_round}
+use Rattle.nest_order.specs.runs.Nests.{RunNest, AreAt, variables_round}
 use Rattle.nest_order.specs.runs.Stores.{Setting, HoldsNest}
-use Rattle.nest_order.specs.runs.Touched.{IsPlain, EachIsPlain, MayHave, MayHaveEach, references_in, references_in_each, references_in_guard, references_in_subscripts}
+use Rattle.nest_order.specs.runs.Touched.{IsPlain, EachIsPlain, MayHave, MayHaveEach, touched_in, references_in_each, touched_in_guard, touched_in_subscripts}
 use Rattle.nest_order.proofs.runs.Alone.{stands_loops}
 use Rattle.nest_order.proofs.runs.Holding.{nth-In}
 use Rattle.nest_order.proofs.runs.Variables.{bounds_there}
@@ -39,7 +40,7 @@ use Rattle.array_form.specs.forms.Guarded.{NameCells, ReferencesHaveValues, Each
 use Rattle.array_form.specs.forms.Instances.{count_of, counts_of, in_sequence}
 use Rattle.array_form.specs.forms.Instances as forms
 use Rattle.array_form.specs.forms.Laws.{HasValues, store_at}
-use Rattle.array_form.specs.forms.Loops.{Loop, Surroundings, variables_of, names_of, is_among}
+use Rattle.array_form.specs.forms.Loops.{FormLoop, FormSurroundings, form_variables_of, form_names_of, is_among}
 use Rattle.array_form.specs.forms.Statements.{loops_from, loops_assigned, unguarded_hold}
 use Rattle.array_form.specs.forms.Trips.{AreDistinct}
 use Rattle.array_form.specs.lone.Cells.{AreLinear, HasCells, HaveCells}
@@ -51,6 +52,7 @@ use Rattle.array_form.proofs.forms.Positions.{AreFrom, from_sequence, iteration_
 use Rattle.array_form.proofs.forms.Values.{bounded_by, same_length}
 use Rattle.array_form.proofs.forms.Whole.{from_within, same_variables}
 use Rattle.array_form.proofs.lone.Instances.{instance_within, store_same}
+use Rattle.tree.specs.Widths.{bits_of}
 
 -- ---- names that hold iterations
 
@@ -107,8 +109,8 @@ not_in (y ∷ xs) x h = by (bytes_eq y x) refl (not_in xs x (λ i. h (inr i)))
 
 -- ---- an instance
 
-module _ (n : Nest) (w : Setting) (facts : HasFacts 31 n w) (s : ℕ) (in_nest : In s (statements n.shape)) (distinct : AreDistinct (variables_round n s)) (t : Store) (holds : HoldsNest 31 n w t) where
-  loops_known : (m : ℕ) → In m (n.loops_of s) → In m (loops n.shape)
+module _ (width : Width) (n : RunNest) (w : Setting) (facts : HasFacts (bits_of width) n w) (s : ℕ) (in_nest : In s (statements n.shape)) (distinct : AreDistinct (variables_round n s)) (t : Store) (holds : HoldsNest (bits_of width) n w t) where
+  loops_known : (m : ℕ) → In m (n.loops_of s) → In m (loops_of_shape n.shape)
   loops_known m i =
       let k = statement_stands n.shape s in_nest in
       let e : k.0 ≡ n.loops_of s = sym (facts.text.nest.fits s k.0 k.1) in
@@ -131,21 +133,21 @@ module _ (n : Nest) (w : Setting) (facts : HasFacts 31 n w) (s : ℕ) (in_nest :
 
     places_sized : AreSized (places_of w.values n.symbols js)
     places_sized =
-        sized-append (map pos js) (values_from w.values 0 n.symbols) (small_sized js (small_iterations 31 n w facts (n.loops_of s) js [] loops_known it.1))
+        sized-append (map pos js) (values_from w.values 0 n.symbols) (small_sized js (small_iterations (bits_of width) n w facts (n.loops_of s) js [] loops_known it.1))
         (symbols-sized w.values there n.symbols 0 (λ j x e. subst (λ m. nat_abs (w.values m) ≤ 2 ^ 63) (let z : j ≡ 0 + j = omega arith in z) (facts.values j x e)))
 
-    linear_value : (e : Expression) (z : ℤ) → IsSome (n.linear s e) → MayHave n w.values js (n.linear s e) z → value_of fortran90 e there ≡ Ok (Int z)
+    linear_value : (e : Expression) (z : ℤ) → IsSome (n.linear s e) → MayHave n w.values js (n.linear s e) z → value_of (fortran90 width) e there ≡ Ok (Int z)
     linear_value e z is have = by (form_of (variables_round n s) n.symbols e) refl (subst (λ o. IsSome o) same is) (subst (λ o. MayHave n w.values js o z) same have)
       where
         same : n.linear s e ≡ number_by n.symbols (form_of (variables_round n s) n.symbols e)
         same = facts.linear s e in_nest
 
-        by : (o : Option Form) → form_of (variables_round n s) n.symbols e ≡ o → IsSome (number_by n.symbols o) → MayHave n w.values js (number_by n.symbols o) z → value_of fortran90 e there ≡ Ok (Int z)
+        by : (o : Option Form) → form_of (variables_round n s) n.symbols e ≡ o → IsSome (number_by n.symbols o) → MayHave n w.values js (number_by n.symbols o) z → value_of (fortran90 width) e there ≡ Ok (Int z)
         by None f i h = cc
         by (Some f') f i h =
-            linear_has_value fortran90 (variables_round n s) n.symbols e f' there (places_of w.values n.symbols js) f places_have places_sized ∙ ap (λ y. let r : Result Value Fault = Ok (Int y) in r) (sym h)
+            linear_has_value (fortran90 width) (variables_round n s) n.symbols e f' there (places_of w.values n.symbols js) f places_have places_sized ∙ ap (λ y. let r : Result Value Fault = Ok (Int y) in r) (sym h)
 
-    subscripts_value : (ps : Subscripts) (zs : List ℤ) → AreLinear n s ps → MayHaveEach n w.values s js ps zs → subscript_values fortran90 ps there ≡ Ok zs
+    subscripts_value : (ps : Subscripts) (zs : List ℤ) → AreLinear n s ps → MayHaveEach n w.values s js ps zs → subscript_values (fortran90 width) ps there ≡ Ok zs
     subscripts_value no_subscripts [] l h = refl
     subscripts_value no_subscripts (z ∷ zs) l h = absurd h
     subscripts_value (subscript (Section a b c) ps) zs l h = absurd l
@@ -153,7 +155,7 @@ module _ (n : Nest) (w : Setting) (facts : HasFacts 31 n w) (s : ℕ) (in_nest :
     subscripts_value (subscript (Only e) ps) (z ∷ zs) l h =
         ap₂ (λ (r : Result Value Fault) (q : Result (List ℤ) Fault). do i ← (do x ← r; as_number x); is ← q; Ok (i ∷ is)) (linear_value e z l.0 h.0) (subscripts_value ps zs l.1 h.1)
 
-    reference_value : (r : Reference) → HasCells n w s r → (v : Value) × (value_of fortran90 (Named r.name r.subscripts) there ≡ Ok v)
+    reference_value : (r : Reference) → HasCells n w s r → (v : Value) × (value_of (fortran90 width) (Named r.name r.subscripts) there ≡ Ok v)
     reference_value r h =
         let c = h.names (record { statement = s; iterations = js }) it refl in
         let found : cell_in (there.bounds r.name) r.name c.cell.subscripts ≡ Ok c.cell
@@ -165,25 +167,25 @@ module _ (n : Nest) (w : Setting) (facts : HasFacts 31 n w) (s : ℕ) (in_nest :
 
 -- ---- in the order of the left subscripts
 
-module _ (n : Nest) (w : Setting) (s : ℕ) (a : Surroundings) (outer inner before : List ℕ) (xs : List ℤ) (t : Store) (facts : HasFacts 31 n w) (in_nest : In s (statements n.shape)) (fits : n.loops_of s ≡ outer ++ inner)
-    (variables : variables_of a.loops ≡ map n.variable_at (outer ++ inner)) (distinct : AreDistinct (names_of a)) (no_hold : unguarded_hold a (suc (length outer)) (n.statement_at s).left ≡ None)
-    (rectangular : AreRectangular (n.turns_of w.values) inner before (counts_of xs (loops_from a (suc (length outer))))) (within : Within (n.turns_of w.values) [] outer before) (holds : HoldsNest 31 n w t) (at : AreAt n outer before t) where
+module _ (width : Width) (n : RunNest) (w : Setting) (s : ℕ) (a : FormSurroundings) (outer inner before : List ℕ) (xs : List ℤ) (t : Store) (facts : HasFacts (bits_of width) n w) (in_nest : In s (statements n.shape)) (fits : n.loops_of s ≡ outer ++ inner)
+    (variables : form_variables_of a.loops ≡ map n.variable_at (outer ++ inner)) (distinct : AreDistinct (form_names_of a)) (no_hold : unguarded_hold a (suc (length outer)) (n.statement_at s).left ≡ None)
+    (rectangular : AreRectangular (n.turns_of w.values) inner before (counts_of xs (loops_from a (suc (length outer))))) (within : Within (n.turns_of w.values) [] outer before) (holds : HoldsNest (bits_of width) n w t) (at : AreAt n outer before t) where
   abbrev k : ℕ
   k = suc (length outer)
 
-  abbrev mine : List Loop
+  abbrev mine : List FormLoop
   mine = loops_from a k
 
-  abbrev D : List Loop
+  abbrev D : List FormLoop
   D = loops_assigned a k (n.statement_at s).left
 
   order : Ordered (loops_from a (suc (length outer))) (n.statement_at s).left.subscripts (loops_assigned a (suc (length outer)) (n.statement_at s).left)
   order = ordered_loops a (suc (length outer)) (n.statement_at s).left distinct no_hold
 
   own_distinct : AreDistinct (variables_round n s)
-  own_distinct = subst AreDistinct (variables ∙ ap (map n.variable_at) (sym fits)) (distinct_front (variables_of a.loops) a.symbols distinct)
+  own_distinct = subst AreDistinct (variables ∙ ap (map n.variable_at) (sym fits)) (distinct_front (form_variables_of a.loops) a.symbols distinct)
 
-  drop-map : (m : ℕ) (ls : List Loop) → variables_of (drop m ls) ≡ drop m (variables_of ls)
+  drop-map : (m : ℕ) (ls : List FormLoop) → form_variables_of (drop m ls) ≡ drop m (form_variables_of ls)
   drop-map zero ls = refl
   drop-map (suc m) [] = refl
   drop-map (suc m) (l ∷ ls) = drop-map m ls
@@ -192,10 +194,10 @@ module _ (n : Nest) (w : Setting) (s : ℕ) (a : Surroundings) (outer inner befo
   drop-front f [] ys = refl
   drop-front f (x ∷ us) ys = drop-front f us ys
 
-  inner_variables : variables_of (loops_from a (suc (length outer))) ≡ map n.variable_at inner
+  inner_variables : form_variables_of (loops_from a (suc (length outer))) ≡ map n.variable_at inner
   inner_variables =
       let less : suc (length outer) - 1 ≡ length outer = omega arith in
-      ap (λ m. variables_of (drop m a.loops)) less ∙ (drop-map (length outer) a.loops ∙ (ap (drop (length outer)) variables ∙ drop-front n.variable_at outer inner))
+      ap (λ m. form_variables_of (drop m a.loops)) less ∙ (drop-map (length outer) a.loops ∙ (ap (drop (length outer)) variables ∙ drop-front n.variable_at outer inner))
 
   -- the store of a position is that of an instance
   pub record Instanced (is : List ℕ) : Type 0 where
@@ -223,19 +225,19 @@ module _ (n : Nest) (w : Setting) (s : ℕ) (a : Surroundings) (outer inner befo
             ∙ (any_order ι mine D t (same_variables mine D order.onto order.into) ∙ ap (λ ks. forms.at_iterations D ks t) are);
       }
 
-  have_value : (r : Reference) → HasCells n w s r → HasValues fortran90 xs (loops_assigned a (suc (length outer)) (n.statement_at s).left) (Named r.name r.subscripts) t
+  have_value : (r : Reference) → HasCells n w s r → HasValues (fortran90 width) xs (loops_assigned a (suc (length outer)) (n.statement_at s).left) (Named r.name r.subscripts) t
   have_value r h is c =
       let i = instanced is c in
-      let v = reference_value n w facts s in_nest own_distinct t holds (before ++ i.js) i.it r h in
-      (v.0, ap (value_of fortran90 (Named r.name r.subscripts)) (sym i.same) ∙ v.1)
+      let v = reference_value width n w facts s in_nest own_distinct t holds (before ++ i.js) i.it r h in
+      (v.0, ap (value_of (fortran90 width) (Named r.name r.subscripts)) (sym i.same) ∙ v.1)
 
   mutual
-    right_values : (e : Expression) → IsPlain e → ((r : Reference) → In r (references_in e) → HasCells n w s r) → ReferencesHaveValues fortran90 xs (loops_assigned a (suc (length outer)) (n.statement_at s).left) e t
+    right_values : (e : Expression) → IsPlain e → ((r : Reference) → In r (touched_in e) → HasCells n w s r) → ReferencesHaveValues (fortran90 width) xs (loops_assigned a (suc (length outer)) (n.statement_at s).left) e t
     right_values (Number m) p h = tt
     right_values (Logic b) p h = tt
     right_values (Named x ps) p h = have_value (record { name = x; subscripts = ps }) (h (record { name = x; subscripts = ps }) (inl refl))
     right_values (Unary o e) p h = right_values e p h
-    right_values (Binary o e f) p h = (right_values e p.0 (λ r i. h r (In-left r (references_in e) (references_in f) i)), right_values f p.1 (λ r i. h r (In-right r (references_in e) (references_in f) i)))
+    right_values (Binary o e f) p h = (right_values e p.0 (λ r i. h r (In-left r (touched_in e) (touched_in f) i)), right_values f p.1 (λ r i. h r (In-right r (touched_in e) (touched_in f) i)))
     right_values (Apply f es) p h = each_values es p h
     right_values (Constructor es ls) p h = absurd p
     right_values (Spread e m f) p h = absurd p
@@ -243,19 +245,19 @@ module _ (n : Nest) (w : Setting) (s : ℕ) (a : Surroundings) (outer inner befo
     right_values (Reshape e es) p h = absurd p
     right_values (Reduce o e) p h = absurd p
 
-    each_values : (es : Expressions) → EachIsPlain es → ((r : Reference) → In r (references_in_each es) → HasCells n w s r) → EachHasValues fortran90 xs (loops_assigned a (suc (length outer)) (n.statement_at s).left) es t
+    each_values : (es : Expressions) → EachIsPlain es → ((r : Reference) → In r (references_in_each es) → HasCells n w s r) → EachHasValues (fortran90 width) xs (loops_assigned a (suc (length outer)) (n.statement_at s).left) es t
     each_values no_expressions p h = tt
-    each_values (expression e es) p h = (right_values e p.0 (λ r i. h r (In-left r (references_in e) (references_in_each es) i)), each_values es p.1 (λ r i. h r (In-right r (references_in e) (references_in_each es) i)))
+    each_values (expression e es) p h = (right_values e p.0 (λ r i. h r (In-left r (touched_in e) (references_in_each es) i)), each_values es p.1 (λ r i. h r (In-right r (touched_in e) (references_in_each es) i)))
 
-  give : HaveCells n w s → NameCells fortran90 xs (loops_assigned a (suc (length outer)) (n.statement_at s).left) (n.statement_at s).left (n.statement_at s).right t
+  give : HaveCells n w s → NameCells (fortran90 width) xs (loops_assigned a (suc (length outer)) (n.statement_at s).left) (n.statement_at s).left (n.statement_at s).right t
   give cells =
       let g = n.statement_at s in
       record {
         left_cells = have_value g.left (cells g.left (inl refl));
         right_cells = right_values g.right (facts.text.plain s in_nest).1
-            (λ r i. cells r (inr (In-right r (references_in_guard g.guard) (references_in_subscripts g.left.subscripts ++ references_in g.right) (In-right r (references_in_subscripts g.left.subscripts) (references_in g.right) i))));
+            (λ r i. cells r (inr (In-right r (touched_in_guard g.guard) (touched_in_subscripts g.left.subscripts ++ touched_in g.right) (In-right r (touched_in_subscripts g.left.subscripts) (touched_in g.right) i))));
       }
 
-pub cells_give_values : CellsGiveValues
-cells_give_values n w s a outer inner before xs t facts in_nest fits variables distinct no_hold rectangular within holds at cells =
-    give n w s a outer inner before xs t facts in_nest fits variables distinct no_hold rectangular within holds at cells
+pub cells_give_values : (width : Width) → CellsGiveValues width
+cells_give_values width n w s a outer inner before xs t facts in_nest fits variables distinct no_hold rectangular within holds at cells =
+    give width n w s a outer inner before xs t facts in_nest fits variables distinct no_hold rectangular within holds at cells

@@ -31,23 +31,25 @@ use Rattle.nest_order.specs.orders.Nests.{IsInstance}
 use Rattle.nest_order.specs.orders.Shapes.{Instance, instances, Within}
 use Rattle.tree.specs.declared.ops.Fault.TheVariants.{Bounds}
 use Rattle.nest_order.specs.runs.Cells.{NamesCell}
-use Rattle.nest_order.specs.runs.Guarded.{Guarded}
-use Rattle.nest_order.specs.runs.Nests.{Nest}
+use Rattle.nest_order.specs.runs.Guarded.{GuardedAssignment}
+use Rattle.nest_order.specs.runs.Nests.{RunNest}
 use Rattle.nest_order.specs.runs.Stores.{Setting, IsNestIn}
-use Rattle.nest_order.specs.runs.Touched.{IsPlain, EachIsPlain, ArePlain, IsPlainSubscript, IsPlainAssignment, IsPlainGuard, MayHave, MayHaveEach, nth_of, references_in, references_in_each, references_in_subscripts, references_in_subscript, references_in_guard, references_read}
+use Rattle.nest_order.specs.runs.Touched.{IsPlain, EachIsPlain, ArePlain, IsPlainSubscript, IsPlainAssignment, IsPlainGuard, MayHave, MayHaveEach, nth_of, touched_in, references_in_each, touched_in_subscripts, touched_in_subscript, touched_in_guard, references_read}
 use Rattle.nest_order.specs.shapes.Shapes.{guarded_of, loops_round, nest_of}
 use Rattle.nest_order.proofs.runs.Cells.{unguarded_instances_name_cells}
 use Rattle.nest_order.proofs.runs.Alone.{stands_loops}
 use Rattle.nest_order.proofs.runs.Runs.{run_is_instances}
 use Rattle.meaning_laws.proofs.arrays.OneToOne.{of_flat_map}
-use Rattle.array_form.specs.forms.Loops.{Trip}
-use Rattle.array_form.specs.holds.Bounds.{Bounded, Term, bounded_subscripts, coefficients_of, declared_bounds, form_in, is_between, is_constant, is_in_box, is_made, is_met, is_safe, is_safe_subscript, is_same, is_sized, is_zero, iterations_of, lies_within, loop_numbers, meets, stays_between, subscripts_of, terms_in, trips_round, with_bounds}
-use Rattle.array_form.specs.holds.Surroundings.{counted, trip_of}
+use Rattle.array_form.specs.forms.Loops.{FormTrip}
+use Rattle.array_form.specs.holds.Bounds.{Bounded, Term, bounded_subscripts, coefficients_of, declared_bounds, form_in, is_between, is_constant_trip, is_in_box, is_made, is_met, is_safe, is_safe_subscript, is_same, is_sized, is_zero_form, iterations_of, lies_within, loop_numbers_round, meets, stays_between, subscripts_of, terms_in, trips_round, subscripts_with_bounds}
+use Rattle.array_form.specs.holds.Surroundings.{counted_loop, form_trip_of}
 use Rattle.array_form.specs.lone.Cells.{AreLinear, HasCells, HasDeclaredBounds, HaveCells, IsReferenceOf, KeepConstantTrips, RunNamesCells, SafeStatementsHaveCells, StatementsStand, UnguardedNameCells}
 use Rattle.array_form.proofs.forms.Positions.{AreFrom, from_sequence, in_flat_map}
 use Rattle.array_form.proofs.forms.Tests.{all_nought}
 use Rattle.array_form.proofs.lone.Instances.{contains_in}
 use Rattle.array_form.proofs.holds.BoxLaws.{at_all, both_parts, le_true, true_le}
+use Rattle.tree.specs.Widths.{bits_of}
+use Rattle.tree.specs.declared.width.Width.{Width}
 
 -- ---- the run of a nest
 
@@ -59,7 +61,7 @@ run_names_cells bits n w y s ok inside go x is free r i =
     let there = stands_instance (n.turns_of w.values) n.shape [] x.statement k.0 x.iterations k.1 (subst (λ ls. Within (n.turns_of w.values) [] ls x.iterations) (sym e) is.1) in
     unguarded_instances_name_cells bits n w (instances (n.turns_of w.values) n.shape []) s.store run.0 ok inside (each n ok) run.1 x there free r i
   where
-    each : (n : Nest) → IsNestIn bits n w → (z : Instance) → In z (instances (n.turns_of w.values) n.shape []) → IsInstance n.loops_of (n.turns_of w.values) n.shape z
+    each : (n : RunNest) → IsNestIn bits n w → (z : Instance) → In z (instances (n.turns_of w.values) n.shape []) → IsInstance n.loops_of (n.turns_of w.values) n.shape z
     each n ok z j =
         let h = instance_stands (n.turns_of w.values) n.shape [] z j in
         (stands_in_statements n.shape z.statement h.loops h.stands, subst (λ ls. Within (n.turns_of w.values) [] ls z.iterations) (sym (ok.text.nest.fits z.statement h.loops h.stands)) h.within)
@@ -91,12 +93,12 @@ module _ (loops : List (List ℕ)) where
   own_splits x (subscript p ps) r i = inr i
 
   mutual
-    splits_in : (e : Expression) → Splits (references_in e) (graph.references_in loops e)
+    splits_in : (e : Expression) → Splits (touched_in e) (graph.references_in loops e)
     splits_in (Number n) = λ r i. absurd i
     splits_in (Logic b) = λ r i. absurd i
-    splits_in (Named x ps) = splits_append (record { name = x; subscripts = ps } ∷ []) (own_reference loops x ps) (references_in_subscripts ps) (graph.references_in_subscripts loops ps) (own_splits x ps) (splits_in_subscripts ps)
+    splits_in (Named x ps) = splits_append (record { name = x; subscripts = ps } ∷ []) (own_reference loops x ps) (touched_in_subscripts ps) (graph.references_in_subscripts loops ps) (own_splits x ps) (splits_in_subscripts ps)
     splits_in (Unary o a) = splits_in a
-    splits_in (Binary o a b) = splits_append (references_in a) (graph.references_in loops a) (references_in b) (graph.references_in loops b) (splits_in a) (splits_in b)
+    splits_in (Binary o a b) = splits_append (touched_in a) (graph.references_in loops a) (touched_in b) (graph.references_in loops b) (splits_in a) (splits_in b)
     splits_in (Apply f es) = splits_in_each es
     splits_in (Constructor es ls) = λ r i. absurd i
     splits_in (Spread a n e) = λ r i. absurd i
@@ -106,17 +108,17 @@ module _ (loops : List (List ℕ)) where
 
     splits_in_each : (es : Expressions) → Splits (references_in_each es) (graph.references_in_all loops es)
     splits_in_each no_expressions = λ r i. absurd i
-    splits_in_each (expression e es) = splits_append (references_in e) (graph.references_in loops e) (references_in_each es) (graph.references_in_all loops es) (splits_in e) (splits_in_each es)
+    splits_in_each (expression e es) = splits_append (touched_in e) (graph.references_in loops e) (references_in_each es) (graph.references_in_all loops es) (splits_in e) (splits_in_each es)
 
-    splits_in_subscripts : (ps : Subscripts) → Splits (references_in_subscripts ps) (graph.references_in_subscripts loops ps)
+    splits_in_subscripts : (ps : Subscripts) → Splits (touched_in_subscripts ps) (graph.references_in_subscripts loops ps)
     splits_in_subscripts no_subscripts = λ r i. absurd i
-    splits_in_subscripts (subscript p ps) = splits_append (references_in_subscript p) (graph.references_in_subscript loops p) (references_in_subscripts ps) (graph.references_in_subscripts loops ps) (splits_in_subscript p) (splits_in_subscripts ps)
+    splits_in_subscripts (subscript p ps) = splits_append (touched_in_subscript p) (graph.references_in_subscript loops p) (touched_in_subscripts ps) (graph.references_in_subscripts loops ps) (splits_in_subscript p) (splits_in_subscripts ps)
 
-    splits_in_subscript : (p : Subscript) → Splits (references_in_subscript p) (graph.references_in_subscript loops p)
+    splits_in_subscript : (p : Subscript) → Splits (touched_in_subscript p) (graph.references_in_subscript loops p)
     splits_in_subscript (Only e) = splits_in e
     splits_in_subscript (Section a b c) = λ r i. absurd i
 
-  splits_in_guard : (o : Option Expression) → Splits (references_in_guard o) (graph.references_in_guard loops o)
+  splits_in_guard : (o : Option Expression) → Splits (touched_in_guard o) (graph.references_in_guard loops o)
   splits_in_guard None = λ r i. absurd i
   splits_in_guard (Some e) = splits_in e
 
@@ -140,12 +142,12 @@ module _ (loops : List (List ℕ)) where
   own_comes x (subscript p ps) r i = i
 
   mutual
-    comes_in : (e : Expression) → IsPlain e → Comes (graph.references_in loops e) (references_in e)
+    comes_in : (e : Expression) → IsPlain e → Comes (graph.references_in loops e) (touched_in e)
     comes_in (Number n) h = λ r i. absurd i
     comes_in (Logic b) h = λ r i. absurd i
-    comes_in (Named x ps) h = comes_append (own_reference loops x ps) (record { name = x; subscripts = ps } ∷ []) (graph.references_in_subscripts loops ps) (references_in_subscripts ps) (own_comes x ps) (comes_in_subscripts ps h)
+    comes_in (Named x ps) h = comes_append (own_reference loops x ps) (record { name = x; subscripts = ps } ∷ []) (graph.references_in_subscripts loops ps) (touched_in_subscripts ps) (own_comes x ps) (comes_in_subscripts ps h)
     comes_in (Unary o a) h = comes_in a h
-    comes_in (Binary o a b) h = comes_append (graph.references_in loops a) (references_in a) (graph.references_in loops b) (references_in b) (comes_in a h.0) (comes_in b h.1)
+    comes_in (Binary o a b) h = comes_append (graph.references_in loops a) (touched_in a) (graph.references_in loops b) (touched_in b) (comes_in a h.0) (comes_in b h.1)
     comes_in (Apply f es) h = comes_in_each es h
     comes_in (Constructor es ls) h = absurd h
     comes_in (Spread a n e) h = absurd h
@@ -155,17 +157,17 @@ module _ (loops : List (List ℕ)) where
 
     comes_in_each : (es : Expressions) → EachIsPlain es → Comes (graph.references_in_all loops es) (references_in_each es)
     comes_in_each no_expressions h = λ r i. absurd i
-    comes_in_each (expression e es) h = comes_append (graph.references_in loops e) (references_in e) (graph.references_in_all loops es) (references_in_each es) (comes_in e h.0) (comes_in_each es h.1)
+    comes_in_each (expression e es) h = comes_append (graph.references_in loops e) (touched_in e) (graph.references_in_all loops es) (references_in_each es) (comes_in e h.0) (comes_in_each es h.1)
 
-    comes_in_subscripts : (ps : Subscripts) → ArePlain ps → Comes (graph.references_in_subscripts loops ps) (references_in_subscripts ps)
+    comes_in_subscripts : (ps : Subscripts) → ArePlain ps → Comes (graph.references_in_subscripts loops ps) (touched_in_subscripts ps)
     comes_in_subscripts no_subscripts h = λ r i. absurd i
-    comes_in_subscripts (subscript p ps) h = comes_append (graph.references_in_subscript loops p) (references_in_subscript p) (graph.references_in_subscripts loops ps) (references_in_subscripts ps) (comes_in_subscript p h.0) (comes_in_subscripts ps h.1)
+    comes_in_subscripts (subscript p ps) h = comes_append (graph.references_in_subscript loops p) (touched_in_subscript p) (graph.references_in_subscripts loops ps) (touched_in_subscripts ps) (comes_in_subscript p h.0) (comes_in_subscripts ps h.1)
 
-    comes_in_subscript : (p : Subscript) → IsPlainSubscript p → Comes (graph.references_in_subscript loops p) (references_in_subscript p)
+    comes_in_subscript : (p : Subscript) → IsPlainSubscript p → Comes (graph.references_in_subscript loops p) (touched_in_subscript p)
     comes_in_subscript (Only e) h = comes_in e h
     comes_in_subscript (Section a b c) h = absurd h
 
-  comes_in_guard : (o : Option Expression) → IsPlainGuard o → Comes (graph.references_in_guard loops o) (references_in_guard o)
+  comes_in_guard : (o : Option Expression) → IsPlainGuard o → Comes (graph.references_in_guard loops o) (touched_in_guard o)
   comes_in_guard None h = λ r i. absurd i
   comes_in_guard (Some e) h = comes_in e h
 
@@ -198,7 +200,7 @@ among_in (y ∷ xs) x h = by (bytes_eq y x) refl h (among_in xs x)
 
 -- ---- equal forms
 
-zero_number : (f : Form) (xs : List ℤ) → is_zero f ≡ true → number_at f xs ≡ pos 0
+zero_number : (f : Form) (xs : List ℤ) → is_zero_form f ≡ true → number_at f xs ≡ pos 0
 zero_number f xs h =
     let parts = both_parts (not_zero f.coefficients == 0) (int_eq f.constant (pos 0)) h in
     ap₂ (λ a b. a +ℤ b) (all_nought f.coefficients xs (eqb-true (not_zero f.coefficients) 0 parts.0)) ((Decides-int_eq f.constant (pos 0)).0 parts.1)
@@ -231,25 +233,25 @@ closer b c z h k =
 -- ---- boxes
 
 -- each iteration is from 1 on, and in a loop with a constant trip not past it
-abbrev AreTurns : List Trip → List ℕ → Type 0
+abbrev AreTurns : List FormTrip → List ℕ → Type 0
 AreTurns [] [] = Unit {0}
-AreTurns (t ∷ ts) (i ∷ is) = ((1 ≤ i) × (is_constant t ≡ true → i ≤ not_negative t.form.constant)) × AreTurns ts is
+AreTurns (t ∷ ts) (i ∷ is) = ((1 ≤ i) × (is_constant_trip t ≡ true → i ≤ not_negative t.form.constant)) × AreTurns ts is
 AreTurns _ _ = ⊥
 
 abbrev all_constant : List Term → Bool
-all_constant ts = list_all (λ (t : Term). is_constant t.trip) ts
+all_constant ts = list_all (λ (t : Term). is_constant_trip t.trip) ts
 
 abbrev counts_in : List Term → List ℕ
 counts_in ts = map (λ (t : Term). not_negative t.trip.form.constant) ts
 
 -- the iterations of the loops that stand in a form
-abbrev picked : List Trip → List ℤ → List ℕ → List ℕ
+abbrev picked : List FormTrip → List ℤ → List ℕ → List ℕ
 picked [] cs is = []
 picked (t ∷ ts) [] is = []
 picked (t ∷ ts) (c ∷ cs) [] = []
 picked (t ∷ ts) (c ∷ cs) (i ∷ is) = cond (int_eq c (pos 0)) (picked ts cs is) (i ∷ picked ts cs is)
 
-picked_from : (ts : List Trip) (cs : List ℤ) (is : List ℕ) → AreTurns ts is → all_constant (terms_in ts cs) ≡ true → AreFrom 1 (counts_in (terms_in ts cs)) (picked ts cs is)
+picked_from : (ts : List FormTrip) (cs : List ℤ) (is : List ℕ) → AreTurns ts is → all_constant (terms_in ts cs) ≡ true → AreFrom 1 (counts_in (terms_in ts cs)) (picked ts cs is)
 picked_from [] cs is a h = tt
 picked_from (t ∷ ts) [] is a h = tt
 picked_from (t ∷ ts) (c ∷ cs) [] a h = absurd a
@@ -260,12 +262,12 @@ picked_from (t ∷ ts) (c ∷ cs) (i ∷ is) a h = by (int_eq c (pos 0)) h (pick
         → AreFrom 1 (counts_in (cond b (terms_in ts cs) (record { coefficient = c; trip = t } ∷ terms_in ts cs))) (cond b (picked ts cs is) (i ∷ picked ts cs is))
     by true h more = more h
     by false h more =
-        let parts = both_parts (is_constant t) (all_constant (terms_in ts cs)) h in
+        let parts = both_parts (is_constant_trip t) (all_constant (terms_in ts cs)) h in
         let low : 1 ≤ i = a.0.0 in
         let high : i ≤ not_negative t.form.constant = a.0.1 parts.0 in
         ((low, omega arith), more parts.1)
 
-picked_sum : (ts : List Trip) (cs vals : List ℤ) (is : List ℕ) → AreTurns ts is → (not_zero (drop (length ts) cs) == 0) ≡ true
+picked_sum : (ts : List FormTrip) (cs vals : List ℤ) (is : List ℕ) → AreTurns ts is → (not_zero (drop (length ts) cs) == 0) ≡ true
     → weighted cs (map pos is ++ vals) ≡ weighted (coefficients_of (terms_in ts cs)) (map pos (picked ts cs is))
 picked_sum [] cs vals [] a h = all_nought cs vals (eqb-true (not_zero cs) 0 h)
 picked_sum [] cs vals (i ∷ is) a h = absurd a
@@ -284,7 +286,7 @@ picked_sum (t ∷ ts) (c ∷ cs) vals (i ∷ is) a h = by (int_eq c (pos 0)) ref
     by true e more = left_out c (weighted cs (map pos is ++ vals)) (weighted (coefficients_of (terms_in ts cs)) (map pos (picked ts cs is))) ((Decides-int_eq c (pos 0)).0 e) more
     by false e more = ap (λ z. c *ℤ pos i +ℤ z) more
 
-in_box_number : (ts : List Trip) (f : Form) (b : ℤ × ℤ) (vals : List ℤ) (is : List ℕ) → AreTurns ts is → is_in_box ts f b ≡ true → is_between b (number_at f (map pos is ++ vals)) ≡ true
+in_box_number : (ts : List FormTrip) (f : Form) (b : ℤ × ℤ) (vals : List ℤ) (is : List ℕ) → AreTurns ts is → is_in_box ts f b ≡ true → is_between b (number_at f (map pos is ++ vals)) ≡ true
 in_box_number ts f b vals is a h =
     let one = both_parts (not_zero (drop (length ts) f.coefficients) == 0) (all_constant (terms_in ts f.coefficients) && stays_between b f.constant (terms_in ts f.coefficients)) h in
     let two = both_parts (all_constant (terms_in ts f.coefficients)) (stays_between b f.constant (terms_in ts f.coefficients)) one.1 in
@@ -303,14 +305,14 @@ same_numbers (k ∷ ks) (l ∷ ls) h =
     let parts = both_parts (k == l) (pointwise (λ i j. i == j) ks ls) h in
     ap₂ (λ x xs. x ∷ xs) (eqb-true k l parts.0) (same_numbers ks ls parts.1)
 
-module _ (p : plain.Nest) (linear : ℕ → Expression → Option ((ℕ → ℤ) → List ℕ → ℤ)) (turns : (ℕ → ℤ) → ℕ → List ℕ → ℕ) (w : Setting) where
-  abbrev n : Nest
+module _ (width : Width) (p : plain.Nest) (linear : ℕ → Expression → Option ((ℕ → ℤ) → List ℕ → ℤ)) (turns : (ℕ → ℤ) → ℕ → List ℕ → ℕ) (w : Setting) where
+  abbrev n : RunNest
   n = nest_of p.body p.symbols linear turns
 
   abbrev places : List ℕ → List ℤ
   places is = places_of w.values p.symbols is
 
-  module _ (stand : StatementsStand p (nest_of p.body p.symbols linear turns)) (facts : HasFacts 31 (nest_of p.body p.symbols linear turns) w) (bounds : HasDeclaredBounds p w) where
+  module _ (stand : StatementsStand p (nest_of p.body p.symbols linear turns)) (facts : HasFacts (bits_of width) (nest_of p.body p.symbols linear turns) w) (bounds : HasDeclaredBounds p w) where
     -- a subscript with its form
     linear_is : (s : ℕ) (x : Standing) → nth_of (nest_statements p) s ≡ Some x → (e : Expression) → (nest_of p.body p.symbols linear turns).linear s e ≡ number_by p.symbols (form_in p (graph.variables_round x) (Only e))
     linear_is s x at e =
@@ -319,7 +321,7 @@ module _ (p : plain.Nest) (linear : ℕ → Expression → Option ((ℕ → ℤ)
 
     -- the subscripts of a reference that names a cell are within the bounds
     named_within : (s : ℕ) (x : Standing) → nth_of (nest_statements p) s ≡ Some x → (is : List ℕ) (ps : Subscripts) (bs : List (ℤ × ℤ)) (qs : List Bounded) (zs : List ℤ)
-        → with_bounds p (graph.variables_round x) ps bs ≡ Some qs → MayHaveEach (nest_of p.body p.symbols linear turns) w.values s is ps zs → is_within bs zs ≡ true
+        → subscripts_with_bounds p (graph.variables_round x) ps bs ≡ Some qs → MayHaveEach (nest_of p.body p.symbols linear turns) w.values s is ps zs → is_within bs zs ≡ true
         → (q : Bounded) → Contains qs q → (g : Form) → q.form ≡ Some g → is_between q.bounds (number_at g (places_of w.values p.symbols is)) ≡ true
     named_within s x at is no_subscripts [] qs zs e m h q c g f = absurd (nowhere q (subst (λ rs. Contains rs q) (sym (some_is e)) c))
       where
@@ -330,7 +332,7 @@ module _ (p : plain.Nest) (linear : ℕ → Expression → Option ((ℕ → ℤ)
     named_within s x at is (subscript (Section i j k) ps) (b ∷ bs) qs zs e m h q c g f = absurd m
     named_within s x at is (subscript (Only i) ps) (b ∷ bs) qs [] e m h q c g f = absurd m
     named_within s x at is (subscript (Only i) ps) (b ∷ bs) qs (z ∷ zs) e m h q c g f =
-        by (with_bounds p (graph.variables_round x) ps bs) refl e (λ rs k. named_within s x at is ps bs rs zs k m.1 parts.1 q)
+        by (subscripts_with_bounds p (graph.variables_round x) ps bs) refl e (λ rs k. named_within s x at is ps bs rs zs k m.1 parts.1 q)
       where
         first : Bounded
         first = record { form = form_in p (graph.variables_round x) (Only i); bounds = b }
@@ -349,8 +351,8 @@ module _ (p : plain.Nest) (linear : ℕ → Expression → Option ((ℕ → ℤ)
             let value : z ≡ number_at g (places_of w.values p.symbols is) = subst (λ o. MayHave (nest_of p.body p.symbols linear turns) w.values is o z) is_linear m.0 in
             ap (is_between b) (sym value) ∙ parts.0
 
-        by : (o : Option (List Bounded)) → with_bounds p (graph.variables_round x) ps bs ≡ o → option_map (λ rs. record { form = form_in p (graph.variables_round x) (Only i); bounds = b } ∷ rs) o ≡ Some qs
-            → ((rs : List Bounded) → with_bounds p (graph.variables_round x) ps bs ≡ Some rs → Contains rs q → (g' : Form) → q.form ≡ Some g' → is_between q.bounds (number_at g' (places_of w.values p.symbols is)) ≡ true)
+        by : (o : Option (List Bounded)) → subscripts_with_bounds p (graph.variables_round x) ps bs ≡ o → option_map (λ rs. record { form = form_in p (graph.variables_round x) (Only i); bounds = b } ∷ rs) o ≡ Some qs
+            → ((rs : List Bounded) → subscripts_with_bounds p (graph.variables_round x) ps bs ≡ Some rs → Contains rs q → (g' : Form) → q.form ≡ Some g' → is_between q.bounds (number_at g' (places_of w.values p.symbols is)) ≡ true)
             → is_between q.bounds (number_at g (places_of w.values p.symbols is)) ≡ true
         by None k l more = cc
         by (Some rs) k l more =
@@ -370,34 +372,34 @@ module _ (p : plain.Nest) (linear : ℕ → Expression → Option ((ℕ → ℤ)
     is_unguarded (Some e) h = cc
 
     guarded_is : (s : ℕ) (x : Standing) → nth_of (nest_statements p) s ≡ Some x
-        → ◌≡◌ {A = Guarded} ((nest_of p.body p.symbols linear turns).statement_at s) (record { guard = x.statement.guard; left = x.statement.left; right = x.statement.right })
+        → ◌≡◌ {A = GuardedAssignment} ((nest_of p.body p.symbols linear turns).statement_at s) (record { guard = x.statement.guard; left = x.statement.left; right = x.statement.right })
     guarded_is s x at = ap guarded_of at
 
     -- its references are read
     read_there : (s : ℕ) (x : Standing) → nth_of (nest_statements p) s ≡ Some x → (r : Reference) → In r (references_of x) → IsReferenceOf (nest_of p.body p.symbols linear turns) s r
     read_there s x at r i =
         let plain' = facts.text.plain s (stand s x at).0 in
-        let own = subst (λ (g : Guarded). IsPlainAssignment g) (guarded_is s x at) plain' in
+        let own = subst (λ (g : GuardedAssignment). IsPlainAssignment g) (guarded_is s x at) plain' in
         let loops = graph.variables_round x in
-        let g : Guarded = record { guard = x.statement.guard; left = x.statement.left; right = x.statement.right } in
-        subst (λ (g : Guarded). In r (g.left ∷ references_read g)) (sym (guarded_is s x at))
+        let g : GuardedAssignment = record { guard = x.statement.guard; left = x.statement.left; right = x.statement.right } in
+        subst (λ (g : GuardedAssignment). In r (g.left ∷ references_read g)) (sym (guarded_is s x at))
         (elim i [
           | inl e ↦ inl e
-          | inr j ↦ inr (comes_append loops (graph.references_in_guard loops x.statement.guard) (references_in_guard x.statement.guard)
-              (graph.references_in_subscripts loops x.statement.left.subscripts ++ graph.references_in loops x.statement.right) (references_in_subscripts x.statement.left.subscripts ++ references_in x.statement.right)
+          | inr j ↦ inr (comes_append loops (graph.references_in_guard loops x.statement.guard) (touched_in_guard x.statement.guard)
+              (graph.references_in_subscripts loops x.statement.left.subscripts ++ graph.references_in loops x.statement.right) (touched_in_subscripts x.statement.left.subscripts ++ touched_in x.statement.right)
               (comes_in_guard loops x.statement.guard own.0)
-              (comes_append loops (graph.references_in_subscripts loops x.statement.left.subscripts) (references_in_subscripts x.statement.left.subscripts) (graph.references_in loops x.statement.right) (references_in x.statement.right)
+              (comes_append loops (graph.references_in_subscripts loops x.statement.left.subscripts) (touched_in_subscripts x.statement.left.subscripts) (graph.references_in loops x.statement.right) (touched_in x.statement.right)
               (comes_in_subscripts loops x.statement.left.subscripts own.2) (comes_in loops x.statement.right own.1)) r j)
         ])
 
     -- the bounds of a reference's subscripts are declared
     declared_there : (loops : List (List ℕ)) (r : Reference) (qs : List Bounded) → bounded_subscripts p loops r ≡ Some qs
-        → ((is_made p r.name ≡ true) × (qs ≡ [])) ⊎ ((is_made p r.name ≡ false) × (bs : List (ℤ × ℤ)) × (declared_bounds p r.name ≡ Some bs) × (with_bounds p loops r.subscripts bs ≡ Some qs))
+        → ((is_made p r.name ≡ true) × (qs ≡ [])) ⊎ ((is_made p r.name ≡ false) × (bs : List (ℤ × ℤ)) × (declared_bounds p r.name ≡ Some bs) × (subscripts_with_bounds p loops r.subscripts bs ≡ Some qs))
     declared_there loops r qs h = by (is_made p r.name) refl (declared_bounds p r.name) refl h
       where
         by : (b : Bool) → is_made p r.name ≡ b → (o : Option (List (ℤ × ℤ))) → declared_bounds p r.name ≡ o
-            → cond b (Some []) (elim o [ None ↦ None | Some bs ↦ with_bounds p loops r.subscripts bs ]) ≡ Some qs
-            → ((is_made p r.name ≡ true) × (qs ≡ [])) ⊎ ((is_made p r.name ≡ false) × (bs : List (ℤ × ℤ)) × (declared_bounds p r.name ≡ Some bs) × (with_bounds p loops r.subscripts bs ≡ Some qs))
+            → cond b (Some []) (elim o [ None ↦ None | Some bs ↦ subscripts_with_bounds p loops r.subscripts bs ]) ≡ Some qs
+            → ((is_made p r.name ≡ true) × (qs ≡ [])) ⊎ ((is_made p r.name ≡ false) × (bs : List (ℤ × ℤ)) × (declared_bounds p r.name ≡ Some bs) × (subscripts_with_bounds p loops r.subscripts bs ≡ Some qs))
         by true e o f k = let same : [] ≡ qs = cc in inl (e, sym same)
         by false e None f k = cc
         by false e (Some bs) f k = inr (e, bs, f, k)
@@ -421,7 +423,7 @@ module _ (p : plain.Nest) (linear : ℕ → Expression → Option ((ℕ → ℤ)
         let o = of_flat_map (λ r. unwrap_or (bounded_subscripts p (graph.variables_round y) r) []) (references_of y) q c in
         let k = found_in (bounded_subscripts p (graph.variables_round y) o.0) o.2 in
         let z : Instance = record { statement = t; iterations = is } in
-        let named = cells z it (ap (λ (g : Guarded). g.guard) (guarded_is t y at) ∙ free) o.0 (read_there t y at o.0 (contains_in (references_of y) o.0 o.1)) in
+        let named = cells z it (ap (λ (g : GuardedAssignment). g.guard) (guarded_is t y at) ∙ free) o.0 (read_there t y at o.0 (contains_in (references_of y) o.0 o.1)) in
         elim (declared_there (graph.variables_round y) o.0 k.0 k.1) [
           | inl m ↦ absurd (nowhere q (subst (λ qs. Contains qs q) m.1 k.2))
           | inr d ↦ named_within t y at is o.0.subscripts d.1 k.0 named.cell.subscripts d.3 named.may.subscripts
@@ -432,10 +434,10 @@ module _ (p : plain.Nest) (linear : ℕ → Expression → Option ((ℕ → ℤ)
 
     module _ (cells : UnguardedNameCells (nest_of p.body p.symbols linear turns) w) (s : ℕ) (x : Standing) (at : nth_of (nest_statements p) s ≡ Some x) (keeps : KeepConstantTrips turns w.values x) (is : List ℕ)
         (it : IsInstance (nest_of p.body p.symbols linear turns).loops_of (turns w.values) (nest_of p.body p.symbols linear turns).shape (record { statement = s; iterations = is })) where
-      numbers_are : (nest_of p.body p.symbols linear turns).loops_of s ≡ loop_numbers x
+      numbers_are : (nest_of p.body p.symbols linear turns).loops_of s ≡ loop_numbers_round x
       numbers_are = ap loops_round at
 
-      turning : (f : Loop → Trip) (ls : List Loop) → ((j : ℕ) (l : Loop) (t : Trip) (before : List ℕ) → nth_of ls j ≡ Some l → nth_of (map f ls) j ≡ Some t → is_constant t ≡ true → turns w.values l.number before ≤ not_negative t.form.constant)
+      turning : (f : Loop → FormTrip) (ls : List Loop) → ((j : ℕ) (l : Loop) (t : FormTrip) (before : List ℕ) → nth_of ls j ≡ Some l → nth_of (map f ls) j ≡ Some t → is_constant_trip t ≡ true → turns w.values l.number before ≤ not_negative t.form.constant)
           → (before js : List ℕ) → Within (turns w.values) before (map (λ (l : Loop). l.number) ls) js → AreTurns (map f ls) js
       turning f [] k before [] v = tt
       turning f [] k before (j ∷ js) v = absurd v
@@ -446,29 +448,29 @@ module _ (p : plain.Nest) (linear : ℕ → Expression → Option ((ℕ → ℤ)
           ((low, λ c. let most = k 0 l (f l) before refl refl c in let r : j ≤ not_negative (f l).form.constant = omega arith in r), turning f ls (λ i m t b e g c. k (suc i) m t b e g c) (before ++ j ∷ []) js v.2)
 
       own_turns : AreTurns (trips_round x) is
-      own_turns = turning (λ l. trip_of (length x.loops) (counted l).trip) x.loops keeps [] is (subst (λ ls. Within (turns w.values) [] ls is) numbers_are it.1)
+      own_turns = turning (λ l. form_trip_of (length x.loops) (counted_loop l).trip) x.loops keeps [] is (subst (λ ls. Within (turns w.values) [] ls is) numbers_are it.1)
 
       safe_number : (q : Bounded) → is_safe_subscript p x q ≡ true → (g : Form) × (q.form ≡ Some g) × (is_between q.bounds (number_at g (places_of w.values p.symbols is)) ≡ true)
       safe_number q h = by q.form refl h
         where
-          by_parts : (g : Form) → q.form ≡ Some g → (b : Bool) → is_in_box (trips_round x) g q.bounds ≡ b → (b || is_met p (loop_numbers x) g q.bounds) ≡ true → is_between q.bounds (number_at g (places_of w.values p.symbols is)) ≡ true
+          by_parts : (g : Form) → q.form ≡ Some g → (b : Bool) → is_in_box (trips_round x) g q.bounds ≡ b → (b || is_met p (loop_numbers_round x) g q.bounds) ≡ true → is_between q.bounds (number_at g (places_of w.values p.symbols is)) ≡ true
           by_parts g e true f k = in_box_number (trips_round x) g q.bounds (values_from w.values 0 p.symbols) is own_turns f
           by_parts g e false f k =
-              let m = any_at (meets p (loop_numbers x) g q.bounds) (nest_statements p) k in
+              let m = any_at (meets p (loop_numbers_round x) g q.bounds) (nest_statements p) k in
               let y = m.0 in
-              let one = both_parts (is_none y.statement.guard) (pointwise (λ i j. i == j) (loop_numbers y) (loop_numbers x) && list_any (λ (r : Bounded). is_same g r.form && lies_within q.bounds r.bounds) (subscripts_of p y)) m.2 in
-              let two = both_parts (pointwise (λ i j. i == j) (loop_numbers y) (loop_numbers x)) (list_any (λ (r : Bounded). is_same g r.form && lies_within q.bounds r.bounds) (subscripts_of p y)) one.1 in
+              let one = both_parts (is_none y.statement.guard) (pointwise (λ i j. i == j) (loop_numbers_round y) (loop_numbers_round x) && list_any (λ (r : Bounded). is_same g r.form && lies_within q.bounds r.bounds) (subscripts_of p y)) m.2 in
+              let two = both_parts (pointwise (λ i j. i == j) (loop_numbers_round y) (loop_numbers_round x)) (list_any (λ (r : Bounded). is_same g r.form && lies_within q.bounds r.bounds) (subscripts_of p y)) one.1 in
               let r = any_at (λ (r : Bounded). is_same g r.form && lies_within q.bounds r.bounds) (subscripts_of p y) two.1 in
               let alike = both_parts (is_same g r.0.form) (lies_within q.bounds r.0.bounds) r.2 in
               let k' = numbered (nest_statements p) y m.1 in
               let same = same_number g r.0.form alike.0 in
-              let loops : (nest_of p.body p.symbols linear turns).loops_of k'.0 ≡ (nest_of p.body p.symbols linear turns).loops_of s = ap loops_round k'.1 ∙ (same_numbers (loop_numbers y) (loop_numbers x) two.0 ∙ sym numbers_are) in
+              let loops : (nest_of p.body p.symbols linear turns).loops_of k'.0 ≡ (nest_of p.body p.symbols linear turns).loops_of s = ap loops_round k'.1 ∙ (same_numbers (loop_numbers_round y) (loop_numbers_round x) two.0 ∙ sym numbers_are) in
               let there : IsInstance (nest_of p.body p.symbols linear turns).loops_of (turns w.values) (nest_of p.body p.symbols linear turns).shape (record { statement = k'.0; iterations = is })
               = ((stand k'.0 y k'.1).0, subst (λ ls. Within (turns w.values) [] ls is) (sym loops) it.1) in
               let number = met_number cells k'.0 y k'.1 (is_unguarded y.statement.guard one.0) is there r.0 r.1 same.0 same.1 in
               closer q.bounds r.0.bounds (number_at g (places_of w.values p.symbols is)) alike.1 (ap (is_between r.0.bounds) (same.2 (places_of w.values p.symbols is)) ∙ number)
 
-          by : (o : Option Form) → q.form ≡ o → elim o [ None ↦ false | Some f ↦ is_in_box (trips_round x) f q.bounds || is_met p (loop_numbers x) f q.bounds ] ≡ true
+          by : (o : Option Form) → q.form ≡ o → elim o [ None ↦ false | Some f ↦ is_in_box (trips_round x) f q.bounds || is_met p (loop_numbers_round x) f q.bounds ] ≡ true
               → (g : Form) × (q.form ≡ Some g) × (is_between q.bounds (number_at g (places_of w.values p.symbols is)) ≡ true)
           by None e k = cc
           by (Some g) e k = (g, e, by_parts g e (is_in_box (trips_round x) g q.bounds) refl k)
@@ -486,19 +488,19 @@ module _ (p : plain.Nest) (linear : ℕ → Expression → Option ((ℕ → ℤ)
     some_rest None qs h = cc
     some_rest {a} (Some rs) qs h = let same : a ∷ rs ≡ qs = cc in (rs, refl, sym same)
 
-    fitting : (s : ℕ) (x : Standing) → nth_of (nest_statements p) s ≡ Some x → (is : List ℕ) (ps : Subscripts) (bs : List (ℤ × ℤ)) (qs : List Bounded) → with_bounds p (graph.variables_round x) ps bs ≡ Some qs
+    fitting : (s : ℕ) (x : Standing) → nth_of (nest_statements p) s ≡ Some x → (is : List ℕ) (ps : Subscripts) (bs : List (ℤ × ℤ)) (qs : List Bounded) → subscripts_with_bounds p (graph.variables_round x) ps bs ≡ Some qs
         → ((q : Bounded) → Contains qs q → (g : Form) × (q.form ≡ Some g) × (is_between q.bounds (number_at g (places_of w.values p.symbols is)) ≡ true)) → Fits s is ps bs
     fitting s x at is no_subscripts [] qs e safe = record { zs = []; have = tt; within = refl }
     fitting s x at is no_subscripts (b ∷ bs) qs e safe = cc
     fitting s x at is (subscript r ps) [] qs e safe = cc
     fitting s x at is (subscript (Section i j k) ps) (b ∷ bs) qs e safe =
-        let rest = some_rest (with_bounds p (graph.variables_round x) ps bs) qs e in
+        let rest = some_rest (subscripts_with_bounds p (graph.variables_round x) ps bs) qs e in
         let one = safe (record { form = None; bounds = b }) (subst (λ rs. Contains rs (record { form = None; bounds = b })) (sym rest.2) (here (record { form = None; bounds = b }) rest.0)) in
         let bad : None ≡ Some one.0 = one.1 in
         cc
     fitting s x at is (subscript (Only i) ps) (b ∷ bs) qs e safe =
         let first : Bounded = record { form = form_in p (graph.variables_round x) (Only i); bounds = b } in
-        let rest = some_rest (with_bounds p (graph.variables_round x) ps bs) qs e in
+        let rest = some_rest (subscripts_with_bounds p (graph.variables_round x) ps bs) qs e in
         let one = safe first (subst (λ rs. Contains rs first) (sym rest.2) (here first rest.0)) in
         let more = fitting s x at is ps bs rest.0 rest.1 (λ q c. safe q (subst (λ rs. Contains rs q) (sym rest.2) (there first rest.0 q c))) in
         let z = number_at one.0 (places_of w.values p.symbols is) in
@@ -510,17 +512,17 @@ module _ (p : plain.Nest) (linear : ℕ → Expression → Option ((ℕ → ℤ)
           within = ap₂ (λ x y. x && y) inside.0 (ap₂ (λ x y. x && y) inside.1 more.within);
         }
 
-    linears : (s : ℕ) (x : Standing) → nth_of (nest_statements p) s ≡ Some x → (ps : Subscripts) (bs : List (ℤ × ℤ)) (qs : List Bounded) → with_bounds p (graph.variables_round x) ps bs ≡ Some qs
+    linears : (s : ℕ) (x : Standing) → nth_of (nest_statements p) s ≡ Some x → (ps : Subscripts) (bs : List (ℤ × ℤ)) (qs : List Bounded) → subscripts_with_bounds p (graph.variables_round x) ps bs ≡ Some qs
         → ((q : Bounded) → Contains qs q → is_safe_subscript p x q ≡ true) → AreLinear (nest_of p.body p.symbols linear turns) s ps
     linears s x at no_subscripts bs qs e safe = tt
     linears s x at (subscript r ps) [] qs e safe = cc
     linears s x at (subscript (Section i j k) ps) (b ∷ bs) qs e safe =
-        let rest = some_rest (with_bounds p (graph.variables_round x) ps bs) qs e in
+        let rest = some_rest (subscripts_with_bounds p (graph.variables_round x) ps bs) qs e in
         let one = safe (record { form = None; bounds = b }) (subst (λ rs. Contains rs (record { form = None; bounds = b })) (sym rest.2) (here (record { form = None; bounds = b }) rest.0)) in
         cc
     linears s x at (subscript (Only i) ps) (b ∷ bs) qs e safe =
         let first : Bounded = record { form = form_in p (graph.variables_round x) (Only i); bounds = b } in
-        let rest = some_rest (with_bounds p (graph.variables_round x) ps bs) qs e in
+        let rest = some_rest (subscripts_with_bounds p (graph.variables_round x) ps bs) qs e in
         let one = safe first (subst (λ rs. Contains rs first) (sym rest.2) (here first rest.0)) in
         (subst (λ o. IsSome o) (sym (linear_is s x at i)) (has_form (form_in p (graph.variables_round x) (Only i)) b one), linears s x at ps bs rest.0 rest.1 (λ q c. safe q (subst (λ rs. Contains rs q) (sym rest.2) (there first rest.0 q c))))
       where
@@ -555,7 +557,7 @@ module _ (p : plain.Nest) (linear : ℕ → Expression → Option ((ℕ → ℤ)
         ]
       where
         named_cell : (z : Instance) → IsInstance (nest_of p.body p.symbols linear turns).loops_of (turns w.values) (nest_of p.body p.symbols linear turns).shape z → z.statement ≡ s
-            → (bs : List (ℤ × ℤ)) → declared_bounds p r.name ≡ Some bs → (qs : List Bounded) → with_bounds p (graph.variables_round x) r.subscripts bs ≡ Some qs → ((q : Bounded) → Contains qs q → is_safe_subscript p x q ≡ true)
+            → (bs : List (ℤ × ℤ)) → declared_bounds p r.name ≡ Some bs → (qs : List Bounded) → subscripts_with_bounds p (graph.variables_round x) r.subscripts bs ≡ Some qs → ((q : Bounded) → Contains qs q → is_safe_subscript p x q ≡ true)
             → NamesCell (nest_of p.body p.symbols linear turns) w z r
         named_cell z it here' bs e qs f each =
             let own : IsInstance (nest_of p.body p.symbols linear turns).loops_of (turns w.values) (nest_of p.body p.symbols linear turns).shape (record { statement = s; iterations = z.iterations })
@@ -593,8 +595,8 @@ module _ (p : plain.Nest) (linear : ℕ → Expression → Option ((ℕ → ℤ)
         → is_safe p x ≡ true → HaveCells (nest_of p.body p.symbols linear turns) w s
     all_cells cells s x at keeps made safe r i =
         let loops = graph.variables_round x in
-        let g : Guarded = record { guard = x.statement.guard; left = x.statement.left; right = x.statement.right } in
-        let j = subst (λ (g : Guarded). In r (g.left ∷ references_read g)) (guarded_is s x at) i in
+        let g : GuardedAssignment = record { guard = x.statement.guard; left = x.statement.left; right = x.statement.right } in
+        let j = subst (λ (g : GuardedAssignment). In r (g.left ∷ references_read g)) (guarded_is s x at) i in
         elim (split_of j) [
           | inl v ↦ variable_cells s x at r v.0 v.1
           | inr k ↦ by (is_made p r.name) refl k
@@ -604,14 +606,14 @@ module _ (p : plain.Nest) (linear : ℕ → Expression → Option ((ℕ → ℤ)
         split_of (inl e) = inr (inl e)
         split_of (inr k) =
             let loops = graph.variables_round x in
-            elim (splits_append loops (references_in_guard x.statement.guard) (graph.references_in_guard loops x.statement.guard) (references_in_subscripts x.statement.left.subscripts ++ references_in x.statement.right)
+            elim (splits_append loops (touched_in_guard x.statement.guard) (graph.references_in_guard loops x.statement.guard) (touched_in_subscripts x.statement.left.subscripts ++ touched_in x.statement.right)
             (graph.references_in_subscripts loops x.statement.left.subscripts ++ graph.references_in loops x.statement.right) (splits_in_guard loops x.statement.guard)
-            (splits_append loops (references_in_subscripts x.statement.left.subscripts) (graph.references_in_subscripts loops x.statement.left.subscripts) (references_in x.statement.right) (graph.references_in loops x.statement.right)
+            (splits_append loops (touched_in_subscripts x.statement.left.subscripts) (graph.references_in_subscripts loops x.statement.left.subscripts) (touched_in x.statement.right) (graph.references_in loops x.statement.right)
             (splits_in_subscripts loops x.statement.left.subscripts) (splits_in loops x.statement.right)) r k) [ inl v ↦ inl v | inr m ↦ inr (inr m) ]
 
         by : (b : Bool) → is_made p r.name ≡ b → In r (references_of x) → HasCells (nest_of p.body p.symbols linear turns) w s r
         by true e k = made r i e
         by false e k = has_cells cells s x at keeps safe r k e
 
-pub safe_statements_have_cells : SafeStatementsHaveCells
-safe_statements_have_cells p linear turns w s x stand facts at bounds keeps cells made safe = all_cells p linear turns w stand facts bounds cells s x at keeps made safe
+pub safe_statements_have_cells : (width : Width) → SafeStatementsHaveCells width
+safe_statements_have_cells width p linear turns w s x stand facts at bounds keeps cells made safe = all_cells width p linear turns w stand facts bounds cells s x at keeps made safe

@@ -8,8 +8,8 @@ use Rattle.std.proofs.lemmas.Slice.Eq.{bytes_eq-Decides}
 use Rattle.tree.specs.Plain.{Subscripts, no_subscripts, subscript}
 use Rattle.meaning.specs.Reads.{names_in_subscript, names_in_subscripts}
 use Rattle.meaning_laws.proofs.arrays.Members.{here}
-use Rattle.array_form.specs.forms.Following.{has_none}
-use Rattle.array_form.specs.forms.Loops.{Loop, Surroundings, variables_of, is_among, loops_among}
+use Rattle.array_form.specs.forms.Following.{has_no_loop}
+use Rattle.array_form.specs.forms.Loops.{FormLoop, FormSurroundings, form_variables_of, is_among, loops_among}
 use Rattle.array_form.specs.forms.Trips.{AreDistinct}
 use Rattle.array_form.specs.forms.Loops.{loops_in_order}
 use Rattle.array_form.proofs.forms.Forming.{none_append}
@@ -88,28 +88,28 @@ no_more (x ∷ xs) ys d h =
 
 -- ---- some of the loops
 
-pub few_loops : (a : Surroundings) (D : List Loop) → AreSomeLoops a D → length a.loops ≤ 7 → length D ≤ 7
+pub few_loops : (a : FormSurroundings) (D : List FormLoop) → AreSomeLoops a D → length a.loops ≤ 7 → length D ≤ 7
 few_loops a D s few =
-    let all : length (variables_of D) ≤ length (variables_of a.loops) = no_more (variables_of a.loops)
-    (variables_of D) s.once (λ z k.
+    let all : length (form_variables_of D) ≤ length (form_variables_of a.loops) = no_more (form_variables_of a.loops)
+    (form_variables_of D) s.once (λ z k.
     let l = loop_of D z k in
-    subst (λ x. is_among (variables_of a.loops) x ≡ true) l.2
-    (among (variables_of a.loops) l.0.variable (variable_in a.loops l.0 (s.among l.0 l.1)))) in
-    let p : length (variables_of D) ≡ length D = length-map D (λ (l : Loop). l.variable) in
-    let q : length (variables_of a.loops) ≡ length a.loops = length-map a.loops (λ (l : Loop). l.variable) in
+    subst (λ x. is_among (form_variables_of a.loops) x ≡ true) l.2
+    (among (form_variables_of a.loops) l.0.variable (variable_in a.loops l.0 (s.among l.0 l.1)))) in
+    let p : length (form_variables_of D) ≡ length D = length-map D (λ (l : FormLoop). l.variable) in
+    let q : length (form_variables_of a.loops) ≡ length a.loops = length-map a.loops (λ (l : FormLoop). l.variable) in
     omega (arith, all, p, q, few)
 
-abbrev pub stands_in : List (List ℕ) → Loop → Bool
+abbrev pub stands_in : List (List ℕ) → FormLoop → Bool
 stands_in names l = is_among names l.variable
 
-pub among_some : (a : Surroundings) (D : List Loop) (names : List (List ℕ)) → AreSomeLoops a D
+pub among_some : (a : FormSurroundings) (D : List FormLoop) (names : List (List ℕ)) → AreSomeLoops a D
     → AreSomeLoops a (loops_among D names)
 among_some a D names s = record {
   among = λ l c. s.among l (of_filter (stands_in names) D l c).0;
   once = filter_distinct (stands_in names) D s.once;
 }
 
-pub no_more_among : (t : Loop → Bool) (D : List Loop) → length (filter t D) ≤ length D
+pub no_more_among : (t : FormLoop → Bool) (D : List FormLoop) → length (filter t D) ≤ length D
 no_more_among t [] = omega arith
 no_more_among t (l ∷ D) = by (t l) (no_more_among t D)
   where
@@ -117,36 +117,36 @@ no_more_among t (l ∷ D) = by (t l) (no_more_among t D)
     by true more = omega (arith, more)
     by false more = omega (arith, more)
 
-pub filter_again : (t : Loop → Bool) (D : List Loop) → filter t (filter t D) ≡ filter t D
+pub filter_again : (t : FormLoop → Bool) (D : List FormLoop) → filter t (filter t D) ≡ filter t D
 filter_again t [] = refl
 filter_again t (l ∷ D) = by (t l) refl (filter_again t D)
   where
     by : (b : Bool) → t l ≡ b → filter t (filter t D) ≡ filter t D
         → filter t (cond b (l ∷ filter t D) (filter t D)) ≡ cond b (l ∷ filter t D) (filter t D)
     by true e more = ap (λ b. cond b (l ∷ filter t (filter t D)) (filter t (filter t D))) e
-        ∙ ap (λ (xs : List Loop). l ∷ xs) more
+        ∙ ap (λ (xs : List FormLoop). l ∷ xs) more
     by false e more = more
 
 -- ---- loops in the order of subscripts
 
-pub none_in_nothing : (D : List Loop) → has_none (loops_among D []) ≡ true
+pub none_in_nothing : (D : List FormLoop) → has_no_loop (loops_among D []) ≡ true
 none_in_nothing [] = refl
 none_in_nothing (l ∷ D) = none_in_nothing D
 
-none_of_both : (xs ys : List Loop) → has_none (xs ++ ys) ≡ (has_none xs && has_none ys)
+none_of_both : (xs ys : List FormLoop) → has_no_loop (xs ++ ys) ≡ (has_no_loop xs && has_no_loop ys)
 none_of_both [] ys = refl
 none_of_both (x ∷ xs) ys = refl
 
-order_none : (D : List Loop) (ps : Subscripts)
-    → has_none (loops_in_order D ps) ≡ has_none (loops_among D (names_in_subscripts ps))
+order_none : (D : List FormLoop) (ps : Subscripts)
+    → has_no_loop (loops_in_order D ps) ≡ has_no_loop (loops_among D (names_in_subscripts ps))
 order_none D no_subscripts = sym (none_in_nothing D)
 order_none D (subscript p ps) =
     none_of_both (loops_among D (names_in_subscript p)) (loops_in_order D ps)
-    ∙ (ap (λ b. has_none (loops_among D (names_in_subscript p)) && b) (order_none D ps)
+    ∙ (ap (λ b. has_no_loop (loops_among D (names_in_subscript p)) && b) (order_none D ps)
     ∙ sym (none_append D (names_in_subscript p) (names_in_subscripts ps)))
 
-not_named : (D : List Loop) (x : List ℕ) → ((l : Loop) → Contains D l → x ≡ l.variable → ⊥)
-    → has_none (loops_among D (x ∷ [])) ≡ true
+not_named : (D : List FormLoop) (x : List ℕ) → ((l : FormLoop) → Contains D l → x ≡ l.variable → ⊥)
+    → has_no_loop (loops_among D (x ∷ [])) ≡ true
 not_named D x apart = by (loops_among D (x ∷ [])) refl
   where
     named : (v : List ℕ) → is_among (x ∷ []) v ≡ true → x ≡ v
@@ -156,22 +156,22 @@ not_named D x apart = by (loops_among D (x ∷ [])) refl
         of true f e = (bytes_eq-Decides x v).0 f
         of false f e = absurd (both_ways false refl e)
 
-    by : (ls : List Loop) → loops_among D (x ∷ []) ≡ ls → has_none ls ≡ true
+    by : (ls : List FormLoop) → loops_among D (x ∷ []) ≡ ls → has_no_loop ls ≡ true
     by [] e = refl
     by (l ∷ ls) e =
         let m = of_filter (stands_in (x ∷ [])) D l (subst (λ xs. Contains xs l) (sym e) (here l ls)) in
         absurd (apart l m.0 (named l.variable m.1))
 
 -- where a loop stands in a name with subscripts that is no loop variable, one stands in the subscripts
-pub some_in_order : (D : List Loop) (x : List ℕ) (ps : Subscripts) → ((l : Loop) → Contains D l → x ≡ l.variable → ⊥)
-    → has_none (loops_among D (x ∷ names_in_subscripts ps)) ≡ false
+pub some_in_order : (D : List FormLoop) (x : List ℕ) (ps : Subscripts) → ((l : FormLoop) → Contains D l → x ≡ l.variable → ⊥)
+    → has_no_loop (loops_among D (x ∷ names_in_subscripts ps)) ≡ false
     → 1 ≤ length (loops_in_order D ps)
 some_in_order D x ps apart h = by (loops_in_order D ps) (order_none D ps ∙ subscripts)
   where
-    subscripts : has_none (loops_among D (names_in_subscripts ps)) ≡ false
-    subscripts = ap (λ b. b && has_none (loops_among D (names_in_subscripts ps))) (sym (not_named D x apart))
+    subscripts : has_no_loop (loops_among D (names_in_subscripts ps)) ≡ false
+    subscripts = ap (λ b. b && has_no_loop (loops_among D (names_in_subscripts ps))) (sym (not_named D x apart))
         ∙ (sym (none_append D (x ∷ []) (names_in_subscripts ps)) ∙ h)
 
-    by : (ls : List Loop) → has_none ls ≡ false → 1 ≤ length ls
+    by : (ls : List FormLoop) → has_no_loop ls ≡ false → 1 ≤ length ls
     by [] e = absurd (both_ways true e refl)
     by (l ∷ ls) e = omega arith

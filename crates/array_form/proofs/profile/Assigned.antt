@@ -22,13 +22,13 @@ use Rattle.meaning.specs.Value.{named}
 use Rattle.linear_forms.specs.Linear.{Form, form_of}
 use Rattle.linear_forms.proofs.Sizes.{both}
 use Rattle.meaning_laws.proofs.arrays.Members.{here, there}
-use Rattle.array_form.specs.forms.Following.{are_moved, are_regular_subscripts, has_none, is_moved, is_regular}
-use Rattle.array_form.specs.forms.Forms.{form, subscript_forms, trip_text}
-use Rattle.array_form.specs.forms.Loops.{Loop, Surroundings, variables_of, names_of, is_positive_constant, loops_among}
+use Rattle.array_form.specs.forms.Following.{are_moved, are_regular_subscripts, has_no_loop, is_moved, is_regular}
+use Rattle.array_form.specs.forms.Forms.{form, subscript_forms, form_trip_text}
+use Rattle.array_form.specs.forms.Loops.{FormLoop, FormSurroundings, form_variables_of, form_names_of, is_positive_constant, loops_among}
 use Rattle.array_form.specs.forms.Loops.{loops_in_order}
 use Rattle.array_form.specs.forms.Guarded.{is_regular_guard}
 use Rattle.array_form.specs.forms.Statements.{and_all, array_assignment, guarded_by, guarded_form, left_form}
-use Rattle.array_form.specs.forms.Statements.{loops_assigned, loops_from, right_form, stand_in_guard, tests_of}
+use Rattle.array_form.specs.forms.Statements.{loops_assigned, loops_from, right_form, stand_in_guard, form_tests_of}
 use Rattle.array_form.specs.forms.Statements.{unguarded_hold}
 use Rattle.array_form.proofs.forms.Orders.{Ordered, of_drop, ordered_loops}
 use Rattle.array_form.specs.profile.Laws.{ArrayFormIsOfProfile, IsGuard}
@@ -40,32 +40,32 @@ use Rattle.array_form.proofs.profile.Texts.{joined, no_rank_of_two, number_is, t
 
 -- ---- the left side: each subscript in which a loop stands is linear
 
-moved_more : (a : Surroundings) (hs : List Loop) (o : Option Form) (b : Bool) → is_moved a hs o false ≡ true
+moved_more : (a : FormSurroundings) (hs : List FormLoop) (o : Option Form) (b : Bool) → is_moved a hs o false ≡ true
     → is_moved a hs o b ≡ true
 moved_more a [] o b h = refl
 moved_more a (l ∷ hs) (Some f) b h = h
 moved_more a (l ∷ hs) None b h = absurd (both_ways false refl h)
 
-moved_are_regular : (a : Surroundings) (D : List Loop) (ps : Subscripts) → are_moved a D ps ≡ true
+moved_are_regular : (a : FormSurroundings) (D : List FormLoop) (ps : Subscripts) → are_moved a D ps ≡ true
     → are_regular_subscripts a D ps ≡ true
 moved_are_regular a D no_subscripts h = refl
 moved_are_regular a D (subscript (Only e) ps) h =
     let hs = loops_among D (names_in e) in
-    let o = form_of (variables_of a.loops) a.symbols e in
+    let o = form_of (form_variables_of a.loops) a.symbols e in
     let parts = both (is_moved a hs o false) (are_moved a D ps) h in
     and_from (is_moved a hs o (is_regular a hs e)) (are_regular_subscripts a D ps)
     (moved_more a hs o (is_regular a hs e) parts.0) (moved_are_regular a D ps parts.1)
 moved_are_regular a D (subscript (Section b c e) ps) h = absurd (both_ways false refl h)
 
-abbrev test : List (List ℕ) → Loop → Expression
-test names l = Binary Ge (trip_text names l.trip) (Number (pos 1))
+abbrev test : List (List ℕ) → FormLoop → Expression
+test names l = Binary Ge (form_trip_text names l.trip) (Number (pos 1))
 
-tests_long : (names : List (List ℕ)) (ls : List Loop) → length (tests_of names ls) ≤ length ls
+tests_long : (names : List (List ℕ)) (ls : List FormLoop) → length (form_tests_of names ls) ≤ length ls
 tests_long names [] = omega arith
 tests_long names (l ∷ ls) = by (is_positive_constant l.trip) (tests_long names ls)
   where
-    by : (b : Bool) → length (tests_of names ls) ≤ length ls
-        → length (cond b (tests_of names ls) (test names l ∷ tests_of names ls)) ≤ suc (length ls)
+    by : (b : Bool) → length (form_tests_of names ls) ≤ length ls
+        → length (cond b (form_tests_of names ls) (test names l ∷ form_tests_of names ls)) ≤ suc (length ls)
     by true more = omega (arith, more)
     by false more = omega (arith, more)
 
@@ -131,12 +131,12 @@ module _ (ds : List Declaration) where
       let whole : IsWholeScalar ds (and_all e es) Logical = record { suits = (all.kind, all.rank); depth = all.depth } in
       ((h, refl, (whole, inner (before_labels [] w) apart, tt), tt), tt)
 
-  module _ (a : Surroundings) (w : IsWritable ds a) where
-    test_is : (l : Loop) → Contains a.loops l → IsTest 24 (test (names_of a) l)
+  module _ (a : FormSurroundings) (w : IsWritable ds a) where
+    test_is : (l : FormLoop) → Contains a.loops l → IsTest 24 (test (form_names_of a) l)
     test_is l c =
         let trip = trip_of_loop ds a w l c in
         let one = number_is ds 1 (omega arith) in
-        let t = trip_text (names_of a) l.trip in
+        let t = form_trip_text (form_names_of a) l.trip in
         record {
           kind = (refl, refl, trip.kind, one.kind, inl trip.rank);
           rank = no_rank_of_two (rank_of ds t) 0 trip.rank refl;
@@ -144,27 +144,27 @@ module _ (ds : List Declaration) where
               (omega arith) (omega arith);
         }
 
-    tests_are : (ls : List Loop) → ((l : Loop) → Contains ls l → Contains a.loops l)
-        → AreTests (tests_of (names_of a) ls)
+    tests_are : (ls : List FormLoop) → ((l : FormLoop) → Contains ls l → Contains a.loops l)
+        → AreTests (form_tests_of (form_names_of a) ls)
     tests_are [] h = tt
     tests_are (l ∷ ls) h = by (is_positive_constant l.trip) (tests_are ls (λ m c. h m (there l ls m c)))
       where
-        by : (b : Bool) → AreTests (tests_of (names_of a) ls)
-            → AreTests (cond b (tests_of (names_of a) ls) (test (names_of a) l ∷ tests_of (names_of a) ls))
+        by : (b : Bool) → AreTests (form_tests_of (form_names_of a) ls)
+            → AreTests (cond b (form_tests_of (form_names_of a) ls) (test (form_names_of a) l ∷ form_tests_of (form_names_of a) ls))
         by true more = more
         by false more = (test_is l (h l (here l ls)), more)
 
     -- ---- the assignment
 
-    right_conforms : (D : List Loop) (e F left : Expression) (k : Kind) → IsFormed ds D e F k
+    right_conforms : (D : List FormLoop) (e F left : Expression) (k : Kind) → IsFormed ds D e F k
         → rank_of ds left ≡ length D → (rank_of ds F ≡ 0) ⊎ (rank_of ds F ≡ rank_of ds left)
-    right_conforms D e F left k i r = by (has_none (loops_among D (names_in e))) i.rank
+    right_conforms D e F left k i r = by (has_no_loop (loops_among D (names_in e))) i.rank
       where
         by : (b : Bool) → rank_of ds F ≡ cond b 0 (length D) → (rank_of ds F ≡ 0) ⊎ (rank_of ds F ≡ rank_of ds left)
         by true h = inl h
         by false h = inr (h ∙ sym r)
 
-    assignment_is : (D : List Loop) (left : Reference) (right : Expression) (kind : Kind) (qs : Subscripts)
+    assignment_is : (D : List FormLoop) (left : Reference) (right : Expression) (kind : Kind) (qs : Subscripts)
         (F : Expression) (v : Round) → AreSomeLoops a D
         → IsScalar ds (named left) kind → (Contains v.variables left.name → ⊥) → depth_of (named left) + 100 ≤ 1000
         → depth_of right + 100 ≤ 1000 → loops_in_order D left.subscripts ≡ D
@@ -172,7 +172,7 @@ module _ (ds : List Declaration) where
         → IsAssignment ds (record { name = left.name; subscripts = qs }) F v
     assignment_is D left right kind qs F v s t apart room more_room same f i =
         let many : rank_of ds (Named left.name qs) ≡ length D = left_rank left.name left.subscripts qs
-        (length D) f.number t.1 (f.rank ∙ ap (λ (xs : List Loop). length xs) same) in
+        (length D) f.number t.1 (f.rank ∙ ap (λ (xs : List FormLoop). length xs) same) in
         let seven = few_loops a D s w.few in (
           both_whole (declared ds left.name) kind (λ d. SuitsDimensions left.subscripts (rank_of_extent d.extent))
               (Named left.name qs) F t.0.0
@@ -189,7 +189,7 @@ module _ (ds : List Declaration) where
         right_deep : (m n l : ℕ) → m ≤ n + (50 + l) → l ≤ 7 → n + 100 ≤ 1000 → m ≤ 1000
         right_deep m n l h k j = omega (arith, h, k, j)
 
-some_loop : (D : List Loop) (names : List (List ℕ)) → has_none (loops_among D names) ≡ false → 1 ≤ length D
+some_loop : (D : List FormLoop) (names : List (List ℕ)) → has_no_loop (loops_among D names) ≡ false → 1 ≤ length D
 some_loop [] names h = absurd (both_ways true h refl)
 some_loop (l ∷ D) names h = omega arith
 
@@ -197,13 +197,13 @@ negated : (b : Bool) → not b ≡ true → b ≡ false
 negated true h = absurd (both_ways false refl h)
 negated false h = refl
 
-module _ (ds : List Declaration) (a : Surroundings) (k line : ℕ) (mark : Option Mark) (left : Reference)
+module _ (ds : List Declaration) (a : FormSurroundings) (k line : ℕ) (mark : Option Mark) (left : Reference)
     (right : Expression) (kind : Kind) (w : IsWritable ds a) (is_line : IsLine line) (is_mark : IfSome mark IsMark)
     (is_left : IsScalar ds (named left) kind) (is_right : IsScalar ds right kind)
     (room : depth_of (named left) + 100 ≤ 1000) (more : depth_of right + 100 ≤ 1000)
     (hold : unguarded_hold a k left ≡ None) (m : are_moved a (loops_assigned a k left) left.subscripts ≡ true)
     (r : is_regular a (loops_assigned a k left) right ≡ true) where
-  abbrev D : List Loop
+  abbrev D : List FormLoop
   D = loops_assigned a k left
 
   ordered : Ordered (loops_from a k) left.subscripts (loops_assigned a k left)
@@ -231,14 +231,14 @@ module _ (ds : List Declaration) (a : Surroundings) (k line : ℕ) (mark : Optio
   whole_left : rank_of ds (named (left_form a k left)) ≡ length (loops_assigned a k left)
   whole_left =
       left_rank ds left.name left.subscripts (subscript_forms a D left.subscripts) (length D) left_formed.number
-      is_left.1 (left_formed.rank ∙ ap (λ (xs : List Loop). length xs) ordered.same)
+      is_left.1 (left_formed.rank ∙ ap (λ (xs : List FormLoop). length xs) ordered.same)
 
   masked : (e : Expression) → IsScalar ds e Logical → depth_of e + 100 ≤ 1000
       → is_regular a (loops_assigned a k left) e ≡ true → stand_in_guard (loops_assigned a k left) (Some e) ≡ true
       → IsMasked ds (form a (loops_assigned a k left) e) (left_form a k left)
   masked e scalar deep regular stands =
       let i = formed ds a w e D Logical some scalar.0 scalar.1 regular in
-      let loops = negated (has_none (loops_among D (names_in e))) stands in
+      let loops = negated (has_no_loop (loops_among D (names_in e))) stands in
       let seven = few_loops a D some w.few in
       let many = some_loop D (names_in e) loops in
       let number = whole_left in (
@@ -274,8 +274,8 @@ pub array_forms_of_profile : ArrayFormIsOfProfile
 array_forms_of_profile ds a k line mark guard left right kind v w is_line is_mark is_guard is_left is_right apart room
     more some hold m regular r =
     let mine = loops_from a k in
-    let tests = tests_of (names_of a) mine in
-    let few = shorter (length tests) (length mine) (length a.loops) (k - 1) (tests_long (names_of a) mine)
+    let tests = form_tests_of (form_names_of a) mine in
+    let few = shorter (length tests) (length mine) (length a.loops) (k - 1) (tests_long (form_names_of a) mine)
     (length-drop (k - 1) a.loops) w.few in
     guarded_is ds line tests (statement (guarded_form a k line mark guard left right) no_statements) left.name v
     is_line few (tests_are ds a w mine (λ l c. of_drop (k - 1) a.loops l c)) apart

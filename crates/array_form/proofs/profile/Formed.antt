@@ -25,10 +25,10 @@ use Rattle.rewrite.proofs.Profiles.{enclosed-more}
 use Rattle.linear_forms.specs.Linear.{Form, form_of, is_limited}
 use Rattle.linear_forms.proofs.Sizes.{both}
 use Rattle.meaning_laws.proofs.arrays.Members.{here}
-use Rattle.array_form.specs.forms.Following.{are_regular, are_regular_subscripts, has_none, is_moved, is_regular}
-use Rattle.array_form.specs.forms.Forms.{constructed, form, forms, name_form, placed, section, subscript_form}
+use Rattle.array_form.specs.forms.Following.{are_regular, are_regular_subscripts, has_no_loop, is_moved, is_regular}
+use Rattle.array_form.specs.forms.Forms.{constructed, form, forms, name_form, placed_expression, section, subscript_form}
 use Rattle.array_form.specs.forms.Forms.{subscript_forms, subscript_with}
-use Rattle.array_form.specs.forms.Loops.{Loop, Surroundings, variables_of, names_of, loops_among, loops_in_order, one_each}
+use Rattle.array_form.specs.forms.Loops.{FormLoop, FormSurroundings, form_variables_of, form_names_of, loops_among, loops_in_order, one_each}
 use Rattle.array_form.proofs.forms.Coefficients.{found_form}
 use Rattle.array_form.proofs.forms.Forming.{none_append}
 use Rattle.array_form.proofs.forms.Orders.{of_filter}
@@ -105,19 +105,19 @@ module _ (ds : List Declaration) where
 
   -- ---- what forms have
 
-  pub record IsFormed (D : List Loop) (e F : Expression) (k : Kind) : Type 0 where
+  pub record IsFormed (D : List FormLoop) (e F : Expression) (k : Kind) : Type 0 where
     pub kind : HasKind ds F k
-    pub rank : rank_of ds F ≡ cond (has_none (loops_among D (names_in e))) 0 (length D)
+    pub rank : rank_of ds F ≡ cond (has_no_loop (loops_among D (names_in e))) 0 (length D)
     pub binds : level F ≡ level e
     pub depth : depth_of F ≤ depth_of e + (50 + length D)
 
-  record AreFormed (D : List Loop) (es Fs : Expressions) : Type 0 where
+  record AreFormed (D : List FormLoop) (es Fs : Expressions) : Type 0 where
     kinds : AreArguments ds Fs
     number : number_of_arguments Fs ≡ number_of_arguments es
-    rank : rank_of_each ds Fs ≡ cond (has_none (loops_among D (names_in_each es))) 0 (length D)
+    rank : rank_of_each ds Fs ≡ cond (has_no_loop (loops_among D (names_in_each es))) 0 (length D)
     depth : depth_of_each Fs ≤ depth_of_each es + (50 + length D)
 
-  pub record AreFormedSubscripts (D : List Loop) (ps qs : Subscripts) : Type 0 where
+  pub record AreFormedSubscripts (D : List FormLoop) (ps qs : Subscripts) : Type 0 where
     pub kinds : AreSubscripts ds qs
     pub number : number_of_subscripts qs ≡ number_of_subscripts ps
     pub rank : rank_of_subscripts ds qs ≡ length (loops_in_order D ps)
@@ -128,10 +128,10 @@ module _ (ds : List Declaration) where
     rank : rank_of_subscript ds q ≡ n
     depth : depth_of_subscript q ≤ depth_of_subscript p + 51
 
-  module _ (a : Surroundings) (w : IsWritable ds a) where
+  module _ (a : FormSurroundings) (w : IsWritable ds a) where
     -- a name with loops of D, from what was placed
-    from_placed : (D : List Loop) (x : List ℕ) (ps : Subscripts) (k : Kind) (F : Expression) (most : ℕ)
-        → most ≤ depth_of_subscripts ps + (50 + length D) → has_none (loops_among D (names_in (Named x ps))) ≡ false
+    from_placed : (D : List FormLoop) (x : List ℕ) (ps : Subscripts) (k : Kind) (F : Expression) (most : ℕ)
+        → most ≤ depth_of_subscripts ps + (50 + length D) → has_no_loop (loops_among D (names_in (Named x ps))) ≡ false
         → IsPlaced ds a w k (length D) most F → IsFormed D (Named x ps) F k
     from_placed D x ps k F most room some p = record {
       kind = p.kind;
@@ -144,34 +144,34 @@ module _ (ds : List Declaration) where
         more m n h i = omega (arith, h, i)
 
     -- the loops `hs` of D
-    some_of : (D hs : List Loop) (names : List (List ℕ)) → loops_among D names ≡ hs → (l : Loop) → Contains hs l
+    some_of : (D hs : List FormLoop) (names : List (List ℕ)) → loops_among D names ≡ hs → (l : FormLoop) → Contains hs l
         → Contains D l
     some_of D hs names e l c = (of_filter (stands_in names) D l (subst (λ xs. Contains xs l) (sym e) c)).0
 
-    named_is : (D : List Loop) (x : List ℕ) (ps : Subscripts) (k : Kind) → AreSomeLoops a D → HasKind ds (Named x ps) k
+    named_is : (D : List FormLoop) (x : List ℕ) (ps : Subscripts) (k : Kind) → AreSomeLoops a D → HasKind ds (Named x ps) k
         → rank_of ds (Named x ps) ≡ 0
-        → (hs : List Loop) → loops_among D (names_in (Named x ps)) ≡ hs → (qs : Subscripts)
-        → (has_none hs ≡ false → one_each D ps ≡ true → AreFormedSubscripts D ps qs)
+        → (hs : List FormLoop) → loops_among D (names_in (Named x ps)) ≡ hs → (qs : Subscripts)
+        → (has_no_loop hs ≡ false → one_each D ps ≡ true → AreFormedSubscripts D ps qs)
         → IsFormed D (Named x ps) (name_form a D hs x ps qs) k
     named_is D x ps k s t r [] e qs each = record {
       kind = t;
-      rank = r ∙ sym (ap (λ (xs : List Loop). cond (has_none xs) 0 (length D)) e);
+      rank = r ∙ sym (ap (λ (xs : List FormLoop). cond (has_no_loop xs) 0 (length D)) e);
       binds = refl;
       depth = omega arith;
     }
     named_is D x no_subscripts k s t r (l ∷ ls) e qs each =
         let hs = l ∷ ls in
         let alone = Named x no_subscripts in
-        let values = constructed (names_of a) hs alone in
+        let values = constructed (form_names_of a) hs alone in
         let seven = few_loops a D s w.few in
         let shorter : length hs ≤ length D =
-        subst (λ (xs : List Loop). length xs ≤ length D) e (no_more_among (stands_in (names_in alone)) D) in
-        let inside : (m : Loop) → Contains hs m → Contains a.loops m =
+        subst (λ (xs : List FormLoop). length xs ≤ length D) e (no_more_among (stands_in (names_in alone)) D) in
+        let inside : (m : FormLoop) → Contains hs m → Contains a.loops m =
         λ m c. s.among m (some_of D hs (names_in alone) e m c) in
         let c = constructed_is ds a w hs alone k (omega arith) inside (omega (arith, shorter, seven)) t r in
         let plain : IsPlaced ds a w k (length hs) (50 + 1) values =
         record { kind = c.kind; rank = c.rank; depth = more (depth_of values) c.depth; binds = c.binds } in
-        from_placed D x no_subscripts k (placed a D hs values alone) (50 + length D) (omega arith) (ap has_none e)
+        from_placed D x no_subscripts k (placed_expression a D hs values alone) (50 + length D) (omega arith) (ap has_no_loop e)
         (placed_is ds a w D hs values alone k 50 (omega (arith, shorter)) s.among seven (omega arith) (omega arith) plain t r
         (omega arith))
       where
@@ -180,15 +180,15 @@ module _ (ds : List Declaration) where
     named_is D x (subscript p ps) k s t r (l ∷ ls) e qs each = by (one_each D (subscript p ps)) refl
       where
         shorter : 1 ≤ length D
-        shorter = let h = subst (λ (xs : List Loop). length xs ≤ length D) e
+        shorter = let h = subst (λ (xs : List FormLoop). length xs ≤ length D) e
             (no_more_among (stands_in (names_in (Named x (subscript p ps)))) D) in above (length ls) h
           where
             above : (n : ℕ) → suc n ≤ length D → 1 ≤ length D
             above n h = omega (arith, h)
 
-        apart : (m : Loop) → Contains D m → x ≡ m.variable → ⊥
+        apart : (m : FormLoop) → Contains D m → x ≡ m.variable → ⊥
         apart m c f =
-            let v = Contains-append_left (variables_of a.loops) a.symbols m.variable (variable_in a.loops m (s.among m c)) in
+            let v = Contains-append_left (form_variables_of a.loops) a.symbols m.variable (variable_in a.loops m (s.among m c)) in
             no_scalar (declared ds x) k (number_of_subscripts ps) t.0
             (subst (IsIntegerScalar ds) (sym f) (w.integers m.variable v))
 
@@ -199,7 +199,7 @@ module _ (ds : List Declaration) where
         deep = depth_of_subscripts (subscript p ps)
 
         one_of : one_each D (subscript p ps) ≡ true
-            → IsFormed D whole (placed a D (loops_in_order D (subscript p ps)) (Named x qs) whole) k
+            → IsFormed D whole (placed_expression a D (loops_in_order D (subscript p ps)) (Named x qs) whole) k
         one_of o =
             let f = each refl o in
             let hs = loops_in_order D (subscript p ps) in
@@ -209,9 +209,9 @@ module _ (ds : List Declaration) where
               depth = more (depth_of_subscripts qs) deep f.depth;
               binds = refl;
             } in
-            let some = some_in_order D x (subscript p ps) apart (ap has_none e) in
-            from_placed D x (subscript p ps) k (placed a D hs (Named x qs) whole) ((deep + 50) + length D) (regrouped deep)
-            (ap has_none e)
+            let some = some_in_order D x (subscript p ps) apart (ap has_no_loop e) in
+            from_placed D x (subscript p ps) k (placed_expression a D hs (Named x qs) whole) ((deep + 50) + length D) (regrouped deep)
+            (ap has_no_loop e)
             (placed_is ds a w D hs (Named x qs) whole k (deep + 50) shorter s.among (few_loops a D s w.few) some (room deep)
             plain t r (within deep))
           where
@@ -228,26 +228,26 @@ module _ (ds : List Declaration) where
             regrouped d = omega arith
 
         list : Expression
-        list = constructed (names_of a) D whole
+        list = constructed (form_names_of a) D whole
 
         as_list : IsFormed D whole list k
         as_list =
-            from_placed D x (subscript p ps) k list (deep + 30) (within deep) (ap has_none e)
+            from_placed D x (subscript p ps) k list (deep + 30) (within deep) (ap has_no_loop e)
             (constructed_is ds a w D whole k shorter s.among (few_loops a D s w.few) t r)
           where
             within : (d : ℕ) → d + 30 ≤ d + (50 + length D)
             within d = omega arith
 
         by : (b : Bool) → one_each D (subscript p ps) ≡ b
-            → IsFormed D whole (cond b (placed a D (loops_in_order D (subscript p ps)) (Named x qs) whole) list) k
+            → IsFormed D whole (cond b (placed_expression a D (loops_in_order D (subscript p ps)) (Named x qs) whole) list) k
         by true o = one_of o
         by false o = as_list
 
     -- ---- subscripts
 
-    subscript_is : (D : List Loop) (e : Expression) → AreSomeLoops a D → HasKind ds e Integer → rank_of ds e ≡ 0
-        → (hs : List Loop) → loops_among D (names_in e) ≡ hs → length hs ≤ 1
-        → (F : Expression) (o : Option Form) → form_of (variables_of a.loops) a.symbols e ≡ o → (b : Bool)
+    subscript_is : (D : List FormLoop) (e : Expression) → AreSomeLoops a D → HasKind ds e Integer → rank_of ds e ≡ 0
+        → (hs : List FormLoop) → loops_among D (names_in e) ≡ hs → length hs ≤ 1
+        → (F : Expression) (o : Option Form) → form_of (form_variables_of a.loops) a.symbols e ≡ o → (b : Bool)
         → is_moved a hs o b ≡ true → (b ≡ true → IsFormed hs e F Integer)
         → IsFormedSubscript (length hs) (Only e) (subscript_with a hs e F o)
     subscript_is D e s t r [] q one F o f b m inner =
@@ -256,9 +256,9 @@ module _ (ds : List Declaration) where
         below : (n : ℕ) → n ≡ 0 → n ≤ 1
         below n h = omega (arith, h)
     subscript_is D e s t r (l ∷ ls) q one F (Some g) f b m inner =
-        let found = found_form (variables_of a.loops) a.symbols e g f in
+        let found = found_form (form_variables_of a.loops) a.symbols e g f in
         let limits = subst (λ (n : ℕ). is_limited n g ≡ true)
-        (length-map a.loops (λ (l : Loop). l.variable)) found.limits in
+        (length-map a.loops (λ (l : FormLoop). l.variable)) found.limits in
         let i = section_is ds a w l g (s.among l (some_of D (l ∷ ls) (names_in e) q l (here l ls))) limits in
         record { kind = i.0; rank = single (length ls) one; depth = more (depth_of_subscript (section a l g)) i.1 }
       where
@@ -270,9 +270,9 @@ module _ (ds : List Declaration) where
     subscript_is D e s t r (l ∷ ls) q one F None f b m inner =
         let i = inner m in
         let again : loops_among (l ∷ ls) (names_in e) ≡ l ∷ ls = subst
-        (λ (xs : List Loop). loops_among xs (names_in e) ≡ xs) q (filter_again (stands_in (names_in e)) D) in
+        (λ (xs : List FormLoop). loops_among xs (names_in e) ≡ xs) q (filter_again (stands_in (names_in e)) D) in
         let rank : rank_of ds F ≡ suc (length ls) = i.rank
-        ∙ ap (λ (xs : List Loop). cond (has_none xs) 0 (length (l ∷ ls))) again in
+        ∙ ap (λ (xs : List FormLoop). cond (has_no_loop xs) 0 (length (l ∷ ls))) again in
         record { kind = (i.kind, below (rank_of ds F) rank); rank = rank; depth = more (depth_of F) i.depth }
       where
         below : (n : ℕ) → n ≡ suc (length ls) → n ≤ 1
@@ -281,10 +281,10 @@ module _ (ds : List Declaration) where
         more : (n : ℕ) → n ≤ depth_of e + (50 + suc (length ls)) → n ≤ depth_of e + 51
         more n h = omega (arith, h, one)
 
-    no_subscripts_are : (D : List Loop) → AreFormedSubscripts D no_subscripts no_subscripts
+    no_subscripts_are : (D : List FormLoop) → AreFormedSubscripts D no_subscripts no_subscripts
     no_subscripts_are D = record { kinds = tt; number = refl; rank = refl; depth = omega arith }
 
-    one_more : (D : List Loop) (e : Expression) (q : Subscript) (ps qs : Subscripts)
+    one_more : (D : List FormLoop) (e : Expression) (q : Subscript) (ps qs : Subscripts)
         → IsFormedSubscript (length (loops_among D (names_in e))) (Only e) q → AreFormedSubscripts D ps qs
         → AreFormedSubscripts D (subscript (Only e) ps) (subscript q qs)
     one_more D e q ps qs i s = record {
@@ -297,13 +297,13 @@ module _ (ds : List Declaration) where
 
     -- ---- operators and functions
 
-    operand_deeper : (D : List Loop) (least : ℕ) (e F : Expression) (k : Kind) → IsFormed D e F k
+    operand_deeper : (D : List FormLoop) (least : ℕ) (e F : Expression) (k : Kind) → IsFormed D e F k
         → enclosed least (level F) (depth_of F) ≤ enclosed least (level e) (depth_of e) + (50 + length D)
     operand_deeper D least e F k i =
         subst (λ (n : ℕ). enclosed least n (depth_of F) ≤ enclosed least (level e) (depth_of e) + (50 + length D))
         (sym i.binds) (enclosed-more least (level e) (depth_of F) (depth_of e) (50 + length D) i.depth)
 
-    unary_is : (D : List Loop) (o : Op) (e F : Expression) (k : Kind) → HasKind ds (Unary o e) k
+    unary_is : (D : List FormLoop) (o : Op) (e F : Expression) (k : Kind) → HasKind ds (Unary o e) k
         → IsFormed D e F (operand_kind o) → IsFormed D (Unary o e) (Unary o F) k
     unary_is D o e F k t i = record {
       kind = (t.0, t.1, i.kind);
@@ -315,19 +315,19 @@ module _ (ds : List Declaration) where
     }
 
     -- ranks of two forms, and that of both
-    two_ranks : (D : List Loop) (ys zs : List (List ℕ)) (m n : ℕ) → m ≡ cond (has_none (loops_among D ys)) 0 (length D)
-        → n ≡ cond (has_none (loops_among D zs)) 0 (length D)
-        → Conform m n × (max m n ≡ cond (has_none (loops_among D (ys ++ zs))) 0 (length D))
+    two_ranks : (D : List FormLoop) (ys zs : List (List ℕ)) (m n : ℕ) → m ≡ cond (has_no_loop (loops_among D ys)) 0 (length D)
+        → n ≡ cond (has_no_loop (loops_among D zs)) 0 (length D)
+        → Conform m n × (max m n ≡ cond (has_no_loop (loops_among D (ys ++ zs))) 0 (length D))
     two_ranks D ys zs m n h k =
-        let b = has_none (loops_among D ys) in
-        let c = has_none (loops_among D zs) in
+        let b = has_no_loop (loops_among D ys) in
+        let c = has_no_loop (loops_among D zs) in
         let suits = conforming b c (length D) in (
           subst (λ (n : ℕ). Conform m n) (sym k) (subst (λ (m : ℕ). Conform m (cond c 0 (length D))) (sym h) suits),
           ap₂ max h k
               ∙ (greater_rank b c (length D) ∙ ap (λ (b : Bool). cond b 0 (length D)) (sym (none_append D ys zs))),
         )
 
-    binary_is : (D : List Loop) (o : Op) (e f F G : Expression) (k : Kind) → HasKind ds (Binary o e f) k
+    binary_is : (D : List FormLoop) (o : Op) (e f F G : Expression) (k : Kind) → HasKind ds (Binary o e f) k
         → IsFormed D e F (operand_kind o) → IsFormed D f G (operand_kind o)
         → IsFormed D (Binary o e f) (Binary o F G) k
     binary_is D o e f F G k t i j =
@@ -345,7 +345,7 @@ module _ (ds : List Declaration) where
               (operand_deeper D (right_least o) f G (operand_kind o) j));
         }
 
-    no_arguments_are : (D : List Loop) → AreFormed D no_expressions no_expressions
+    no_arguments_are : (D : List FormLoop) → AreFormed D no_expressions no_expressions
     no_arguments_are D = record {
       kinds = tt;
       number = refl;
@@ -353,7 +353,7 @@ module _ (ds : List Declaration) where
       depth = omega arith;
     }
 
-    one_argument_more : (D : List Loop) (e F : Expression) (es Fs : Expressions) → IsFormed D e F Integer
+    one_argument_more : (D : List FormLoop) (e F : Expression) (es Fs : Expressions) → IsFormed D e F Integer
         → AreFormed D es Fs → AreFormed D (expression e es) (expression F Fs)
     one_argument_more D e F es Fs i s =
         let r = two_ranks D (names_in e) (names_in_each es) (rank_of ds F) (rank_of_each ds Fs) i.rank s.rank in
@@ -364,7 +364,7 @@ module _ (ds : List Declaration) where
           depth = two_deeper (depth_of F) (depth_of_each Fs) (depth_of e) (depth_of_each es) (50 + length D) i.depth s.depth;
         }
 
-    applied_is : (D : List Loop) (f : Fun) (es Fs : Expressions) (k : Kind) → HasKind ds (Apply f es) k
+    applied_is : (D : List FormLoop) (f : Fun) (es Fs : Expressions) (k : Kind) → HasKind ds (Apply f es) k
         → AreFormed D es Fs → IsFormed D (Apply f es) (Apply f Fs) k
     applied_is D f es Fs k t s = record {
       kind = (subst (λ (n : ℕ). IsTrue (suits_number f n)) (sym s.number) t.0, t.1, t.2, s.kinds);
@@ -374,8 +374,8 @@ module _ (ds : List Declaration) where
     }
 
     -- what stays as it is
-    stays : (D : List Loop) (e : Expression) (k : Kind) → HasKind ds e k → rank_of ds e ≡ 0
-        → has_none (loops_among D (names_in e)) ≡ true → IsFormed D e e k
+    stays : (D : List FormLoop) (e : Expression) (k : Kind) → HasKind ds e k → rank_of ds e ≡ 0
+        → has_no_loop (loops_among D (names_in e)) ≡ true → IsFormed D e e k
     stays D e k t r h =
         record { kind = t; rank = r ∙ sym (ap (λ b. cond b 0 (length D)) h); binds = refl; depth = omega arith }
 
@@ -387,12 +387,12 @@ module _ (ds : List Declaration) where
     -- ---- each expression
 
     mutual
-      pub formed : (e : Expression) (D : List Loop) (k : Kind) → AreSomeLoops a D → HasKind ds e k → rank_of ds e ≡ 0
+      pub formed : (e : Expression) (D : List FormLoop) (k : Kind) → AreSomeLoops a D → HasKind ds e k → rank_of ds e ≡ 0
           → is_regular a D e ≡ true → IsFormed D e (form a D e) k
       formed (Number n) D k s t r h = stays D (Number n) k t r (none_in_nothing D)
       formed (Logic b) D k s t r h = stays D (Logic b) k t r (none_in_nothing D)
       formed (Named x ps) D k s t r h =
-          let none = has_none (loops_among D (names_in (Named x ps))) in
+          let none = has_no_loop (loops_among D (names_in (Named x ps))) in
           named_is D x ps k s t r (loops_among D (names_in (Named x ps))) refl (subscript_forms a D ps)
           (λ some o. formed_subscripts ps D s t.1 (subscripts_no_rank x ps r)
           (regular_subscripts none (one_each D ps) (are_regular_subscripts a D ps) some o h) o)
@@ -409,7 +409,7 @@ module _ (ds : List Declaration) where
       formed (Transpose e) D k s t r h = absurd (both_ways false refl h)
       formed (Reshape e es) D k s t r h = absurd (both_ways false refl h)
 
-      formed_arguments : (es : Expressions) (D : List Loop) → AreSomeLoops a D → AreArguments ds es
+      formed_arguments : (es : Expressions) (D : List FormLoop) → AreSomeLoops a D → AreArguments ds es
           → rank_of_each ds es ≡ 0 → are_regular a D es ≡ true → AreFormed D es (forms a D es)
       formed_arguments no_expressions D s t r h = no_arguments_are D
       formed_arguments (expression e es) D s t r h =
@@ -418,19 +418,19 @@ module _ (ds : List Declaration) where
           (formed e D Integer s t.0 (no_rank_left (rank_of ds e) (rank_of_each ds es) r) parts.0)
           (formed_arguments es D s t.2 (no_rank_right (rank_of ds e) (rank_of_each ds es) r) parts.1)
 
-      pub formed_subscripts : (ps : Subscripts) (D : List Loop) → AreSomeLoops a D → AreSubscripts ds ps
+      pub formed_subscripts : (ps : Subscripts) (D : List FormLoop) → AreSomeLoops a D → AreSubscripts ds ps
           → rank_of_subscripts ds ps ≡ 0 → are_regular_subscripts a D ps ≡ true → one_each D ps ≡ true
           → AreFormedSubscripts D ps (subscript_forms a D ps)
       formed_subscripts no_subscripts D s t r h o = no_subscripts_are D
       formed_subscripts (subscript (Only e) ps) D s t r h o =
           let hs = loops_among D (names_in e) in
-          let parts = both (is_moved a hs (form_of (variables_of a.loops) a.symbols e) (is_regular a hs e))
+          let parts = both (is_moved a hs (form_of (form_variables_of a.loops) a.symbols e) (is_regular a hs e))
           (are_regular_subscripts a D ps) h in
           let ones = both (nat_le (length hs) 1) (one_each D ps) o in
           let none = none_left (rank_of ds e) (rank_of_subscripts ds ps) r in
           one_more D e (subscript_form a hs e (form a hs e)) ps (subscript_forms a D ps)
           (subscript_is D e s t.0.0 none hs refl (leb-true (length hs) 1 ones.0) (form a hs e)
-          (form_of (variables_of a.loops) a.symbols e) refl (is_regular a hs e) parts.0
+          (form_of (form_variables_of a.loops) a.symbols e) refl (is_regular a hs e) parts.0
           (λ g. formed e (loops_among D (names_in e)) Integer (among_some a D (names_in e) s) t.0.0 none g))
           (formed_subscripts ps D s t.1 (none_right (rank_of ds e) (rank_of_subscripts ds ps) r) parts.1 ones.1)
       formed_subscripts (subscript (Section b c d) ps) D s t r h o = absurd (both_ways false refl h)

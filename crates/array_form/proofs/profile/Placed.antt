@@ -15,8 +15,8 @@ use Rattle.meaning.specs.Typed.{number_of_arguments}
 use Rattle.meaning.specs.Typed90.{HasKind, AreScalars, AreLoops, rank_of}
 use Rattle.linear_forms.proofs.Sizes.{both}
 use Rattle.meaning_laws.proofs.arrays.Members.{here, there}
-use Rattle.array_form.specs.forms.Forms.{trip_text, loops_over, constructed, spread_over, placed}
-use Rattle.array_form.specs.forms.Loops.{Loop, Surroundings, variables_of, names_of, is_among, loops_among, same_loops}
+use Rattle.array_form.specs.forms.Forms.{form_trip_text, loops_over, constructed, spread_over, placed_expression}
+use Rattle.array_form.specs.forms.Loops.{FormLoop, FormSurroundings, form_variables_of, form_names_of, is_among, loops_among, same_loops}
 use Rattle.array_form.specs.forms.Loops.{is_part_of, is_exchange_of}
 use Rattle.array_form.proofs.forms.Values.{variable_in}
 use Rattle.array_form.specs.profile.Settings.{IsWritable}
@@ -25,28 +25,28 @@ use Rattle.array_form.proofs.profile.Texts.{number_is, trip_of_loop}
 
 -- ---- lists of loops that are as long
 
-variables_long : (ls : List Loop) → length (variables_of ls) ≡ length ls
-variables_long ls = length-map ls (λ (l : Loop). l.variable)
+variables_long : (ls : List FormLoop) → length (form_variables_of ls) ≡ length ls
+variables_long ls = length-map ls (λ (l : FormLoop). l.variable)
 
-same_long : (ls ms : List Loop) → same_loops ls ms ≡ true → length ls ≡ length ms
+same_long : (ls ms : List FormLoop) → same_loops ls ms ≡ true → length ls ≡ length ms
 same_long ls ms e =
-    sym (variables_long ls) ∙ (as_long bytes_eq (variables_of ls) (variables_of ms) e ∙ variables_long ms)
+    sym (variables_long ls) ∙ (as_long bytes_eq (form_variables_of ls) (form_variables_of ms) e ∙ variables_long ms)
 
-record AreTwo (D hs : List Loop) : Type 0 where
+record AreTwo (D hs : List FormLoop) : Type 0 where
   first : length D ≡ 2
   second : length hs ≡ 2
 
-exchange_two : (D hs : List Loop) → is_exchange_of D hs ≡ true → AreTwo D hs
+exchange_two : (D hs : List FormLoop) → is_exchange_of D hs ≡ true → AreTwo D hs
 exchange_two [] hs e = absurd (both_ways false refl e)
 exchange_two (l ∷ []) hs e = absurd (both_ways false refl e)
 exchange_two (l ∷ m ∷ []) hs e = record { first = refl; second = sym (same_long (m ∷ l ∷ []) hs e) }
 exchange_two (l ∷ m ∷ n ∷ D) hs e = absurd (both_ways false refl e)
 
-module _ (ds : List Declaration) (a : Surroundings) (w : IsWritable ds a) where
-  abbrev pub Within : List Loop → Type 0
-  Within D = (l : Loop) → Contains D l → Contains a.loops l
+module _ (ds : List Declaration) (a : FormSurroundings) (w : IsWritable ds a) where
+  abbrev pub Within : List FormLoop → Type 0
+  Within D = (l : FormLoop) → Contains D l → Contains a.loops l
 
-  within_rest : (l : Loop) (D : List Loop) → Within (l ∷ D) → Within D
+  within_rest : (l : FormLoop) (D : List FormLoop) → Within (l ∷ D) → Within D
   within_rest l D h m c = h m (there l D m c)
 
   -- a form of this rank, at most so deep, without an operator outside
@@ -58,25 +58,25 @@ module _ (ds : List Declaration) (a : Surroundings) (w : IsWritable ds a) where
 
   -- ---- constructors
 
-  loops_are : (D : List Loop) → Within D → AreLoops ds (loops_over (names_of a) D)
+  loops_are : (D : List FormLoop) → Within D → AreLoops ds (loops_over (form_names_of a) D)
   loops_are [] h = tt
   loops_are (l ∷ D) h =
       let c = h l (here l D) in
       let one = number_is ds 1 (omega arith) in
       let last = trip_of_loop ds a w l c in
-      let v = Contains-append_left (variables_of a.loops) a.symbols l.variable (variable_in a.loops l c) in
+      let v = Contains-append_left (form_variables_of a.loops) a.symbols l.variable (variable_in a.loops l c) in
       (w.integers l.variable v, (one.kind, one.rank), (last.kind, last.rank), loops_are D (within_rest l D h))
 
-  abbrev trip : Loop → Expression
-  trip l = trip_text (names_of a) l.trip
+  abbrev trip : FormLoop → Expression
+  trip l = form_trip_text (form_names_of a) l.trip
 
-  depth_of_loops : (D : List Loop) (n m : ℕ) → Within D → n ≤ m → 21 ≤ m
-      → depth_under (loops_over (names_of a) D) n ≤ m + length D
+  depth_of_loops : (D : List FormLoop) (n m : ℕ) → Within D → n ≤ m → 21 ≤ m
+      → depth_under (loops_over (form_names_of a) D) n ≤ m + length D
   depth_of_loops [] n m h k i = omega (arith, k)
   depth_of_loops (l ∷ D) n m h k i =
       let inner = 1 + max n (max 0 (depth_of (trip l))) in
       let first = trip_of_loop ds a w l (h l (here l D)) in
-      more (depth_under (loops_over (names_of a) D) inner)
+      more (depth_under (loops_over (form_names_of a) D) inner)
       (depth_of_loops D inner (m + 1) (within_rest l D h) (deep (depth_of (trip l)) first.depth) (omega (arith, i)))
     where
       more : (d : ℕ) → d ≤ (m + 1) + length D → d ≤ m + suc (length D)
@@ -85,19 +85,19 @@ module _ (ds : List Declaration) (a : Surroundings) (w : IsWritable ds a) where
       deep : (t : ℕ) → t ≤ 21 → 1 + max n (max 0 t) ≤ m + 1
       deep t j = omega (arith, i, j, k)
 
-  abbrev trips : List Loop → List Expression
-  trips D = map (λ (l : Loop). trip_text (names_of a) l.trip) D
+  abbrev trips : List FormLoop → List Expression
+  trips D = map (λ (l : FormLoop). form_trip_text (form_names_of a) l.trip) D
 
-  number_of_trips : (D : List Loop) → number_of_arguments (expressions (trips D)) ≡ length D
+  number_of_trips : (D : List FormLoop) → number_of_arguments (expressions (trips D)) ≡ length D
   number_of_trips [] = refl
   number_of_trips (l ∷ D) = let more = number_of_trips D in omega (arith, more)
 
-  trips_are : (D : List Loop) → Within D → AreScalars ds (expressions (trips D)) Integer
+  trips_are : (D : List FormLoop) → Within D → AreScalars ds (expressions (trips D)) Integer
   trips_are [] h = tt
   trips_are (l ∷ D) h =
       let i = trip_of_loop ds a w l (h l (here l D)) in ((i.kind, i.rank), trips_are D (within_rest l D h))
 
-  depth_of_trips : (D : List Loop) → Within D → depth_of_each (expressions (trips D)) ≤ 21
+  depth_of_trips : (D : List FormLoop) → Within D → depth_of_each (expressions (trips D)) ≤ 21
   depth_of_trips [] h = omega arith
   depth_of_trips (l ∷ D) h =
       let first = trip_of_loop ds a w l (h l (here l D)) in
@@ -106,15 +106,15 @@ module _ (ds : List Declaration) (a : Surroundings) (w : IsWritable ds a) where
       both_deep : (p q : ℕ) → p ≤ 21 → q ≤ 21 → max p q ≤ 21
       both_deep p q j k = omega (arith, j, k)
 
-  abbrev list_over : List Loop → Expression → Expression
-  list_over D e = Constructor (expression e no_expressions) (loops_over (names_of a) D)
+  abbrev list_over : List FormLoop → Expression → Expression
+  list_over D e = Constructor (expression e no_expressions) (loops_over (form_names_of a) D)
 
-  list_kind : (l : Loop) (D : List Loop) (e : Expression) (k : Kind) → Within (l ∷ D) → HasKind ds e k
+  list_kind : (l : FormLoop) (D : List FormLoop) (e : Expression) (k : Kind) → Within (l ∷ D) → HasKind ds e k
       → rank_of ds e ≡ 0 → HasKind ds (list_over (l ∷ D) e) k
   list_kind l D e k h t r = (((t, r), tt), refl, loops_are (l ∷ D) h)
 
-  list_depth : (D : List Loop) (e : Expression) → Within D → length D ≤ 7 → depth_of (list_over D e) ≤ depth_of e + 29
-  list_depth D e h few = after (depth_under (loops_over (names_of a) D) (max (depth_of e) 0))
+  list_depth : (D : List FormLoop) (e : Expression) → Within D → length D ≤ 7 → depth_of (list_over D e) ≤ depth_of e + 29
+  list_depth D e h few = after (depth_under (loops_over (form_names_of a) D) (max (depth_of e) 0))
       (depth_of_loops D (max (depth_of e) 0) (depth_of e + 21) h (below (depth_of e)) (omega arith))
     where
       below : (d : ℕ) → max d 0 ≤ d + 21
@@ -123,9 +123,9 @@ module _ (ds : List Declaration) (a : Surroundings) (w : IsWritable ds a) where
       after : (n : ℕ) → n ≤ (depth_of e + 21) + length D → 1 + n ≤ depth_of e + 29
       after n j = omega (arith, j, few)
 
-  pub constructed_is : (D : List Loop) (e : Expression) (k : Kind) → 1 ≤ length D → Within D → length D ≤ 7
+  pub constructed_is : (D : List FormLoop) (e : Expression) (k : Kind) → 1 ≤ length D → Within D → length D ≤ 7
       → HasKind ds e k → rank_of ds e ≡ 0
-      → IsPlaced k (length D) (depth_of e + 30) (constructed (names_of a) D e)
+      → IsPlaced k (length D) (depth_of e + 30) (constructed (form_names_of a) D e)
   constructed_is [] e k some h few t r = absurd (omega (arith, some))
   constructed_is (l ∷ []) e k some h few t r = record {
     kind = list_kind l [] e k h t r;
@@ -190,18 +190,18 @@ module _ (ds : List Declaration) (a : Surroundings) (w : IsWritable ds a) where
       more : (x : ℕ) → x + c ≤ (most + 1) + n → x + c ≤ most + suc n
       more x e = omega (arith, e)
 
-  abbrev count : List Loop → List Loop → ℕ
-  count hs D = length (loops_among D (variables_of hs))
+  abbrev count : List FormLoop → List FormLoop → ℕ
+  count hs D = length (loops_among D (form_variables_of hs))
 
-  module _ (hs : List Loop) (free : a.may_spread ≡ true) where
+  module _ (hs : List FormLoop) (free : a.may_spread ≡ true) where
     -- from the place `at` on
-    abbrev Spreads : List Loop → ℕ → Expression → Kind → ℕ → Type 0
+    abbrev Spreads : List FormLoop → ℕ → Expression → Kind → ℕ → Type 0
     Spreads D at e k most =
         at + count hs D ≤ rank_of ds e + 1 → rank_of ds e + length D ≤ 7 + count hs D → HasKind ds e k
         → depth_of e ≤ most
-        → IsSpread k (rank_of ds e) most (count hs D) (length D) (spread_over (names_of a) hs at D e)
+        → IsSpread k (rank_of ds e) most (count hs D) (length D) (spread_over (form_names_of a) hs at D e)
 
-    spread_is : (D : List Loop) (at : ℕ) (e : Expression) (k : Kind) (most : ℕ) → Within D → 1 ≤ at → 21 ≤ most
+    spread_is : (D : List FormLoop) (at : ℕ) (e : Expression) (k : Kind) (most : ℕ) → Within D → 1 ≤ at → 21 ≤ most
         → level e ≡ 10 → Spreads D at e k most
     spread_is [] at e k most h one room own place few t deep =
         record { kind = t; rank = refl; depth = same (depth_of e) deep; binds = own }
@@ -209,21 +209,21 @@ module _ (ds : List Declaration) (a : Surroundings) (w : IsWritable ds a) where
         same : (x : ℕ) → x ≤ most → x + 0 ≤ most + 0
         same x j = omega (arith, j)
     spread_is (l ∷ D) at e k most h one room own place few t deep =
-        by (is_among (variables_of hs) l.variable) place few
+        by (is_among (form_variables_of hs) l.variable) place few
         (spread_is D (at + 1) e k most (within_rest l D h) (omega (arith, one)) room own)
         (spread_is D (at + 1) (Spread e at (trip l)) k (most + 1) (within_rest l D h) (omega (arith, one))
         (omega (arith, room)) refl)
       where
-        them : List Loop
-        them = loops_among D (variables_of hs)
+        them : List FormLoop
+        them = loops_among D (form_variables_of hs)
 
         by : (b : Bool) → at + length (cond b (l ∷ them) them) ≤ rank_of ds e + 1
             → rank_of ds e + suc (length D) ≤ 7 + length (cond b (l ∷ them) them)
             → Spreads D (at + 1) e k most → Spreads D (at + 1) (Spread e at (trip l)) k (most + 1)
             → IsSpread k (rank_of ds e) most (length (cond b (l ∷ them) them)) (suc (length D))
-            (spread_over (names_of a) hs (at + 1) D (cond b e (Spread e at (trip l))))
+            (spread_over (form_names_of a) hs (at + 1) D (cond b e (Spread e at (trip l))))
         by true p f stays goes =
-            one_of_them k (rank_of ds e) most (count hs D) (length D) (spread_over (names_of a) hs (at + 1) D e)
+            one_of_them k (rank_of ds e) most (count hs D) (length D) (spread_over (form_names_of a) hs (at + 1) D e)
             (stays (first (count hs D) p) (second (count hs D) f) t deep)
           where
             first : (c : ℕ) → at + suc c ≤ rank_of ds e + 1 → (at + 1) + c ≤ rank_of ds e + 1
@@ -233,9 +233,9 @@ module _ (ds : List Declaration) (a : Surroundings) (w : IsWritable ds a) where
             second c j = omega (arith, j)
         by false p f stays goes =
             let i = trip_of_loop ds a w l (h l (here l D)) in
-            let less = no_more_among (stands_in (variables_of hs)) D in
+            let less = no_more_among (stands_in (form_variables_of hs)) D in
             one_further k (rank_of ds e) most (count hs D) (length D)
-            (spread_over (names_of a) hs (at + 1) D (Spread e at (trip l)))
+            (spread_over (form_names_of a) hs (at + 1) D (Spread e at (trip l)))
             (goes (first (count hs D) p) (second (count hs D) f)
             (w.spread free, one, high (count hs D) p, low (count hs D) less f, t, i.kind, i.rank)
             (deeper (depth_of (trip l)) i.depth))
@@ -257,10 +257,10 @@ module _ (ds : List Declaration) (a : Surroundings) (w : IsWritable ds a) where
 
   -- ---- what is placed
 
-  pub placed_is : (D hs : List Loop) (plain e : Expression) (k : Kind) (most : ℕ) → 1 ≤ length D → Within D
+  pub placed_is : (D hs : List FormLoop) (plain e : Expression) (k : Kind) (most : ℕ) → 1 ≤ length D → Within D
       → length D ≤ 7 → 1 ≤ length hs → 20 ≤ most
       → IsPlaced k (length hs) (most + 1) plain → HasKind ds e k → rank_of ds e ≡ 0 → depth_of e + 30 ≤ most + 1
-      → IsPlaced k (length D) (most + length D) (placed a D hs plain e)
+      → IsPlaced k (length D) (most + length D) (placed_expression a D hs plain e)
   placed_is D hs plain e k most some h few one room p t r deep = first (same_loops D hs) refl
     where
       as_it_is : same_loops D hs ≡ true → IsPlaced k (length D) (most + length D) plain
@@ -275,11 +275,11 @@ module _ (ds : List Declaration) (a : Surroundings) (w : IsWritable ds a) where
           more x j = omega (arith, j, some)
 
       spread : a.may_spread ≡ true → is_part_of D hs ≡ true
-          → IsPlaced k (length D) (most + length D) (spread_over (names_of a) hs 1 D plain)
+          → IsPlaced k (length D) (most + length D) (spread_over (form_names_of a) hs 1 D plain)
       spread free q =
           let c = count hs D in
-          let spreaded = spread_over (names_of a) hs 1 D plain in
-          let many : count hs D ≡ length hs = same_long (loops_among D (variables_of hs)) hs q in
+          let spreaded = spread_over (form_names_of a) hs 1 D plain in
+          let many : count hs D ≡ length hs = same_long (loops_among D (form_variables_of hs)) hs q in
           let s = spread_is hs free D 1 plain k (most + 1) h (omega arith) (omega (arith, room)) p.binds
           (place (count hs D) (rank_of ds plain) many p.rank) (fit (count hs D) (rank_of ds plain) many p.rank)
           p.kind p.depth in
@@ -315,13 +315,13 @@ module _ (ds : List Declaration) (a : Surroundings) (w : IsWritable ds a) where
           more : (x : ℕ) → x ≤ most + 1 → length D ≡ 2 → 1 + x ≤ most + length D
           more x i j = omega (arith, i, j)
 
-      built : IsPlaced k (length D) (most + length D) (constructed (names_of a) D e)
+      built : IsPlaced k (length D) (most + length D) (constructed (form_names_of a) D e)
       built =
           let c = constructed_is D e k some h few t r in
           record {
             kind = c.kind;
             rank = c.rank;
-            depth = more (depth_of (constructed (names_of a) D e)) c.depth;
+            depth = more (depth_of (constructed (form_names_of a) D e)) c.depth;
             binds = c.binds;
           }
         where
@@ -329,7 +329,7 @@ module _ (ds : List Declaration) (a : Surroundings) (w : IsWritable ds a) where
           more x j = omega (arith, j, deep, some)
 
       list : Expression
-      list = constructed (names_of a) D e
+      list = constructed (form_names_of a) D e
 
       third : (b : Bool) → is_exchange_of D hs ≡ b
           → IsPlaced k (length D) (most + length D) (cond b (Transpose plain) list)
@@ -340,12 +340,12 @@ module _ (ds : List Declaration) (a : Surroundings) (w : IsWritable ds a) where
       otherwise = cond (is_exchange_of D hs) (Transpose plain) list
 
       second : (b : Bool) → (a.may_spread && is_part_of D hs) ≡ b
-          → IsPlaced k (length D) (most + length D) (cond b (spread_over (names_of a) hs 1 D plain) otherwise)
+          → IsPlaced k (length D) (most + length D) (cond b (spread_over (form_names_of a) hs 1 D plain) otherwise)
       second true q = let parts = both a.may_spread (is_part_of D hs) q in spread parts.0 parts.1
       second false q = third (is_exchange_of D hs) refl
 
       further : Expression
-      further = cond (a.may_spread && is_part_of D hs) (spread_over (names_of a) hs 1 D plain) otherwise
+      further = cond (a.may_spread && is_part_of D hs) (spread_over (form_names_of a) hs 1 D plain) otherwise
 
       first : (b : Bool) → same_loops D hs ≡ b → IsPlaced k (length D) (most + length D) (cond b plain further)
       first true q = as_it_is q

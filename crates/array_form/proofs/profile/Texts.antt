@@ -20,8 +20,8 @@ use Rattle.linear_forms.specs.Expressed.{variable, variables}
 use Rattle.linear_forms.specs.Linear.{Form, sum, multiple, constant_form, is_small, all_small, not_zero, is_limited}
 use Rattle.linear_forms.proofs.Sizes.{both, dropped}
 use Rattle.meaning_laws.proofs.arrays.Members.{here, there}
-use Rattle.array_form.specs.forms.Forms.{number_text, trip_text, trip_form, terms_with, sum_text, section}
-use Rattle.array_form.specs.forms.Loops.{Trip, Loop, Surroundings, names_of, coefficient, form_without}
+use Rattle.array_form.specs.forms.Forms.{number_text, form_trip_text, form_of_trip, terms_with, sum_text, section}
+use Rattle.array_form.specs.forms.Loops.{FormTrip, FormLoop, FormSurroundings, form_names_of, coefficient, form_without}
 use Rattle.array_form.proofs.forms.Coefficients.{coefficient_small, without_limited}
 use Rattle.array_form.specs.profile.Settings.{IsWritable}
 
@@ -242,8 +242,8 @@ module _ (ds : List Declaration) where
 
   -- ---- trips
 
-  trip_is : (loops : ℕ) (names : List (List ℕ)) (t : Trip) → loops ≤ 7 → AreNumbers 0 (variables names)
-      → is_limited loops t.form ≡ true → t.divisor < 2 ^ 127 → IsNumber ds 21 (trip_text names t)
+  trip_is : (loops : ℕ) (names : List (List ℕ)) (t : FormTrip) → loops ≤ 7 → AreNumbers 0 (variables names)
+      → is_limited loops t.form ≡ true → t.divisor < 2 ^ 127 → IsNumber ds 21 (form_trip_text names t)
   trip_is loops names t h i l d = by (t.divisor == 1)
     where
       whole : Expression
@@ -289,32 +289,32 @@ module _ (ds : List Declaration) where
       less : (x : ℕ) → x ≤ 3 → x ≤ 22
       less x k = omega (arith, k)
 
-  module _ (a : Surroundings) (w : IsWritable ds a) where
-    pub trip_of_loop : (l : Loop) → Contains a.loops l → IsNumber ds 21 (trip_text (names_of a) l.trip)
-    trip_of_loop l c = trip_is (length a.loops) (names_of a) l.trip w.few (variables_are (names_of a) w.integers)
+  module _ (a : FormSurroundings) (w : IsWritable ds a) where
+    pub trip_of_loop : (l : FormLoop) → Contains a.loops l → IsNumber ds 21 (form_trip_text (form_names_of a) l.trip)
+    trip_of_loop l c = trip_is (length a.loops) (form_names_of a) l.trip w.few (variables_are (form_names_of a) w.integers)
         (w.limits l c) (w.divisors l c).1
 
-    pub section_is : (l : Loop) (f : Form) → Contains a.loops l → is_limited (length a.loops) f ≡ true
+    pub section_is : (l : FormLoop) (f : Form) → Contains a.loops l → is_limited (length a.loops) f ≡ true
         → IsSubscript ds (section a l f) × (depth_of_subscript (section a l f) ≤ 42)
     section_is l f c h =
-        let names = names_of a in
+        let names = form_names_of a in
         let trip = trip_of_loop l c in
         let z = coefficient names l.variable f.coefficients in
         let r = form_without names l.variable f in
         let ts = terms_with names l.trip in
-        let terms : AreNumbers 21 ts = and_number 21 (variables names) (trip_text names l.trip)
+        let terms : AreNumbers 21 ts = and_number 21 (variables names) (form_trip_text names l.trip)
         (numbers_deeper 0 21 (variables names) (omega arith) (variables_are names w.integers)) trip in
         let parts = both (all_small f.coefficients)
         (is_small f.constant && nat_le (not_zero (drop (length a.loops) f.coefficients)) 8) h in
         let step = number_text_is z (coefficient_small names l.variable f.coefficients parts.0) in
         let rest = without_limited (length a.loops) names l.variable f h in
-        let product = Binary Mul (number_text z) (trip_text names l.trip) in
+        let product = Binary Mul (number_text z) (form_trip_text names l.trip) in
         let lower = sum_text_is (length a.loops) ts (number_text z) (constant_form z) r w.few terms
         (deeper 2 24 (number_text z) (omega arith) step) rest in
-        let upper = sum_text_is (length a.loops) ts product (multiple z (trip_form names l.trip)) r w.few terms
-        (product_is (number_text z) (trip_text names l.trip) step trip) rest in
+        let upper = sum_text_is (length a.loops) ts product (multiple z (form_of_trip names l.trip)) r w.few terms
+        (product_is (number_text z) (form_trip_text names l.trip) step trip) rest in
         let first = sum_text (length a.loops) ts (number_text z) (constant_form z) r in
-        let last = sum_text (length a.loops) ts product (multiple z (trip_form names l.trip)) r in (
+        let last = sum_text (length a.loops) ts product (multiple z (form_of_trip names l.trip)) r in (
           ((lower.kind, lower.rank), (upper.kind, upper.rank), (step.kind, step.rank)),
           deep (depth_of first) (depth_of last) (depth_of (number_text z)) lower.depth upper.depth step.depth,
         )

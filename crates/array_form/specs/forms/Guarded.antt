@@ -1,5 +1,5 @@
 -- Array forms of assignments under a guard (ISO/IEC 1539:1991, section 7.5.3).
-use Rattle.std.specs.Prelude.{◌≡◌, ⊤, Result, Ok, Option, Some, None, ℕ, ℤ, Bool, true, false, List, [], map, ◌++◌}
+use Rattle.std.specs.Prelude.{◌≡◌, ◌≤◌, ⊤, Result, Ok, Option, Some, None, ℕ, ℤ, Bool, true, false, List, [], map, ◌++◌}
 use Rattle.std.specs.Prelude.{Contains}
 use Rattle.tree.specs.Plain.{Expression, Named, Unary, Binary, Apply, Reduce}
 use Rattle.tree.specs.Plain.{Expressions, no_expressions, expression, Reference}
@@ -9,19 +9,19 @@ use Rattle.tree.specs.declared.ops.Value.{Value}
 use Rattle.tree.specs.declared.stmts.Mark.{Mark}
 use Rattle.meaning.specs.ArrayStatements.{storable}
 use Rattle.meaning.specs.Dialect.{Dialect, fortran90}
+use Rattle.tree.specs.declared.width.Width.{Width}
 use Rattle.meaning.specs.CellsRead.{cells_read, cells_read_by}
 use Rattle.meaning.specs.Run.{State, Going, does_all}
 use Rattle.meaning.specs.Store.{Store, Cell}
 use Rattle.meaning.specs.Value.{value_of, cell_named, named}
 use Rattle.meaning_laws.specs.arrays.Instances.{Instance, in_turn, NoneReadsWritten}
 use Rattle.nest_order.specs.runs.Guarded.{guard_holds, read_by_guard}
-use Rattle.array_form.specs.forms.Following.{has_none, are_moved, is_regular}
+use Rattle.array_form.specs.forms.Following.{has_no_loop, are_moved, is_regular}
 use Rattle.array_form.specs.forms.Forms.{form}
 use Rattle.array_form.specs.forms.Instances.{at_iterations, counts_of, in_sequence}
 use Rattle.array_form.specs.forms.Laws.{AreKnown, AreTurning, HasTrip, HasValues, HasInstanceValues}
-use Rattle.array_form.specs.forms.Loops.{Loop, Surroundings}
-use Rattle.array_form.specs.forms.Statements.{loops_from, unguarded_hold, stand_in_guard, loops_assigned}
-use Rattle.array_form.specs.forms.Statements.{array_form_of}
+use Rattle.array_form.specs.forms.Loops.{FormLoop, FormSurroundings}
+use Rattle.array_form.specs.forms.Statements.{loops_from, unguarded_hold, stand_in_guard, loops_assigned, array_form_of}
 
 -- ---- instances under a guard
 
@@ -35,7 +35,7 @@ stored_if d true left right s = do
 
 -- one instance: where the guard, if there is one, is true, the right side's value is stored in the cell of the left
 -- side
-abbrev pub guarded_at : Dialect → List Loop → Option Expression → Reference → Expression → List ℕ → Instance
+abbrev pub guarded_at : Dialect → List FormLoop → Option Expression → Reference → Expression → List ℕ → Instance
 guarded_at d ls guard left right is = record {
   effect = λ s. (do
     b ← guard_holds d guard (at_iterations ls is s)
@@ -44,17 +44,17 @@ guarded_at d ls guard left right is = record {
       ++ (cells_read d right (at_iterations ls is s) ++ cells_read_by d left.subscripts (at_iterations ls is s));
 }
 
-abbrev pub guarded_of : Dialect → List Loop → List ℕ → Option Expression → Reference → Expression → List Instance
+abbrev pub guarded_of : Dialect → List FormLoop → List ℕ → Option Expression → Reference → Expression → List Instance
 guarded_of d ls ns guard left right = map (guarded_at d ls guard left right) (in_sequence ns)
 
-abbrev pub guarded_from : Dialect → Surroundings → ℕ → List ℤ → Option Expression → Reference → Expression
+abbrev pub guarded_from : Dialect → FormSurroundings → ℕ → List ℤ → Option Expression → Reference → Expression
     → List Instance
 guarded_from d a k xs guard left right =
     guarded_of d (loops_from a k) (counts_of xs (loops_from a k)) guard left right
 
 -- ---- what is looked at although the guard is false: subscripts, so the references name cells in each instance
 
-module _ (lang : Dialect) (xs : List ℤ) (D : List Loop) where
+module _ (lang : Dialect) (xs : List ℤ) (D : List FormLoop) where
   abbrev mutual
     pub ReferencesHaveValues : Expression → Store → Type 0
     ReferencesHaveValues (Named x ps) s = HasValues lang xs D (Named x ps) s
@@ -69,12 +69,12 @@ module _ (lang : Dialect) (xs : List ℤ) (D : List Loop) where
     EachHasValues (expression e es) s = ReferencesHaveValues e s × EachHasValues es s
 
 -- the left side and the references of the right side have values in each instance, whatever the guard is there
-pub record NameCells (lang : Dialect) (xs : List ℤ) (D : List Loop) (left : Reference) (right : Expression)
+pub record NameCells (lang : Dialect) (xs : List ℤ) (D : List FormLoop) (left : Reference) (right : Expression)
     (s : Store) : Type 0 where
   pub left_cells : HasValues lang xs D (named left) s
   pub right_cells : ReferencesHaveValues lang xs D right s
 
-abbrev pub is_regular_guard : Surroundings → List Loop → Option Expression → Bool
+abbrev pub is_regular_guard : FormSurroundings → List FormLoop → Option Expression → Bool
 is_regular_guard a D None = true
 is_regular_guard a D (Some e) = is_regular a D e
 
@@ -84,8 +84,8 @@ is_regular_guard a D (Some e) = is_regular a D e
 -- fault, that the expression has in the instance of the position
 abbrev pub FormHasValuesOrFaults : Type 0
 FormHasValuesOrFaults =
-    (lang : Dialect) (a : Surroundings) (D : List Loop) (e : Expression) (s : Store) (xs : List ℤ)
-    → lang.bits ≡ 31 → AreKnown a s xs → AreTurning a D xs → is_regular a D e ≡ true
+    (lang : Dialect) (a : FormSurroundings) (D : List FormLoop) (e : Expression) (s : Store) (xs : List ℤ)
+    → 31 ≤ lang.bits → AreKnown a s xs → AreTurning a D xs → is_regular a D e ≡ true
     → ReferencesHaveValues lang xs D e s → HasInstanceValues lang xs D e (form a D e) s
 
 -- Let no loop from the level k on forbid the array form of an assignment, maybe under a guard, let guard and right side
@@ -93,17 +93,18 @@ FormHasValuesOrFaults =
 -- the guard is there. Where its instances, one after another in the order of a sequential run, take the store of a run
 -- that goes on to the store t without fault, none of them reading a cell that an earlier one has written, the array
 -- form ends without fault in t, and the run goes on
-abbrev pub GuardedFormStoresInstances : Type 0
-GuardedFormStoresInstances =
-    (a : Surroundings) (k line : ℕ) (mark : Option Mark) (guard : Option Expression) (left : Reference)
+abbrev pub GuardedFormStoresInstances : (width : Width) → Type 0
+GuardedFormStoresInstances width =
+    (a : FormSurroundings) (k line : ℕ) (mark : Option Mark) (guard : Option Expression) (left : Reference)
     (right : Expression) (s : State) (t : Store) (xs : List ℤ)
-    → s.way ≡ Going → AreKnown a s.store xs → ((l : Loop) → Contains (loops_from a k) l → HasTrip a xs l)
-    → has_none (loops_from a k) ≡ false → unguarded_hold a k left ≡ None
+    → s.way ≡ Going → AreKnown a s.store xs → ((l : FormLoop) → Contains (loops_from a k) l → HasTrip a xs l)
+    → has_no_loop (loops_from a k) ≡ false → unguarded_hold a k left ≡ None
     → are_moved a (loops_assigned a k left) left.subscripts ≡ true
     → is_regular_guard a (loops_assigned a k left) guard ≡ true → is_regular a (loops_assigned a k left) right ≡ true
     → (stand_in_guard (loops_from a k) guard ≡ true
-    → NameCells fortran90 xs (loops_assigned a k left) left right s.store)
-    → NoneReadsWritten [] (guarded_from fortran90 a k xs guard left right) s.store
-    → in_turn (guarded_from fortran90 a k xs guard left right) s.store ≡ Ok t
+    → NameCells (fortran90 width) xs (loops_assigned a k left) left right s.store)
+    → NoneReadsWritten [] (guarded_from (fortran90 width) a k xs guard left right) s.store
+    → in_turn (guarded_from (fortran90 width) a k xs guard left right) s.store ≡ Ok t
     → (n : ℕ)
-    × (does_all fortran90 None (array_form_of a k line mark guard left right) s ≡ record s { store = t; steps = n })
+    × (does_all (fortran90 width) None
+    (array_form_of a k line mark guard left right) s ≡ record s { store = t; steps = n })

@@ -16,21 +16,21 @@ use Rattle.nest.specs.Bodies.{Standing, nest_statements}
 use Rattle.nest.specs.Plain.{Loop, Made, Nest}
 use Rattle.array_form.specs.forms.Instances.{in_sequence}
 use Rattle.array_form.specs.forms.Loops as forms
-use Rattle.array_form.specs.holds.Surroundings.{counted, trip_of}
+use Rattle.array_form.specs.holds.Surroundings.{counted_loop, form_trip_of}
 
 -- ---- boxes: a form is within bounds at all iterations of its loops, whose trips are constants
 
 -- a constant trip is never a divided one
-abbrev pub is_constant : forms.Trip → Bool
-is_constant t = (t.divisor == 1) && (not_zero t.form.coefficients == 0)
+abbrev pub is_constant_trip : forms.FormTrip → Bool
+is_constant_trip t = (t.divisor == 1) && (not_zero t.form.coefficients == 0)
 
 -- a loop that stands in a form: its coefficient there isn't 0
 pub record Term : Type 0 where
   pub coefficient : ℤ
-  pub trip : forms.Trip
+  pub trip : forms.FormTrip
 
 -- of forms whose first places are those of loops with these trips
-abbrev pub terms_in : List forms.Trip → List ℤ → List Term
+abbrev pub terms_in : List forms.FormTrip → List ℤ → List Term
 terms_in [] cs = []
 terms_in (t ∷ ts) [] = []
 terms_in (t ∷ ts) (c ∷ cs) =
@@ -51,10 +51,10 @@ abbrev pub stays_between : ℤ × ℤ → ℤ → List Term → Bool
 stays_between b z ts =
     list_all (λ is. is_between b (weighted (coefficients_of ts) (map pos is) +ℤ z)) (iterations_of ts)
 
-abbrev pub is_in_box : List forms.Trip → Form → ℤ × ℤ → Bool
+abbrev pub is_in_box : List forms.FormTrip → Form → ℤ × ℤ → Bool
 is_in_box trips f b =
     (not_zero (drop (length trips) f.coefficients) == 0)
-    && (list_all (λ (t : Term). is_constant t.trip) (terms_in trips f.coefficients)
+    && (list_all (λ (t : Term). is_constant_trip t.trip) (terms_in trips f.coefficients)
     && stays_between b f.constant (terms_in trips f.coefficients))
 
 -- ---- subscripts and the declared bounds of their places
@@ -65,22 +65,22 @@ pub record Bounded : Type 0 where
   pub bounds : ℤ × ℤ
 
 -- equal forms: their difference is 0
-abbrev pub is_zero : Form → Bool
-is_zero f = (not_zero f.coefficients == 0) && int_eq f.constant (pos 0)
+abbrev pub is_zero_form : Form → Bool
+is_zero_form f = (not_zero f.coefficients == 0) && int_eq f.constant (pos 0)
 
 abbrev pub is_same : Form → Option Form → Bool
 is_same f None = false
-is_same f (Some g) = is_zero (sum f (multiple (negsuc 0) g))
+is_same f (Some g) = is_zero_form (sum f (multiple (negsuc 0) g))
 
 -- the bounds c are no wider than b
 abbrev pub lies_within : ℤ × ℤ → ℤ × ℤ → Bool
 lies_within b c = int_le b.0 c.0 && int_le c.1 b.1
 
-abbrev pub loop_numbers : Standing → List ℕ
-loop_numbers x = map (λ (l : Loop). l.number) x.loops
+abbrev pub loop_numbers_round : Standing → List ℕ
+loop_numbers_round x = map (λ (l : Loop). l.number) x.loops
 
-abbrev pub trips_round : Standing → List forms.Trip
-trips_round x = map (λ l. trip_of (length x.loops) (counted l).trip) x.loops
+abbrev pub trips_round : Standing → List forms.FormTrip
+trips_round x = map (λ l. form_trip_of (length x.loops) (counted_loop l).trip) x.loops
 
 module _ (n : Nest) where
   abbrev pub form_in : List (List ℕ) → Subscript → Option Form
@@ -92,11 +92,11 @@ module _ (n : Nest) where
   declared_bounds x = opening_bounds n.declarations x
 
   -- as many as there are dimensions, else none has bounds
-  abbrev pub with_bounds : List (List ℕ) → Subscripts → List (ℤ × ℤ) → Option (List Bounded)
-  with_bounds loops no_subscripts [] = Some []
-  with_bounds loops (subscript p ps) (b ∷ bs) =
-      option_map (λ qs. record { form = form_in loops p; bounds = b } ∷ qs) (with_bounds loops ps bs)
-  with_bounds loops _ _ = None
+  abbrev pub subscripts_with_bounds : List (List ℕ) → Subscripts → List (ℤ × ℤ) → Option (List Bounded)
+  subscripts_with_bounds loops no_subscripts [] = Some []
+  subscripts_with_bounds loops (subscript p ps) (b ∷ bs) =
+      option_map (λ qs. record { form = form_in loops p; bounds = b } ∷ qs) (subscripts_with_bounds loops ps bs)
+  subscripts_with_bounds loops _ _ = None
 
   abbrev pub is_made : List ℕ → Bool
   is_made x = list_any (λ (m : Made). bytes_eq m.name x) n.made
@@ -106,7 +106,7 @@ module _ (n : Nest) where
   abbrev pub bounded_subscripts : List (List ℕ) → Reference → Option (List Bounded)
   bounded_subscripts loops r =
       if is_made r.name then Some []
-      else elim (declared_bounds r.name) [ None ↦ None | Some bs ↦ with_bounds loops r.subscripts bs ]
+      else elim (declared_bounds r.name) [ None ↦ None | Some bs ↦ subscripts_with_bounds loops r.subscripts bs ]
 
   -- those of all references of a statement: of its guard, its left side and its right side
   abbrev pub subscripts_of : Standing → List Bounded
@@ -121,7 +121,7 @@ module _ (n : Nest) where
   -- a statement without a guard, in the same loops, has an equal subscript with no wider bounds
   abbrev pub meets : List ℕ → Form → ℤ × ℤ → Standing → Bool
   meets loops f b y = is_none y.statement.guard
-      && (pointwise (λ i j. i == j) (loop_numbers y) loops
+      && (pointwise (λ i j. i == j) (loop_numbers_round y) loops
       && list_any (λ (q : Bounded). is_same f q.form && lies_within b q.bounds) (subscripts_of y))
 
   -- one of the nest does
@@ -131,7 +131,7 @@ module _ (n : Nest) where
   abbrev pub is_safe_subscript : Standing → Bounded → Bool
   is_safe_subscript x q = elim q.form [
     | None ↦ false
-    | Some f ↦ is_in_box (trips_round x) f q.bounds || is_met (loop_numbers x) f q.bounds
+    | Some f ↦ is_in_box (trips_round x) f q.bounds || is_met (loop_numbers_round x) f q.bounds
   ]
 
   abbrev pub is_safe : Standing → Bool

@@ -4,12 +4,12 @@ use Rattle.std.specs.Prelude.{Option, Some, None, Contains, List, [], map, lengt
 use Rattle.linear_forms.specs.Linear.{weighted}
 use Rattle.array_form.specs.forms.Loops as forms
 use Rattle.array_form.specs.holds.Bounds.{Term, coefficients_of, iterations_of}
-use Rattle.array_form.specs.holds.Surroundings.{trip_of}
+use Rattle.array_form.specs.holds.Surroundings.{form_trip_of}
 use Rattle.array_form.specs.declared.holds.boxes.Ends.{Ends}
-use Rattle.array_form.specs.declared.holds.loops.Counted.{Counted}
+use Rattle.array_form.specs.declared.holds.loops.CountedLoop.{CountedLoop}
 
-abbrev pub trips_of : ℕ → List Counted → List forms.Trip
-trips_of depth ls = map (λ (l : Counted). trip_of depth l.trip) ls
+abbrev pub trips_of : ℕ → List CountedLoop → List forms.FormTrip
+trips_of depth ls = map (λ (l : CountedLoop). form_trip_of depth l.trip) ls
 
 abbrev pub sum_at : List Term → List ℕ → ℤ
 sum_at ts is = weighted (coefficients_of ts) (map pos is)

@@ -5,7 +5,7 @@ use Rattle.tree.specs.Plain.{Expression, Reference}
 use Rattle.meaning.specs.ArrayValues.{counted}
 use Rattle.nest.specs.Bodies.{Standing, nest_statements}
 use Rattle.nest.specs.Plain.{Nest}
-use Rattle.array_form.specs.forms.Loops.{Surroundings}
+use Rattle.array_form.specs.forms.Loops.{FormSurroundings}
 use Rattle.array_form.specs.forms.Statements as forms
 use Rattle.dependence_graph.specs.declared.graphs.Hold.{Hold}
 use Rattle.dependence_graph.specs.declared.graphs.HoldReason.{HoldReason}
@@ -14,22 +14,22 @@ use Rattle.array_form.specs.holds.Bounds.{is_safe}
 use Rattle.array_form.specs.holds.Statements.{statement_at}
 use Rattle.array_form.specs.holds.Surroundings.{surroundings_of}
 
-abbrev pub reason_of : Option forms.Hold → Option HoldReason
-reason_of None = None
-reason_of (Some forms.FormHold) = Some Form
-reason_of (Some forms.TriangleHold) = Some Triangle
-reason_of (Some forms.BoundsHold) = Some Bounds
+abbrev pub hold_reason_of : Option forms.HoldCause → Option HoldReason
+hold_reason_of None = None
+hold_reason_of (Some forms.FormHold) = Some Form
+hold_reason_of (Some forms.TriangleHold) = Some Triangle
+hold_reason_of (Some forms.BoundsHold) = Some Bounds
 
 abbrev pub hold_with : ℕ → ℕ → Option HoldReason → List Hold
 hold_with s k None = []
 hold_with s k (Some r) = record { stmt = s; level = k; reason = r } ∷ []
 
 -- the hold at a level, where there is one
-abbrev pub hold_at_level : ℕ → Surroundings → Option Expression → Reference → Bool → ℕ → List Hold
-hold_at_level s a guard left safe k = hold_with s k (reason_of (forms.hold_at a k guard left safe))
+abbrev pub hold_at_level : ℕ → FormSurroundings → Option Expression → Reference → Bool → ℕ → List Hold
+hold_at_level s a guard left safe k = hold_with s k (hold_reason_of (forms.hold_at a k guard left safe))
 
 -- what forbids the array form of a statement of the nest at a level
-abbrev pub hold_of : Nest → Standing → ℕ → Option forms.Hold
+abbrev pub hold_of : Nest → Standing → ℕ → Option forms.HoldCause
 hold_of n x k = forms.hold_at (surroundings_of n x.loops) k x.statement.guard x.statement.left (is_safe n x)
 
 -- those of this statement, with the number s

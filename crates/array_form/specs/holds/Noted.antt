@@ -15,7 +15,7 @@ use Rattle.linear_forms.specs.Affines.{IsFound}
 use Rattle.nest.specs.Bodies.{Standing}
 use Rattle.nest.specs.Plain.{Nest}
 use Rattle.array_form.specs.holds.Bounds as plain
-use Rattle.array_form.specs.holds.Bounds.{bounded_subscripts, is_sized, loop_numbers, subscripts_of}
+use Rattle.array_form.specs.holds.Bounds.{bounded_subscripts, is_sized, loop_numbers_round, subscripts_of}
 use Rattle.array_form.specs.declared.holds.noted.Bounded.{Bounded}
 use Rattle.array_form.specs.declared.holds.noted.Gathered.{Gathered}
 use Rattle.array_form.specs.declared.holds.noted.Noted.{Noted}
@@ -85,7 +85,7 @@ pub record IsGathered (n : Nest) (loops : List (List ℕ)) (rs : List Reference)
 
 pub record IsNoted (n : Nest) (x : Standing) (s : Noted) : Type 0 where
   pub guarded : s.guarded ≡ is_some x.statement.guard
-  pub loops : s.loops ≡ loop_numbers x
+  pub loops : s.loops ≡ loop_numbers_round x
   pub sized : s.sized ≡ is_sized n x
   pub subscripts : AreBounded (length x.loops) (subscripts_of n x) s.subscripts
 

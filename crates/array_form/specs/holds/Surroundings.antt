@@ -10,7 +10,7 @@ use Rattle.linear_forms.specs.Linear.{Form}
 use Rattle.array_form.specs.forms.Loops as forms
 use Rattle.nest.specs.declared.parts.Trip.{Trip}
 use Rattle.nest.specs.Plain.{Loop, Nest}
-use Rattle.array_form.specs.declared.holds.loops.Counted.{Counted}
+use Rattle.array_form.specs.declared.holds.loops.CountedLoop.{CountedLoop}
 
 -- the coefficients from the place o on, of terms in rising order of their places, which end where one is 0
 abbrev pub coefficients_from : ℕ → List (ℕ × ℤ) → List ℤ
@@ -22,12 +22,12 @@ coefficients_from o (t ∷ ts) =
 abbrev pub form_of_affine : ℕ → Affine → Form
 form_of_affine n a = record { coefficients = take n a.loops ++ coefficients_from 0 a.syms; constant = a.constant }
 
-abbrev pub trip_of : ℕ → Trip → forms.Trip
-trip_of n t = record { form = form_of_affine n t.top; divisor = nat_abs t.by }
+abbrev pub form_trip_of : ℕ → Trip → forms.FormTrip
+form_trip_of n t = record { form = form_of_affine n t.top; divisor = nat_abs t.by }
 
 -- a loop, where n loops are round the statement
-abbrev pub counted_of : ℕ → Counted → forms.Loop
-counted_of n c = record { variable = c.var; trip = trip_of n c.trip }
+abbrev pub counted_of : ℕ → CountedLoop → forms.FormLoop
+counted_of n c = record { variable = c.var; trip = form_trip_of n c.trip }
 
 -- ---- those of a statement of a nest
 
@@ -39,8 +39,8 @@ abbrev pub known_trip : Option Trip → Trip
 known_trip (Some t) = t
 known_trip None = record { top = no_affine; by = pos 1 }
 
-abbrev pub counted : Loop → Counted
-counted l = record { var = l.variable; trip = known_trip l.trip }
+abbrev pub counted_loop : Loop → CountedLoop
+counted_loop l = record { var = l.variable; trip = known_trip l.trip }
 
 -- the name of the function, which a program may declare for something else, or bear
 abbrev pub spread_name : List ℕ
@@ -57,9 +57,9 @@ abbrev pub may_spread : Nest → Bool
 may_spread n = not (is_titled_spread n.title || list_any (λ (d : Declaration). is_spread_name d.name) n.declarations)
 
 -- these are the loops round the statement, from the outside in
-abbrev pub surroundings_of : Nest → List Loop → forms.Surroundings
+abbrev pub surroundings_of : Nest → List Loop → forms.FormSurroundings
 surroundings_of n ls = record {
-  loops = map (λ l. counted_of (length ls) (counted l)) ls;
+  loops = map (λ l. counted_of (length ls) (counted_loop l)) ls;
   symbols = n.symbols;
   may_spread = may_spread n;
 }

@@ -10,13 +10,13 @@ ghost use Rattle.nest.specs.Bodies.{Standing, nest_statements};
 ghost use Rattle.nest.specs.Plain.{Nest};
 ghost use Rattle.array_form.specs.forms.Loops as forms;
 ghost use Rattle.array_form.specs.holds.Bounds as plain;
-ghost use Rattle.array_form.specs.holds.Bounds.{is_safe, is_safe_subscript, is_same, is_zero, lies_within};
-ghost use Rattle.array_form.specs.holds.Bounds.{loop_numbers, meets, trips_round};
+ghost use Rattle.array_form.specs.holds.Bounds.{is_safe, is_safe_subscript, is_same, is_zero_form, lies_within};
+ghost use Rattle.array_form.specs.holds.Bounds.{loop_numbers_round, meets, trips_round};
 ghost use Rattle.array_form.specs.holds.Boxes.{trips_of};
 ghost use Rattle.array_form.specs.holds.Noted.{AreBounded, AreNoted, HasSmallForm, IsBounded, IsNoted};
 
 use crate::holds::boxes::{is_in_box, is_nought};
-use crate::holds::loops::Counted;
+use crate::holds::loops::CountedLoop;
 use crate::holds::noted::{Bounded, Noted};
 use crate::trips::{are_unused, are_zero};
 use linear_forms::combined;
@@ -24,7 +24,7 @@ use subscripts::Affine;
 use tree::Dim;
 
 fn is_zero(form: &Affine) -> bool
-    ensures { (n : ℕ) (f : Form) → n ≤ 7 → IsAffineOf n f form.now → result ≡ is_zero f }
+    ensures { (n : ℕ) (f : Form) → n ≤ 7 → IsAffineOf n f form.now → result ≡ is_zero_form f }
 {
     if !are_zero(&form.loops) {
         return false;
@@ -112,11 +112,11 @@ fn is_met(all: &[Noted], loops: &[u32], form: &Affine, bounds: Dim) -> bool
     meets(first, loops, form, bounds) || is_met(rest, loops, form, bounds)
 }
 
-fn is_safe_subscript(loops: &[Counted], all: &[Noted], numbers: &[u32], sub: &Bounded) -> bool
+fn is_safe_subscript(loops: &[CountedLoop], all: &[Noted], numbers: &[u32], sub: &Bounded) -> bool
     requires few { length loops.now ≤ 7 }
     requires small { HasSmallForm sub.now }
     ensures { (n : Nest) (x : Standing) (q : plain.Bounded) → AreNoted n (nest_statements n) all.now
-        → trips_of (length loops.now) loops.now ≡ trips_round x → numbers.now ≡ loop_numbers x
+        → trips_of (length loops.now) loops.now ≡ trips_round x → numbers.now ≡ loop_numbers_round x
         → IsBounded (length loops.now) q sub.now → result ≡ is_safe_subscript n x q }
 {
     match &sub.form {
@@ -127,11 +127,11 @@ fn is_safe_subscript(loops: &[Counted], all: &[Noted], numbers: &[u32], sub: &Bo
     }
 }
 
-fn are_safe(loops: &[Counted], all: &[Noted], numbers: &[u32], subs: &[Bounded]) -> bool
+fn are_safe(loops: &[CountedLoop], all: &[Noted], numbers: &[u32], subs: &[Bounded]) -> bool
     requires few { length loops.now ≤ 7 }
     requires small { All HasSmallForm subs.now }
     ensures { (n : Nest) (x : Standing) (qs : List plain.Bounded) → AreNoted n (nest_statements n) all.now
-        → trips_of (length loops.now) loops.now ≡ trips_round x → numbers.now ≡ loop_numbers x
+        → trips_of (length loops.now) loops.now ≡ trips_round x → numbers.now ≡ loop_numbers_round x
         → AreBounded (length loops.now) qs subs.now → result ≡ list_all (is_safe_subscript n x) qs }
 {
     let Some((first, rest)) = subs.split_first() else {
@@ -143,7 +143,7 @@ fn are_safe(loops: &[Counted], all: &[Noted], numbers: &[u32], subs: &[Bounded])
 // Whether each subscript of a statement in these loops, which may be out of bounds, stays within the declared bounds
 // over constant trips, or is met: a statement without a guard, in the same loops, has an equal one with no wider
 // bounds.
-fn is_safe(loops: &[Counted], all: &[Noted], own: &Noted) -> bool
+fn is_safe(loops: &[CountedLoop], all: &[Noted], own: &Noted) -> bool
     requires few { length loops.now ≤ 7 }
     requires small { All HasSmallForm own.now.subscripts }
     ensures { (n : Nest) (x : Standing) → AreNoted n (nest_statements n) all.now
@@ -153,7 +153,7 @@ fn is_safe(loops: &[Counted], all: &[Noted], own: &Noted) -> bool
 }
 
 /// Whether a statement has no guard, or is safe.
-pub fn is_safe_if_guarded(loops: &[Counted], all: &[Noted], own: &Noted) -> bool
+pub fn is_safe_if_guarded(loops: &[CountedLoop], all: &[Noted], own: &Noted) -> bool
     requires few { length loops.now ≤ 7 }
     requires small { All HasSmallForm own.now.subscripts }
     ensures { (n : Nest) (x : Standing) → AreNoted n (nest_statements n) all.now

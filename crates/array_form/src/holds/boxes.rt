@@ -7,11 +7,11 @@ ghost use Rattle.subscripts.specs.Shapes.{IsSmall};
 ghost use Rattle.tree.specs.View.{bounds_of};
 ghost use Rattle.linear_forms.specs.Affines.{IsAffineOf};
 ghost use Rattle.linear_forms.specs.Linear.{Form, not_zero};
-ghost use Rattle.array_form.specs.holds.Bounds.{Term, is_constant, is_in_box, terms_in};
+ghost use Rattle.array_form.specs.holds.Bounds.{Term, is_constant_trip, is_in_box, terms_in};
 ghost use Rattle.array_form.specs.holds.Boxes.{HasEnds, moved_by, trips_of, widened};
-ghost use Rattle.array_form.specs.holds.Surroundings.{form_of_affine, trip_of};
+ghost use Rattle.array_form.specs.holds.Surroundings.{form_of_affine, form_trip_of};
 
-use crate::holds::loops::Counted;
+use crate::holds::loops::CountedLoop;
 use crate::trips::{are_unused, are_zero};
 use nest::Trip;
 use subscripts::Affine;
@@ -40,7 +40,7 @@ fn has_no_term(depth: usize, form: &Affine) -> bool
 
 fn is_constant(depth: usize, trip: Trip) -> bool
     requires { depth ≤ 7 }
-    ensures { result ≡ is_constant (trip_of depth trip) }
+    ensures { result ≡ is_constant_trip (form_trip_of depth trip) }
 {
     trip.by.unsigned_abs() == 1 && has_no_term(depth, &trip.top)
 }
@@ -48,16 +48,17 @@ fn is_constant(depth: usize, trip: Trip) -> bool
 // Whether the trip is a constant where the loop has a coefficient.
 fn may_be_in_box(depth: usize, time: i64, trip: Trip) -> bool
     requires { depth ≤ 7 }
-    ensures { result ≡ (int_eq time (pos 0) || is_constant (trip_of depth trip)) }
+    ensures { result ≡ (int_eq time (pos 0) || is_constant_trip (form_trip_of depth trip)) }
 {
     is_nought(time) || is_constant(depth, trip)
 }
 
 // Whether the trips of all loops that have a coefficient are constants.
 #[tactic(auto, using(crate::proofs::holds::BoxLaws::constant_laws))]
-fn are_constant(depth: usize, loops: &[Counted], times: &[i64]) -> bool
+fn are_constant(depth: usize, loops: &[CountedLoop], times: &[i64]) -> bool
     requires { depth ≤ 7 }
-    ensures { result ≡ list_all (λ (t : Term). is_constant t.trip) (terms_in (trips_of depth loops.now) times.now) }
+    ensures { result
+        ≡ list_all (λ (t : Term). is_constant_trip t.trip) (terms_in (trips_of depth loops.now) times.now) }
 {
     let Some((turns, loops)) = loops.split_first() else {
         return true;
@@ -127,7 +128,7 @@ fn widened(ends: Ends, time: i64, trip: i64) -> Option<Ends>
 }
 
 // Of the sum of the loops by these coefficients; None where there is no iteration.
-fn ends_over(depth: usize, loops: &[Counted], times: &[i64]) -> Option<Ends>
+fn ends_over(depth: usize, loops: &[CountedLoop], times: &[i64]) -> Option<Ends>
     requires few { length loops.now ≤ 7 }
     requires small { All IsSmall times.now }
     ensures { HasEnds (terms_in (trips_of depth loops.now) times.now) result }
@@ -166,7 +167,7 @@ fn lie_between(ends: Ends, constant: i64, bounds: Dim) -> bool
 
 /// Whether a linear subscript has no symbol, and is within the bounds at all iterations of the loops that stand in it,
 /// whose trips are constants.
-pub fn is_in_box(loops: &[Counted], form: &Affine, bounds: Dim) -> bool
+pub fn is_in_box(loops: &[CountedLoop], form: &Affine, bounds: Dim) -> bool
     requires few { length loops.now ≤ 7 }
     requires small { All IsSmall form.now.loops }
     ensures { (f : Form) → IsAffineOf (length loops.now) f form.now

@@ -1,16 +1,16 @@
 //! Left sides that are array forms.
 ghost use Rattle.std.specs.Prelude.{◌≡◌, ◌≤◌, ◌^◌, ◌==◌, if◌then◌else◌, IfOk, length, map};
 ghost use Rattle.std.specs.List.{list_all};
-ghost use Rattle.array_form.specs.declared.holds.loops.Counted.{Counted};
+ghost use Rattle.array_form.specs.declared.holds.loops.CountedLoop.{CountedLoop};
 ghost use Rattle.array_form.specs.forms.Loops.{is_among};
 ghost use Rattle.meaning.specs.Reads.{names_in_subscript};
-ghost use Rattle.array_form.specs.forms.Statements.{has_form, is_linear, occurrences};
+ghost use Rattle.array_form.specs.forms.Statements.{has_form, is_linear_subscript, subscript_occurrences};
 ghost use Rattle.tree.specs.Plain.{subscripts};
 ghost use Rattle.tree.specs.View.{subscript_of};
 ghost use Rattle.array_form.specs.holds.View.{surroundings_view};
 ghost use Rattle.array_form.specs.holds.Levels.{is_formed, loops_from_place};
 
-use crate::holds::loops::{Counted, Surroundings, loop_names};
+use crate::holds::loops::{CountedLoop, Surroundings, loop_names};
 use crate::holds::loops_standing::loops_in_sub;
 use linear_forms::linear;
 use nest::statement_loops::stands_in_sub;
@@ -28,7 +28,7 @@ fn occurrence(name: Name, sub: &Sub) -> usize
 
 // In how many of the subscripts the name stands.
 fn occurrences(name: Name, subs: &Seq<Sub>) -> usize
-    ensures { result ≡ occurrences name (subscripts (map subscript_of subs.now)) }
+    ensures { result ≡ subscript_occurrences name (subscripts (map subscript_of subs.now)) }
 {
     let mut count = 0;
     for sub in subs.as_slice() {
@@ -40,7 +40,7 @@ fn occurrences(name: Name, subs: &Seq<Sub>) -> usize
 #[tactic(auto, using(crate::proofs::holds::LinearLaws::linear_laws))]
 fn is_linear(alloc: Global, a: &Surroundings, sub: &Sub) -> Result<bool, Memory>
     requires { length a.now.symbols ≤ 2 ^ 16 }
-    ensures { IfOk result (λ b. b ≡ is_linear (surroundings_view a.now) (subscript_of sub.now)) }
+    ensures { IfOk result (λ b. b ≡ is_linear_subscript (surroundings_view a.now) (subscript_of sub.now)) }
 {
     match sub {
         Sub::One(expr) => {
@@ -86,9 +86,10 @@ fn are_formed(alloc: Global, a: &Surroundings, from: usize, subs: &Seq<Sub>) -> 
 }
 
 // Whether each of the loops stands in exactly one subscript.
-fn occur_once(loops: &[Counted], subs: &Seq<Sub>) -> bool
+fn occur_once(loops: &[CountedLoop], subs: &Seq<Sub>) -> bool
     ensures { result
-        ≡ list_all (λ (l : Counted). occurrences l.var (subscripts (map subscript_of subs.now)) == 1) loops.now }
+        ≡ list_all (λ (l : CountedLoop). subscript_occurrences l.var
+        (subscripts (map subscript_of subs.now)) == 1) loops.now }
 {
     for turns in loops {
         if occurrences(turns.var, subs) != 1 {

@@ -9,7 +9,7 @@ ghost use Rattle.nest.specs.View.{nest_of};
 ghost use Rattle.nest.specs.statement_loops.Standings.{standing_of};
 ghost use Rattle.array_form.specs.forms.Statements.{hold_at, stand_in_guard};
 ghost use Rattle.array_form.specs.holds.Holds.{all_holds, hold_at_level, hold_with, holds_of, holds_of_standing};
-ghost use Rattle.array_form.specs.holds.Holds.{reason_of};
+ghost use Rattle.array_form.specs.holds.Holds.{hold_reason_of};
 ghost use Rattle.array_form.specs.holds.Levels.{loops_from_place};
 ghost use Rattle.array_form.specs.holds.Noted.{AreNoted, IsNoted};
 ghost use Rattle.array_form.specs.holds.Plain.{IsPlainNest, IsPlainStatement};
@@ -49,7 +49,7 @@ fn reason_at(
     requires few { length a.now.loops ≤ 7 }
     requires symbols { length a.now.symbols ≤ 2 ^ 16 }
     requires from { from ≤ length a.now.loops }
-    ensures { IfOk result (λ reason. reason ≡ reason_of (hold_at (surroundings_view a.now) (from + 1)
+    ensures { IfOk result (λ reason. reason ≡ hold_reason_of (hold_at (surroundings_view a.now) (from + 1)
         (option_map expression_of stmt.now.guard) (reference_of stmt.now.left) safe)) }
 {
     if !has_form(alloc, a, from, &stmt.left.subs)? {

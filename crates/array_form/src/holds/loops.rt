@@ -3,7 +3,7 @@ ghost use Rattle.std.specs.Prelude.{◌≡◌, IfOk, map};
 ghost use Rattle.std.specs.List.{list_any};
 ghost use Rattle.tree.specs.View.{declaration_of};
 ghost use Rattle.nest.specs.View.{loop_of, nest_of};
-ghost use Rattle.array_form.specs.holds.Surroundings.{counted, is_spread_name, is_titled_spread, known_trip};
+ghost use Rattle.array_form.specs.holds.Surroundings.{counted_loop, is_spread_name, is_titled_spread, known_trip};
 ghost use Rattle.array_form.specs.holds.Surroundings.{may_spread, surroundings_of};
 ghost use Rattle.array_form.specs.holds.View.{loop_names, surroundings_view};
 
@@ -14,7 +14,7 @@ use tree::{Memory, Name, Seq};
 
 /// A loop from 1 to its trip by 1.
 #[derive(Clone, Copy, Debug)]
-pub struct Counted {
+pub struct CountedLoop {
     pub var: Name,
     pub trip: Trip,
 }
@@ -23,7 +23,7 @@ pub struct Counted {
 /// where the program neither declares that name nor bears it.
 #[derive(Drop)]
 pub struct Surroundings {
-    pub loops: Seq<Counted>,
+    pub loops: Seq<CountedLoop>,
     pub symbols: Seq<Name>,
     pub may_spread: bool,
 }
@@ -44,17 +44,17 @@ fn known_trip(trip: Option<Trip>) -> Trip
     }
 }
 
-fn counted_loop(turns: &Loop) -> Counted
-    ensures { result ≡ counted (loop_of turns.now) }
+fn counted_loop(turns: &Loop) -> CountedLoop
+    ensures { result ≡ counted_loop (loop_of turns.now) }
 {
-    Counted {
+    CountedLoop {
         var: turns.var,
         trip: known_trip(turns.trip),
     }
 }
 
-fn all_counted(alloc: Global, loops: &Seq<Loop>) -> Result<Seq<Counted>, Memory>
-    ensures { IfOk result (λ all. all ≡ map counted (map loop_of loops.now)) }
+fn all_counted(alloc: Global, loops: &Seq<Loop>) -> Result<Seq<CountedLoop>, Memory>
+    ensures { IfOk result (λ all. all ≡ map counted_loop (map loop_of loops.now)) }
 {
     let mut all = Seq::new(alloc);
     for turns in loops.as_slice() {
@@ -102,7 +102,7 @@ pub fn surroundings_of(
     loops: &Seq<Loop>,
 ) -> Result<Surroundings, Memory>
     ensures view { IfOk result (λ a. surroundings_view a ≡ surroundings_of (nest_of nest.now) (map loop_of loops.now)) }
-    ensures loops { IfOk result (λ a. a.loops ≡ map counted (map loop_of loops.now)) }
+    ensures loops { IfOk result (λ a. a.loops ≡ map counted_loop (map loop_of loops.now)) }
 {
     Ok(Surroundings {
         loops: all_counted(alloc, loops)?,
@@ -112,7 +112,7 @@ pub fn surroundings_of(
 }
 
 /// The variables of loops.
-pub fn loop_names(alloc: Global, loops: &[Counted]) -> Result<Seq<Name>, Memory>
+pub fn loop_names(alloc: Global, loops: &[CountedLoop]) -> Result<Seq<Name>, Memory>
     ensures { IfOk result (λ names. names ≡ loop_names loops.now) }
 {
     let mut names = Seq::new(alloc);

@@ -7,12 +7,12 @@ ghost use Rattle.meaning.specs.Reads.{names_in, names_in_subscript};
 ghost use Rattle.tree.specs.View.{expression_of, subscript_of};
 ghost use Rattle.array_form.specs.holds.Surroundings.{counted_of};
 
-use crate::holds::loops::Counted;
+use crate::holds::loops::CountedLoop;
 use nest::statement_loops::{stands_in, stands_in_sub};
 use std::alloc::Global;
 use tree::{Expr, Memory, Seq, Sub};
 
-fn push_if(those: &mut Seq<Counted>, turns: Counted, stands: bool) -> Result<(), Memory>
+fn push_if(those: &mut Seq<CountedLoop>, turns: CountedLoop, stands: bool) -> Result<(), Memory>
     ensures { OnOk result (those.new ≡ those.old ++ (if stands then turns ∷ [] else [])) }
 {
     if stands {
@@ -22,7 +22,11 @@ fn push_if(those: &mut Seq<Counted>, turns: Counted, stands: bool) -> Result<(),
 }
 
 /// Those of the loops whose variables stand in the expression.
-pub fn loops_in(alloc: Global, loops: &[Counted], expr: &Expr) -> Result<Seq<Counted>, Memory>
+pub fn loops_in(
+    alloc: Global,
+    loops: &[CountedLoop],
+    expr: &Expr,
+) -> Result<Seq<CountedLoop>, Memory>
     ensures { IfOk result (λ those. (n : ℕ) → map (counted_of n) those
         ≡ loops_among (map (counted_of n) loops.now) (names_in (expression_of expr.now))) }
 {
@@ -34,7 +38,11 @@ pub fn loops_in(alloc: Global, loops: &[Counted], expr: &Expr) -> Result<Seq<Cou
 }
 
 /// Those of the loops whose variables stand in the subscript.
-pub fn loops_in_sub(alloc: Global, loops: &[Counted], sub: &Sub) -> Result<Seq<Counted>, Memory>
+pub fn loops_in_sub(
+    alloc: Global,
+    loops: &[CountedLoop],
+    sub: &Sub,
+) -> Result<Seq<CountedLoop>, Memory>
     ensures { IfOk result (λ those. (n : ℕ) → map (counted_of n) those
         ≡ loops_among (map (counted_of n) loops.now) (names_in_subscript (subscript_of sub.now))) }
 {
@@ -47,7 +55,7 @@ pub fn loops_in_sub(alloc: Global, loops: &[Counted], sub: &Sub) -> Result<Seq<C
 
 /// Whether one of the loops stands in the expression.
 #[tactic(auto, using(crate::proofs::holds::GuardLaws::standing_laws))]
-pub fn stand_in(loops: &[Counted], expr: &Expr) -> bool
+pub fn stand_in(loops: &[CountedLoop], expr: &Expr) -> bool
     ensures { (n : ℕ) → result
         ≡ stand_in_guard (map (counted_of n) loops.now) (Some (expression_of expr.now)) }
 {
@@ -58,7 +66,7 @@ pub fn stand_in(loops: &[Counted], expr: &Expr) -> bool
 }
 
 /// Whether one of the loops stands in the guard.
-pub fn stand_in_guard(loops: &[Counted], guard: &Option<Expr>) -> bool
+pub fn stand_in_guard(loops: &[CountedLoop], guard: &Option<Expr>) -> bool
     ensures { (n : ℕ) → result
         ≡ stand_in_guard (map (counted_of n) loops.now) (option_map expression_of guard.now) }
 {

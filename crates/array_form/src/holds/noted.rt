@@ -4,7 +4,7 @@ ghost use Rattle.tree.specs.View.{reference_of};
 ghost use Rattle.dependence_graph.specs.nest_graph.References.{variables_round};
 ghost use Rattle.nest.specs.View.{nest_of};
 ghost use Rattle.nest.specs.statement_loops.Standings.{standing_of};
-ghost use Rattle.array_form.specs.holds.Bounds.{bounded_subscripts, is_made, loop_numbers};
+ghost use Rattle.array_form.specs.holds.Bounds.{bounded_subscripts, is_made, loop_numbers_round};
 ghost use Rattle.array_form.specs.holds.Noted.{AreFound, AreNoted, IsGathered, IsNoted, IsNotedBehind, beside, dims_in};
 ghost use Rattle.array_form.specs.holds.Noted.{dims_of, sized_by, sized_within, with_found};
 
@@ -184,7 +184,7 @@ fn names_round(alloc: Global, standing: &Standing) -> Result<Seq<Name>, Memory>
 }
 
 fn numbers_round(alloc: Global, standing: &Standing) -> Result<Seq<u32>, Memory>
-    ensures { IfOk result (λ numbers. numbers ≡ loop_numbers (standing_of standing.now)) }
+    ensures { IfOk result (λ numbers. numbers ≡ loop_numbers_round (standing_of standing.now)) }
 {
     let mut numbers = Seq::new(alloc);
     for turns in standing.loops.as_slice() {

@@ -7,11 +7,11 @@ ghost use Rattle.array_form.specs.holds.Surroundings.{counted_of};
 ghost use Rattle.array_form.specs.holds.View.{loop_names, surroundings_view};
 ghost use Rattle.array_form.specs.holds.Levels.{AreWithin, loops_from_place};
 
-use crate::holds::loops::{Counted, Surroundings};
+use crate::holds::loops::{CountedLoop, Surroundings};
 use tree::Name;
 
 // The coefficient that goes with a loop, of coefficients in the order of the loops.
-fn coefficient(loops: &[Counted], name: Name, times: &[i64]) -> i64
+fn coefficient(loops: &[CountedLoop], name: Name, times: &[i64]) -> i64
     ensures { result ≡ coefficient (loop_names loops.now) name times.now }
 {
     let Some((first, loops)) = loops.split_first() else {
@@ -28,7 +28,7 @@ fn coefficient(loops: &[Counted], name: Name, times: &[i64]) -> i64
 
 // Whether the trip of a loop has the variable of another one of the loops.
 #[tactic(auto, using(crate::proofs::holds::TripLaws::trip_laws))]
-fn depends_on(a: &Surroundings, l: &Counted, m: &Counted) -> bool
+fn depends_on(a: &Surroundings, l: &CountedLoop, m: &CountedLoop) -> bool
     requires few { length a.now.loops ≤ 7 }
     requires within { is_among (loop_names a.now.loops) m.now.var ≡ true }
     ensures { result ≡ depends_on (surroundings_view a.now) (counted_of (length a.now.loops) l.now)
@@ -37,7 +37,7 @@ fn depends_on(a: &Surroundings, l: &Counted, m: &Counted) -> bool
     l.var != m.var && coefficient(a.loops.as_slice(), m.var, &l.trip.top.loops) != 0
 }
 
-fn depends_on_one(a: &Surroundings, l: &Counted, others: &[Counted]) -> bool
+fn depends_on_one(a: &Surroundings, l: &CountedLoop, others: &[CountedLoop]) -> bool
     requires few { length a.now.loops ≤ 7 }
     requires within { AreWithin a.now others.now }
     ensures { result ≡ list_any (λ m. depends_on (surroundings_view a.now) (counted_of (length a.now.loops) l.now)
@@ -61,7 +61,7 @@ pub fn is_triangle(a: &Surroundings, from: usize) -> bool
     is_triangle_of(a, &a.loops.as_slice()[from..])
 }
 
-fn is_triangle_of(a: &Surroundings, loops: &[Counted]) -> bool
+fn is_triangle_of(a: &Surroundings, loops: &[CountedLoop]) -> bool
     requires few { length a.now.loops ≤ 7 }
     requires within { AreWithin a.now loops.now }
     ensures { result ≡ list_any (λ l. list_any (λ m. depends_on (surroundings_view a.now)

@@ -8,7 +8,7 @@ use mathlib.Core.Path.{ap₂}
 use Rattle.tree.specs.declared.ops.Kind.{Kind}
 use Rattle.tree.specs.declared.ops.Fault.{Fault}
 use Rattle.tree.specs.declared.ops.Fault.TheVariants.{Allocated}
-use Rattle.meaning.specs.Store.{Store, Cell, nought, nought_like, allocated, with_bounds, bounds_in, bounds_of}
+use Rattle.meaning.specs.Store.{Store, Cell, nought, nought_like, allocated, with_bounds, bounds_in, stored_bounds}
 use Rattle.meaning.specs.ArrayStatements.{free}
 use Rattle.array_values.specs.declared.failure.Failure.{Failure}
 use Rattle.array_values.specs.declared.failure.Failure.TheVariants as failure
@@ -146,7 +146,7 @@ module _ (vs : List Slot) (x : List ℕ) (i : ℕ) (h : Has vs x i) (r w : Slot)
           ∙ sym (ap (λ t. cond t (held_here w c.subscripts) (held_among vs c.name c.subscripts)) t)
       at c false t = sym (ap (λ t. cond t (held_here w c.subscripts) (held_among vs c.name c.subscripts)) t)
 
-  pub not_allocated : r.there ≡ false → bounds_of x (store_among vs) ≡ Err Allocated
+  pub not_allocated : r.there ≡ false → stored_bounds x (store_among vs) ≡ Err Allocated
   unfolding store_among
   not_allocated t = ap bounds_in ((h.named r e).bounds ∙ ap (λ t. cond t (Some (bounds_held r.bounds)) None) t)
 
@@ -171,5 +171,5 @@ module _ (vs : List Slot) (x : List ℕ) (i : ℕ) (h : Has vs x i) (r w : Slot)
   opened_parts bs (Err (failure.Fault f)) o = (ap (λ (v : Slot). v.name) o.2, ap (λ (v : Slot). v.kind) o.2)
   opened_parts bs (Err failure.Memory) o = (ap (λ (v : Slot). v.name) o.0, ap (λ (v : Slot). v.kind) o.0)
 
-pub unknown_bounds : (vs : List Slot) (x : List ℕ) → bounds_among vs x ≡ None → bounds_of x (store_among vs) ≡ Err Allocated
+pub unknown_bounds : (vs : List Slot) (x : List ℕ) → bounds_among vs x ≡ None → stored_bounds x (store_among vs) ≡ Err Allocated
 unknown_bounds vs x e = ap bounds_in (store-bounds vs x ∙ e)

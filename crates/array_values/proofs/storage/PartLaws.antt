@@ -8,7 +8,7 @@ use Rattle.tree.specs.declared.ops.Value.{Value}
 use Rattle.tree.specs.declared.ops.Value.TheVariants.{Int}
 use Rattle.tree.specs.declared.ops.Fault.{Fault}
 use Rattle.tree.specs.declared.ops.Fault.TheVariants.{Allocated}
-use Rattle.meaning.specs.Store.{Cell, bounds_in, bounds_of, column_major, nought}
+use Rattle.meaning.specs.Store.{Cell, bounds_in, stored_bounds, column_major, nought}
 use Rattle.meaning.specs.ArrayValues.{Array}
 use Rattle.meaning.specs.Sections.{Axis, Selector, axes_on, whole_axes, extents_of, numbers_of}
 use Rattle.meaning.specs.Value.{is_bare}
@@ -73,10 +73,10 @@ module _ (vs : List Slot) (x : List ℕ) where
   along_is : (v : Slot) (i : ℕ) → IsNamed vs x i v → (axes : List Axis) → array_along x axes (store_among vs) ≡ array_here v axes
   along_is v i h axes = ap (λ (ys : List Value). let a : Array = record { extents = extents_of axes; values = ys } in a) (rows_named v i h (column_major (map numbers_of axes)))
 
-  bounds_are : (v : Slot) (i : ℕ) → IsNamed vs x i v → bounds_of x (store_among vs) ≡ bounds_in (bounds_now v)
+  bounds_are : (v : Slot) (i : ℕ) → IsNamed vs x i v → stored_bounds x (store_among vs) ≡ bounds_in (bounds_now v)
   bounds_are v i h = ap bounds_in (store-bounds vs x ∙ h.bounds)
 
-  no_bounds : bounds_among vs x ≡ None → bounds_of x (store_among vs) ≡ Err Allocated
+  no_bounds : bounds_among vs x ≡ None → stored_bounds x (store_among vs) ≡ Err Allocated
   no_bounds e = ap bounds_in (store-bounds vs x ∙ e)
 
   pub whole_named : (v : Slot) (i : ℕ) → IsNamed vs x i v → whole_array x (store_among vs) ≡ whole_here v

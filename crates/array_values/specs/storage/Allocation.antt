@@ -3,7 +3,7 @@ use Rattle.std.specs.Prelude.{◌≡◌, ◌<◌, Result, Ok, Err, None, ℕ, �
 use Rattle.tree.specs.declared.ops.Kind.{Kind}
 use Rattle.tree.specs.declared.ops.Fault.{Fault}
 use Rattle.tree.specs.declared.ops.Fault.TheVariants.{Allocated}
-use Rattle.meaning.specs.Store.{nought, nought_like, allocated, with_bounds, bounds_of}
+use Rattle.meaning.specs.Store.{nought, nought_like, allocated, with_bounds, stored_bounds}
 use Rattle.meaning.specs.ArrayStatements.{free}
 use Rattle.meaning.specs.Extents.{elements_of}
 use Rattle.array_values.specs.declared.failure.Failure.{Failure}
@@ -55,6 +55,6 @@ Allocates k x ns old new (Err failure.Memory) = (new ≡ old) × (0 < elements_o
 
 abbrev pub Deallocates : List ℕ → List Slot → List Slot → Result (Unit {0}) Fault → Type 0
 Deallocates x old new (Ok r) =
-    ((bs : List (ℤ × ℤ)) × (bounds_of x (store_among old) ≡ Ok bs))
+    ((bs : List (ℤ × ℤ)) × (stored_bounds x (store_among old) ≡ Ok bs))
     × (store_among new ≡ with_bounds x None (store_among old))
-Deallocates x old new (Err f) = (bounds_of x (store_among old) ≡ Err f) × (new ≡ old)
+Deallocates x old new (Err f) = (stored_bounds x (store_among old) ≡ Err f) × (new ≡ old)

@@ -2,7 +2,7 @@
 use Rattle.std.specs.Prelude.{Result, Ok, ℕ, List, map}
 use Rattle.tree.specs.Steps.{◌>>=◌}
 use Rattle.tree.specs.declared.ops.Fault.{Fault}
-use Rattle.meaning.specs.Store.{Store, bounds_in, bounds_of, column_major}
+use Rattle.meaning.specs.Store.{Store, bounds_in, stored_bounds, column_major}
 use Rattle.meaning.specs.ArrayValues.{Array}
 use Rattle.meaning.specs.Sections.{Axis, Selector, axes_on, whole_axes, extents_of, numbers_of, cells_along}
 use Rattle.array_values.specs.declared.storage.slots.Slot.{Slot}
@@ -14,12 +14,12 @@ array_along x axes s = record { extents = extents_of axes; values = map s.held (
 
 abbrev pub whole_array : List ℕ → Store → Result Array Fault
 whole_array x s = do
-  bs ← bounds_of x s
+  bs ← stored_bounds x s
   Ok (array_along x (whole_axes bs) s)
 
 abbrev pub part_array : List ℕ → List Selector → Store → Result Array Fault
 part_array x zs s = do
-  bs ← bounds_of x s
+  bs ← stored_bounds x s
   axes ← axes_on bs zs
   Ok (array_along x axes s)
 

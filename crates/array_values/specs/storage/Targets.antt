@@ -2,7 +2,7 @@
 use Rattle.std.specs.Prelude.{◌≡◌, Result, Ok, Err, Some, ℕ, ◌<◌, ℤ, true, List}
 use Rattle.tree.specs.Steps.{◌>>=◌}
 use Rattle.tree.specs.declared.ops.Fault.{Fault}
-use Rattle.meaning.specs.Store.{Store, bounds_in, bounds_of}
+use Rattle.meaning.specs.Store.{Store, bounds_in, stored_bounds}
 use Rattle.meaning.specs.Sections.{Axis, Selector, axes_on, whole_axes}
 use Rattle.meaning.specs.Extents.{elements_of}
 use Rattle.machine.specs.Storage.{offset}
@@ -19,7 +19,7 @@ use Rattle.array_values.specs.storage.Slots.{bounds_now, place_among, IsWithin}
 -- what is selected of the bounds that the name x has now
 abbrev pub axes_within : (List (ℤ × ℤ) → Result (List Axis) Fault) → List ℕ → Store → Result (List Axis) Fault
 axes_within f x s = do
-  bs ← bounds_of x s
+  bs ← stored_bounds x s
   f bs
 
 abbrev pub all_of : List (ℤ × ℤ) → Result (List Axis) Fault

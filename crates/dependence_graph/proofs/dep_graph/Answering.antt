@@ -14,8 +14,8 @@ use Rattle.direction_vectors.specs.declared.vector_tests.refs.RefPair.{RefPair}
 use Rattle.direction_vectors.specs.Candidates as old
 use Rattle.direction_vectors.specs.Candidates.{dir_at}
 use Rattle.direction_vectors.specs.Merged as merging
-use Rattle.dependence_graph.specs.nest_graph.Arcs.{Answer, Assumed, Met, Never, Verdict}
-use Rattle.dependence_graph.specs.nest_graph.Merged.{IsListed, IsMerged, kind_of, kinds, under}
+use Rattle.dependence_graph.specs.nest_graph.Arcs.{VectorVerdict, Assumed, Met, Never, Verdict}
+use Rattle.dependence_graph.specs.nest_graph.Merged.{IsListed, IsMerged, kind_of, verdict_kinds, under_direction}
 use Rattle.dependence_graph.specs.dep_graph.Joined.{as_verdict}
 use Rattle.dependence_graph.proofs.dep_graph.Directions.{listed, listed_at, listed_length}
 
@@ -36,7 +36,7 @@ nil_of (x ∷ xs) h = absurd (omega arith)
 cons_parts : {A : Type 0} (x y : A) (xs ys : List A) → x ∷ xs ≡ y ∷ ys → (x ≡ y) × (xs ≡ ys)
 cons_parts x y xs ys e = (cc, cc)
 
-abbrev with_vector : Verdict → List Dir → Answer
+abbrev with_vector : Verdict → List Dir → VectorVerdict
 with_vector v w = (w, v)
 
 -- ---- kinds
@@ -68,7 +68,7 @@ pub record Tells (turn : Bool) (s t : ℕ) : Type 0 where
 
 module _ (r : RefPair) (few : r.common ≤ 7) (m n : ℕ) where
   -- an answer, from a place on
-  abbrev pub after : ℕ → old.Answer → Answer
+  abbrev pub after : ℕ → old.Answer → VectorVerdict
   after k a = (drop k (listed a.0), as_verdict m n a.1)
 
   abbrev AreVectors : List old.Answer → Type 0
@@ -80,10 +80,10 @@ module _ (r : RefPair) (few : r.common ≤ 7) (m n : ℕ) where
       ∙ ap (λ (e : Dir). e ∷ drop (suc k) (listed d)) (listed_at r few d k h)
 
   under_is : (e : Dir) (k : ℕ) (as' : List old.Answer) → k < r.common → AreVectors as' → All (λ (a : old.Answer). dir_at a.0 k ≡ e) as'
-      → map (after k) as' ≡ under e (map (after (suc k)) as')
+      → map (after k) as' ≡ under_direction e (map (after (suc k)) as')
   under_is e k [] l v h = refl
   under_is e k (a ∷ as') l v h =
-      ap₂ (λ (x : Answer) (xs : List Answer). x ∷ xs)
+      ap₂ (λ (x : VectorVerdict) (xs : List VectorVerdict). x ∷ xs)
       (ap (with_vector (as_verdict m n a.1))
       (step a.0 k (All-head (λ (b : old.Answer). IsVectorOf r b.0) a as' v) l
       ∙ ap (λ (f : Dir). f ∷ drop (suc k) (listed a.0)) (All-head (λ (b : old.Answer). dir_at b.0 k ≡ e) a as' h)))
@@ -104,8 +104,8 @@ module _ (r : RefPair) (few : r.common ≤ 7) (m n : ℕ) where
     kind = same_kind m n a.1 b.1 f;
   }
 
-  abbrev inner : ℕ → List old.Answer → List Answer
-  inner k as' = kinds (map (after (suc k)) as')
+  abbrev inner : ℕ → List old.Answer → List VectorVerdict
+  inner k as' = verdict_kinds (map (after (suc k)) as')
 
   alike : (k : ℕ) (xs ys : List old.Answer) → AreVectors xs → AreVectors ys → inner k xs ≡ inner k ys → merging.AreAlike k xs ys
   alike k [] [] u v e = record { same_length = refl; each = λ i a b l. absurd (omega arith) }
@@ -115,7 +115,7 @@ module _ (r : RefPair) (few : r.common ≤ 7) (m n : ℕ) where
       let p = cons_parts (drop (suc k) (listed x.0), kind_of (as_verdict m n x.1)) (drop (suc k) (listed y.0), kind_of (as_verdict m n y.1)) (inner k xs) (inner k ys) e in
       with_one
       (alike_one k x y (All-head (λ (b : old.Answer). IsVectorOf r b.0) x xs u) (All-head (λ (b : old.Answer). IsVectorOf r b.0) y ys v)
-      (ap (λ (z : Answer). z.0) p.0) (ap (λ (z : Answer). z.1) p.0))
+      (ap (λ (z : VectorVerdict). z.0) p.0) (ap (λ (z : VectorVerdict). z.1) p.0))
       (alike k xs ys (All-tail (λ (b : old.Answer). IsVectorOf r b.0) x xs u) (All-tail (λ (b : old.Answer). IsVectorOf r b.0) y ys v) p.1)
     where
       with_one : merging.IsAlike k x y → merging.AreAlike k xs ys → merging.AreAlike k (x ∷ xs) (y ∷ ys)
@@ -139,7 +139,7 @@ module _ (r : RefPair) (few : r.common ≤ 7) (m n : ℕ) where
 
   three_parts : (k : ℕ) (xs ys zs : List old.Answer) → map (after k) (xs ++ (ys ++ zs)) ≡ map (after k) xs ++ (map (after k) ys ++ map (after k) zs)
   three_parts k xs ys zs =
-      map-append (after k) xs (ys ++ zs) ∙ ap (λ (as' : List Answer). map (after k) xs ++ as') (map-append (after k) ys zs)
+      map-append (after k) xs (ys ++ zs) ∙ ap (λ (as' : List VectorVerdict). map (after k) xs ++ as') (map-append (after k) ys zs)
 
   pub merged_of : (j k : ℕ) (as' : List old.Answer) → j + k ≡ r.common → AreVectors as' → merging.IsMerged j k as' → IsMerged j (map (after k) as')
   merged_of zero k as' s v h = one_left k as' (omega arith) v h
@@ -157,8 +157,8 @@ module _ (r : RefPair) (few : r.common ≤ 7) (m n : ℕ) where
         equal = map (after (suc k)) h.same;
         greater = map (after (suc k)) h.after;
         is = ap (map (after k)) h.is ∙ three_parts k h.before h.same h.after
-            ∙ ap₂ (λ (xs ys : List Answer). xs ++ ys) (under_is Lt k h.before (omega arith) first h.less)
-            (ap₂ (λ (xs ys : List Answer). xs ++ ys) (under_is Eq k h.same (omega arith) second h.equal) (under_is Gt k h.after (omega arith) third h.greater));
+            ∙ ap₂ (λ (xs ys : List VectorVerdict). xs ++ ys) (under_is Lt k h.before (omega arith) first h.less)
+            (ap₂ (λ (xs ys : List VectorVerdict). xs ++ ys) (under_is Eq k h.same (omega arith) second h.equal) (under_is Gt k h.after (omega arith) third h.greater));
         merged = (
           merged_of j (suc k) h.before (omega arith) first h.before_merged,
           merged_of j (suc k) h.same (omega arith) second h.same_merged,
@@ -186,7 +186,7 @@ module _ (r : RefPair) (few : r.common ≤ 7) (m n : ℕ) where
         map (after (suc k)) h.led,
         map (after (suc k)) h.rest,
         ap (map (after k)) h.is ∙ map-append (after k) h.led h.rest
-            ∙ ap₂ (λ (xs ys : List Answer). xs ++ ys) (under_is Lt k h.led (omega arith) first h.less) (under_is Eq k h.rest (omega arith) second h.equal),
+            ∙ ap₂ (λ (xs ys : List VectorVerdict). xs ++ ys) (under_is Lt k h.led (omega arith) first h.less) (under_is Eq k h.rest (omega arith) second h.equal),
         merged_of j (suc k) h.led (omega arith) first h.led_merged,
         listed_of s t turn j (suc k) h.rest w (omega arith) second h.rest_listed,
       )

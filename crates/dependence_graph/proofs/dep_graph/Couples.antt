@@ -20,7 +20,7 @@ use Rattle.direction_vectors.specs.vector_tests.Refs.{IsRefPair, IsSubscriptOf, 
 use Rattle.direction_vectors.specs.declared.vector_tests.refs.RefPair.{RefPair}
 use Rattle.dependence_graph.specs.nest_graph.References.{variables_round}
 use Rattle.dependence_graph.specs.nest_graph.Ready.{AreElements, HaveTrips, subscript_count}
-use Rattle.dependence_graph.specs.nest_graph.Indices.{SubscriptPair, form_in, paired, pairs_in}
+use Rattle.dependence_graph.specs.nest_graph.Indices.{SubscriptPair, linear_subscript_form, paired_forms, pairs_in}
 use Rattle.dependence_graph.specs.nest_graph.Paired.{affine_of, pairing_from, refs_of, seven, unknown_of, unknown_pairing}
 use Rattle.dependence_graph.specs.nest_graph.Tested.{Both, common_of}
 use Rattle.dependence_graph.specs.nest_references.Occurrences.{AreFormsIn, HasSevenLoops, IsFormIn, IsOccurrenceOf}
@@ -326,11 +326,11 @@ found_is n (Some f) None m h l = absurd h
 found_is n (Some f) (Some a) m h l = ap (λ (z : Affine). Some z) (affine_is n f a m h l)
 
 form_is : (loops symbols : List (List ℕ)) (s : Subscript) (p : Option Affine) → length loops ≤ 7 → IsFormIn loops symbols s p → HasSevenLoops p
-    → p ≡ as_affine (length loops) (form_in loops symbols s)
+    → p ≡ as_affine (length loops) (linear_subscript_form loops symbols s)
 form_is loops symbols (Only e) p m h l = found_is (length loops) (form_of loops symbols e) p m h l
 form_is loops symbols (Section a b c) p m h l = h
 
-both_forms : (blank : Pairing) (m n : ℕ) (f g : Option Form) → pairing_with blank (as_affine m f) (as_affine n g) ≡ pairing_from blank m n (paired f g)
+both_forms : (blank : Pairing) (m n : ℕ) (f g : Option Form) → pairing_with blank (as_affine m f) (as_affine n g) ≡ pairing_from blank m n (paired_forms f g)
 both_forms blank m n None g = refl
 both_forms blank m n (Some f) None = refl
 both_forms blank m n (Some f) (Some g) = refl
@@ -343,10 +343,10 @@ module _ (b : Both) (blank : Pairing) (few : length (variables_round b.first) �
   second = variables_round b.second
 
   one_pairing : (s t : Subscript) (p q : Option Affine) → IsFormIn first b.symbols s p → IsFormIn second b.symbols t q → HasSevenLoops p → HasSevenLoops q
-      → pairing_with blank p q ≡ pairing_from blank (length first) (length second) (paired (form_in first b.symbols s) (form_in second b.symbols t))
+      → pairing_with blank p q ≡ pairing_from blank (length first) (length second) (paired_forms (linear_subscript_form first b.symbols s) (linear_subscript_form second b.symbols t))
   one_pairing s t p q h k l m =
       ap₂ (pairing_with blank) (form_is first b.symbols s p few h l) (form_is second b.symbols t q fewer k m)
-      ∙ both_forms blank (length first) (length second) (form_in first b.symbols s) (form_in second b.symbols t)
+      ∙ both_forms blank (length first) (length second) (linear_subscript_form first b.symbols s) (linear_subscript_form second b.symbols t)
 
   abbrev each_pairing : Option SubscriptPair → Pairing
   each_pairing o = pairing_from blank (length first) (length second) o

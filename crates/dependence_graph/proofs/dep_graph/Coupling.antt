@@ -19,7 +19,7 @@ use Rattle.direction_vectors.specs.declared.vector_tests.refs.RefPair.{RefPair}
 use Rattle.dependence_graph.specs.nest_graph.Arcs.{in_places}
 use Rattle.dependence_graph.specs.nest_graph.Indices.{AreCoupled, Contains, First, Index, IsIndex, IsChain, IsSivIn, IsZiv, Second, Shared, SubscriptPair, subscript_pairs}
 use Rattle.dependence_graph.specs.nest_graph.Paired.{pairing_of, refs_of}
-use Rattle.dependence_graph.specs.nest_graph.Refuted.{EndsBefore, HasConstantLoop, HasNoTrip, IsCarrying, IsExactClass, IsRefuted, IsRefutedByOneLoop, IsRefutedByPair, IsWithin, SolvesAt, direction_of, last_at, last_of}
+use Rattle.dependence_graph.specs.nest_graph.Refuted.{EndsBefore, HasConstantLoop, HasNoTrip, IsCarrying, IsExactClass, IsRefuted, IsRefutedByOneLoop, IsRefutedByPair, IsWithin, SolvesAt, direction_of, last_at, last_of_index}
 use Rattle.dependence_graph.specs.nest_graph.Spans.{spans_of}
 use Rattle.dependence_graph.specs.nest_graph.Tested.{Both, common_of}
 use Rattle.dependence_graph.proofs.dep_graph.Couples.{common_first}
@@ -295,7 +295,7 @@ module _ (b : Both) (turn : Bool) (shallow : AreShallow b) where
         subst IsFixed (sym (padded_at ts (7 - length ts) k (omega arith))) (fixed_at [] b.second.loops k c)
 
     -- the last iteration of the loop
-    span_last : (p : SubscriptPair) (i : Index) → IsIndex b i → (old.span_of (pairing_of b (Some p)) (old_loop i)).last ≡ last_of b i
+    span_last : (p : SubscriptPair) (i : Index) → IsIndex b i → (old.span_of (pairing_of b (Some p)) (old_loop i)).last ≡ last_of_index b i
     span_last p (Shared k) h =
         let m = common_first b.first.loops b.second.loops in let n = spans_round [] b.first.loops in
         let l : k < length fs = omega arith in
@@ -314,7 +314,7 @@ module _ (b : Both) (turn : Bool) (shallow : AreShallow b) where
     direction_is (First k) = refl
     direction_is (Second k) = refl
 
-    within_last : (p : SubscriptPair) (i : Index) (x : ℤ) → IsIndex b i → WithinSpan (old.span_of (pairing_of b (Some p)) (old_loop i)) x → IsWithin (last_of b i) x
+    within_last : (p : SubscriptPair) (i : Index) (x : ℤ) → IsIndex b i → WithinSpan (old.span_of (pairing_of b (Some p)) (old_loop i)) x → IsWithin (last_of_index b i) x
     within_last p i x h w = subst (λ (o : Option ℤ). IsWithin o x) (span_last p i h) (w.low, w.high)
 
     by_one_loop : IsRefutedByOneLoop b v → ways.IsRefutedByOneLoop r (in_places v)

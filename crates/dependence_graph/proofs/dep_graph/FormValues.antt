@@ -10,7 +10,7 @@ use Rattle.subscripts.specs.declared.affine.Affine.{Affine}
 use Rattle.linear_forms.specs.Linear.{Form, number_at, weighted}
 use Rattle.linear_forms.specs.Places.{padded, terms_from}
 use Rattle.linear_forms.specs.Affines.{IsAffineOf}
-use Rattle.dependence_graph.specs.nest_graph.Touched.{values_from}
+use Rattle.dependence_graph.specs.nest_graph.Touched.{symbol_values_from}
 
 zero_times : (z : ℤ) → pos 0 *ℤ z ≡ pos 0
 zero_times z = omega (arith, ints)
@@ -54,30 +54,30 @@ over_front : (ts : List (ℕ × ℤ)) (v : ℕ → ℤ) (m : ℕ) → over_symbo
 over_front [] v m = unused v m
 over_front (t ∷ ts) v m = ap (λ r. t.1 *ℤ v t.0 +ℤ r) (over_front ts v m)
 
-over_terms : (names : List (List ℕ)) (cs : List ℤ) (o : ℕ) (v : ℕ → ℤ) → length cs ≤ length names → over_symbols (terms_from o cs) v ≡ weighted cs (values_from v o names)
+over_terms : (names : List (List ℕ)) (cs : List ℤ) (o : ℕ) (v : ℕ → ℤ) → length cs ≤ length names → over_symbols (terms_from o cs) v ≡ weighted cs (symbol_values_from v o names)
 over_terms names [] o v h = refl
 over_terms [] (c ∷ cs) o v h = absurd (omega arith)
 over_terms (x ∷ names) (c ∷ cs) o v h = by (int_eq c (pos 0)) refl (over_terms names cs (suc o) v (omega arith))
   where
-    by : (b : Bool) → int_eq c (pos 0) ≡ b → over_symbols (terms_from (suc o) cs) v ≡ weighted cs (values_from v (suc o) names)
-        → over_symbols (cond b (terms_from (suc o) cs) ((o, c) ∷ terms_from (suc o) cs)) v ≡ c *ℤ v o +ℤ weighted cs (values_from v (suc o) names)
-    by true e more = more ∙ sym (ap (λ z. z *ℤ v o +ℤ weighted cs (values_from v (suc o) names)) ((Decides-int_eq c (pos 0)).0 e) ∙ ap (λ z. z +ℤ weighted cs (values_from v (suc o) names)) (zero_times (v o)) ∙ zero_plus (weighted cs (values_from v (suc o) names)))
+    by : (b : Bool) → int_eq c (pos 0) ≡ b → over_symbols (terms_from (suc o) cs) v ≡ weighted cs (symbol_values_from v (suc o) names)
+        → over_symbols (cond b (terms_from (suc o) cs) ((o, c) ∷ terms_from (suc o) cs)) v ≡ c *ℤ v o +ℤ weighted cs (symbol_values_from v (suc o) names)
+    by true e more = more ∙ sym (ap (λ z. z *ℤ v o +ℤ weighted cs (symbol_values_from v (suc o) names)) ((Decides-int_eq c (pos 0)).0 e) ∙ ap (λ z. z +ℤ weighted cs (symbol_values_from v (suc o) names)) (zero_times (v o)) ∙ zero_plus (weighted cs (symbol_values_from v (suc o) names)))
     by false e more = ap (λ r. c *ℤ v o +ℤ r) more
 
 -- ---- a form
 
 -- the affine form of a linear form is worth as much as this; what stands past the loops doesn't matter
 pub affine_value : (f : Form) (a : Affine) (names : List (List ℕ)) (v : ℕ → ℤ) (xs ys : List ℤ) → IsAffineOf (length xs) f a
-    → length f.coefficients ≤ length xs + length names → value_at a v (xs ++ ys) ≡ number_at f (xs ++ values_from v 0 names)
+    → length f.coefficients ≤ length xs + length names → value_at a v (xs ++ ys) ≡ number_at f (xs ++ symbol_values_from v 0 names)
 affine_value f a names v xs ys h l =
     let loops : over_loops a.loops (xs ++ ys) ≡ weighted (take (length xs) f.coefficients) xs =
     alike a.loops (take (length xs) f.coefficients) (xs ++ ys) h.loops
     ∙ front (take (length xs) f.coefficients) xs ys (omega (arith, length-take (length xs) f.coefficients)) in
-    let symbols : over_symbols a.syms v ≡ weighted (drop (length xs) f.coefficients) (values_from v 0 names) =
+    let symbols : over_symbols a.syms v ≡ weighted (drop (length xs) f.coefficients) (symbol_values_from v 0 names) =
     ap (λ ts. over_symbols ts v) h.symbols
     ∙ over_front (terms_from 0 (drop (length xs) f.coefficients)) v _
     ∙ over_terms names (drop (length xs) f.coefficients) 0 v (omega (arith, length-drop (length xs) f.coefficients)) in
     ap₂ (λ p q. p +ℤ (q +ℤ a.constant)) loops symbols
-    ∙ ap (λ c. weighted (take (length xs) f.coefficients) xs +ℤ (weighted (drop (length xs) f.coefficients) (values_from v 0 names) +ℤ c)) h.constant
-    ∙ regroup (weighted (take (length xs) f.coefficients) xs) (weighted (drop (length xs) f.coefficients) (values_from v 0 names)) f.constant
-    ∙ ap (λ r. r +ℤ f.constant) (sym (split f.coefficients xs (values_from v 0 names)))
+    ∙ ap (λ c. weighted (take (length xs) f.coefficients) xs +ℤ (weighted (drop (length xs) f.coefficients) (symbol_values_from v 0 names) +ℤ c)) h.constant
+    ∙ regroup (weighted (take (length xs) f.coefficients) xs) (weighted (drop (length xs) f.coefficients) (symbol_values_from v 0 names)) f.constant
+    ∙ ap (λ r. r +ℤ f.constant) (sym (split f.coefficients xs (symbol_values_from v 0 names)))

@@ -18,7 +18,7 @@ use Rattle.subscripts.specs.declared.verdict.Point.{Point}
 use Rattle.subscripts.specs.declared.verdict.Test.{Test}
 use Rattle.subscripts.specs.declared.verdict.Verdict.{Verdict}
 use Rattle.subscripts.specs.declared.verdict.Verdict.TheVariants.{Never, Pair as Met, Assumed}
-use Rattle.components.specs.Lists.{Each, In, Pairwise}
+use Rattle.components.specs.Lists.{Each, IsMember, Pairwise}
 use Rattle.dependence_graph.specs.declared.graphs.Dep.{Dep}
 use Rattle.dependence_graph.specs.declared.graphs.Dep.TheVariants.{Anti, Flow, Output}
 use Rattle.dependence_graph.specs.declared.graphs.Graph.{Graph}
@@ -34,7 +34,7 @@ use Rattle.direction_vectors.specs.Answers.{AreAssumed as AreOpen, AreDropped as
 use Rattle.direction_vectors.specs.Candidates.{Answer, Covers, CoversCandidates}
 use Rattle.dependence_graph.specs.nest_graph.Arcs as arcs
 use Rattle.dependence_graph.specs.nest_graph.Arcs.{Couple, in_places}
-use Rattle.dependence_graph.specs.nest_graph.Graph.{AreAssumed, AreDependent, AreDropped, AreMet, IsAmong, IsCouple, IsEarlierCouple, IsEarlierPlace, IsGraphOf, IsRight, all_drops, all_edges, candidate_of}
+use Rattle.dependence_graph.specs.nest_graph.Graph.{AreAssumed, AreDependent, AreDropped, AreMet, IsAmong, IsCouple, IsEarlierCouple, IsEarlierPlace, IsGraphOf, IsRightVerdict, all_drops, all_edges, candidate_of}
 use Rattle.dependence_graph.specs.nest_graph.Indices.{SubscriptPair, subscript_pairs}
 use Rattle.dependence_graph.specs.nest_graph.Instances.{AreTurns}
 use Rattle.dependence_graph.specs.nest_graph.Touched.{Touches}
@@ -43,7 +43,7 @@ use Rattle.dependence_graph.specs.nest_graph.Paired.{refs_of}
 use Rattle.dependence_graph.specs.nest_graph.References.{references_of, variables_round}
 use Rattle.dependence_graph.specs.nest_graph.Ready.{IsElement, IsReady, IsReadyStatement}
 use Rattle.dependence_graph.specs.nest_graph.Spans.{spans_of}
-use Rattle.dependence_graph.specs.nest_graph.Tested.{AreReferences, Both, IsReference, common_of}
+use Rattle.dependence_graph.specs.nest_graph.Tested.{AreReferences, Both, IsReferenceAt, common_of}
 use Rattle.dependence_graph.specs.nest_graph.Vectors.{Allows, StandsFor}
 use Rattle.dependence_graph.specs.nest_references.Occurrences.{AreOccurrences, IsOccurrence, IsOccurrenceOf}
 use Rattle.dependence_graph.specs.declared.nest_references.occurrences.Occurrence.{Occurrence}
@@ -63,8 +63,8 @@ use Rattle.dependence_graph.proofs.dep_graph.Wording.{drop_word_of, edge_word_of
 
 -- two references of a ready nest, and what was kept of them
 pub record AreTwo (n : Nest) (s t : Standing) (r u : Reference) (a b : Occurrence) : Type 0 where
-  pub first : IsReference n a.place s r
-  pub second : IsReference n b.place t u
+  pub first : IsReferenceAt n a.place s r
+  pub second : IsReferenceAt n b.place t u
   pub first_kept : IsOccurrenceOf n.symbols s r a
   pub second_kept : IsOccurrenceOf n.symbols t u b
   pub ready : AreReadyStatements s t r u
@@ -269,12 +269,12 @@ module _ (n : Nest) (s t : Standing) (r u : Reference) (a b : Occurrence) (w : A
   }
 
   right_one : (k : Dep) (as' : List Answer) (d : Dirs) (v : Verdict) → IsVectorOf tested d → OnNever tested d v → OnPair tested d v → OnAssumed tested d v → OnKept tested v
-      → IsRight n (couple_of a b k as') b' (listed d) (as_verdict (length a.spans) (length b.spans) v)
+      → IsRightVerdict n (couple_of a b k as') b' (listed d) (as_verdict (length a.spans) (length b.spans) v)
   right_one k as' d (Never x) h never pair assumed kept = right_dropped k as' d x h never
   right_one k as' d (Met x y z) h never pair assumed kept = right_met k as' d x y z h pair kept
   right_one k as' d (Assumed z) h never pair assumed kept = right_assumed d z h assumed kept
 
-  abbrev as_new : Answer → arcs.Answer
+  abbrev as_new : Answer → arcs.VectorVerdict
   as_new x = as_answer (length a.spans) (length b.spans) x
 
   turn_is : IsTrue before ↔ (a.place.stmt < b.place.stmt)
@@ -328,12 +328,12 @@ module _ (n : Nest) (s t : Standing) (r u : Reference) (a b : Occurrence) (w : A
       array = w.first_kept.name;
       covered = λ v c.
           let f = forward_by v c in
-          once_of as_new (λ (x : Answer). Covers tested x.0 (in_places v)) (λ (y : arcs.Answer). StandsFor y.0 v) as' (alike v f as' h.vectors)
+          once_of as_new (λ (x : Answer). Covers tested x.0 (in_places v)) (λ (y : arcs.VectorVerdict). StandsFor y.0 v) as' (alike v f as' h.vectors)
           (h.covered (in_places v) (old_candidate tested few a.place.stmt b.place.stmt turn_is v f));
-      candidates = All-map (λ (y : arcs.Answer). (v : List Dir) → StandsFor y.0 v → IsNewCandidate v) as_new as'
+      candidates = All-map (λ (y : arcs.VectorVerdict). (v : List Dir) → StandsFor y.0 v → IsNewCandidate v) as_new as'
           (λ i d l. candidate_of_covered (get_or as' i d) (h.vectors i d l) (h.candidates i d l));
       merged = listed_of tested few (length a.spans) (length b.spans) a.place.stmt b.place.stmt before (common_of s.loops t.loops) 0 as' tells (omega arith) h.vectors h.merged;
-      right = All-map (λ (y : arcs.Answer). IsRight n (couple_of a b k as') b' y.0 y.1) as_new as'
+      right = All-map (λ (y : arcs.VectorVerdict). IsRightVerdict n (couple_of a b k as') b' y.0 y.1) as_new as'
           (λ i d l. right_one k as' (get_or as' i d).0 (get_or as' i d).1 (h.vectors i d l) (h.never i d l) (h.pair i d l) (h.assumed i d l) (h.kept i d l));
     }
 
@@ -495,10 +495,10 @@ couples_order (p ∷ ps) cs h c =
 -- one of the list has this place
 pub record HasPlace (os : List Occurrence) (p : Place) : Type 0 where
   pub occurrence : Occurrence
-  pub among : In occurrence os
+  pub among : IsMember occurrence os
   pub is : occurrence.place ≡ p
 
-has_place : (os : List Occurrence) (p : Place) → In p (map (λ (o : Occurrence). o.place) os) → HasPlace os p
+has_place : (os : List Occurrence) (p : Place) → IsMember p (map (λ (o : Occurrence). o.place) os) → HasPlace os p
 has_place [] p h = absurd h
 has_place (o ∷ os) p h =
     elim h [
@@ -506,15 +506,15 @@ has_place (o ∷ os) p h =
       | inr r ↦ let q = has_place os p r in record { occurrence = q.occurrence; among = inr q.among; is = q.is }
     ]
 
-in_row : (a b : Occurrence) (bs : List Occurrence) → In b bs → In (a, b) (row a bs)
+in_row : (a b : Occurrence) (bs : List Occurrence) → IsMember b bs → IsMember (a, b) (row a bs)
 in_row a b [] h = absurd h
 in_row a b (c ∷ bs) h = elim h [ inl e ↦ inl (ap (λ (o : Occurrence). (a, o)) e) | inr r ↦ inr (in_row a b bs r) ]
 
-in_table : (a b : Occurrence) (as' bs : List Occurrence) → In a as' → In b bs → In (a, b) (table as' bs)
+in_table : (a b : Occurrence) (as' bs : List Occurrence) → IsMember a as' → IsMember b bs → IsMember (a, b) (table as' bs)
 in_table a b [] bs h k = absurd h
 in_table a b (c ∷ as') bs h k =
     elim h [
-      | inl e ↦ in_front (a, b) (row c bs) (table as' bs) (subst (λ (o : Occurrence). In (a, b) (row o bs)) e (in_row a b bs k))
+      | inl e ↦ in_front (a, b) (row c bs) (table as' bs) (subst (λ (o : Occurrence). IsMember (a, b) (row o bs)) e (in_row a b bs k))
       | inr r ↦ in_rest (a, b) (row c bs) (table as' bs) (in_table a b as' bs r k)
     ]
 
@@ -538,7 +538,7 @@ among_one a b None k cs e h = cc
 among_one a b (Some d) k cs e h =
     subst (λ (ds : List Couple). IsAmong ds a.place b.place) (sym h.1) (record { at = 0; couple = couple_of a b d h.0; is_at = refl; from_is = refl; to_is = refl })
 
-among_all : (ps : List (Occurrence × Occurrence)) (cs : List Couple) (a b : Occurrence) (k : Dep) → In (a, b) ps → dependence_of a b ≡ Some k → AreCouplesIn ps cs → IsAmong cs a.place b.place
+among_all : (ps : List (Occurrence × Occurrence)) (cs : List Couple) (a b : Occurrence) (k : Dep) → IsMember (a, b) ps → dependence_of a b ≡ Some k → AreCouplesIn ps cs → IsAmong cs a.place b.place
 among_all [] cs a b k h e c = absurd h
 among_all (p ∷ ps) cs a b k h e c =
     subst (λ (ds : List Couple). IsAmong ds a.place b.place) (sym c.2)
@@ -553,7 +553,7 @@ some_kind zero (suc q) h = (Flow, refl)
 some_kind (suc p) zero h = (Anti, refl)
 some_kind (suc p) (suc q) h = elim h [ inl e ↦ absurd (omega arith) | inr e ↦ absurd (omega arith) ]
 
-in_each : {A : Type 0} (P : A → Type 0) (xs : List A) (x : A) → Each P xs → In x xs → P x
+in_each : {A : Type 0} (P : A → Type 0) (xs : List A) (x : A) → Each P xs → IsMember x xs → P x
 in_each P [] x h i = absurd i
 in_each P (y ∷ xs) x h i = elim i [ inl e ↦ subst P (sym e) h.0 | inr r ↦ in_each P xs x h.1 r ]
 

@@ -27,7 +27,7 @@ use Rattle.dependence_graph.specs.nest_graph.Pair.{kind_between}
 use Rattle.dependence_graph.specs.declared.nest_references.occurrences.Occurrence.{Occurrence}
 use Rattle.dependence_graph.specs.dep_graph.Joined.{AreCouplesAs, AreCouplesIn, AreJoined, AreVectors, all_drops_at, all_edges_at, as_answer, as_verdict, couple_of, dependence_of, drops_at, edge_at, edges_at, ref_pair_of, row, table}
 use Rattle.dependence_graph.specs.declared.dep_graph.lines.Ends.{Ends}
-use Rattle.dependence_graph.specs.declared.dep_graph.lines.Lines.{Lines}
+use Rattle.dependence_graph.specs.declared.dep_graph.lines.Dependences.{Dependences}
 use Rattle.dependence_graph.proofs.dep_graph.Directions.{listed, places_are}
 use Rattle.dependence_graph.proofs.dep_graph.Lists.{iteration_is}
 
@@ -51,10 +51,10 @@ in-append (p ∷ ps) qs cs ds h k =
 
 -- ---- lines
 
-pub joined_none : (old : Lines) → AreJoined [] old old
+pub joined_none : (old : Dependences) → AreJoined [] old old
 joined_none old = record { couples = []; are = refl; edges = sym (append-nil old.edges); dropped = sym (append-nil old.dropped) }
 
-pub joined_then : (ps qs : List (Occurrence × Occurrence)) (old mid new : Lines) → AreJoined ps old mid → AreJoined qs mid new → AreJoined (ps ++ qs) old new
+pub joined_then : (ps qs : List (Occurrence × Occurrence)) (old mid new : Dependences) → AreJoined ps old mid → AreJoined qs mid new → AreJoined (ps ++ qs) old new
 joined_then ps qs old mid new h k = record {
   couples = h.couples ++ k.couples;
   are = in-append ps qs h.couples k.couples h.are k.are;
@@ -64,8 +64,8 @@ joined_then ps qs old mid new h k = record {
       ∙ ap (λ es. old.dropped ++ es) (sym (drops-append h.couples k.couples));
 }
 
-pub joined_same : (ps : List (Occurrence × Occurrence)) (old new other : Lines) → new ≡ other → AreJoined ps old new → AreJoined ps old other
-joined_same ps old new other e h = subst (λ (l : Lines). AreJoined ps old l) e h
+pub joined_same : (ps : List (Occurrence × Occurrence)) (old new other : Dependences) → new ≡ other → AreJoined ps old new → AreJoined ps old other
+joined_same ps old new other e h = subst (λ (l : Dependences). AreJoined ps old l) e h
 
 -- ---- one couple
 
@@ -80,7 +80,7 @@ module _ (a b : Occurrence) (r : RefPair) (few : r.common ≤ 7) (first : r.from
   abbrev AreThere : List Answer → Type 0
   AreThere as' = Each (λ (x : Answer). IsVectorOf r x.0 × OnPair r x.0 x.1) as'
 
-  abbrev as_new : Answer → arcs.Answer
+  abbrev as_new : Answer → arcs.VectorVerdict
   as_new x = as_answer (length a.spans) (length b.spans) x
 
   edges_are : (k : Dep) (all as' : List Answer) → AreThere as' → all_edges_at (ends_of a b k) as' ≡ edges_of (couple_of a b k all) (map as_new as')
@@ -117,7 +117,7 @@ module _ (a b : Occurrence) (r : RefPair) (few : r.common ≤ 7) (first : r.from
     all_there as' (All-tail (λ (y : Answer). IsVectorOf r y.0) x as' h) (All-tail (λ (y : Answer). OnPair r y.0 y.1) x as' g),
   )
 
-pub joined_one : (a b : Occurrence) (k : Dep) (answers : List Answer) (old new : Lines) → IsRefPair (ref_pair_of a b) → Some k ≡ dependence_of a b → AreVectors (ref_pair_of a b) answers
+pub joined_one : (a b : Occurrence) (k : Dep) (answers : List Answer) (old new : Dependences) → IsRefPair (ref_pair_of a b) → Some k ≡ dependence_of a b → AreVectors (ref_pair_of a b) answers
     → new.edges ≡ old.edges ++ all_edges_at (ends_of a b k) answers → new.dropped ≡ old.dropped ++ all_drops_at (ends_of a b k) answers → AreJoined ((a, b) ∷ []) old new
 joined_one a b k answers old new refs e v h g =
     let c = couple_of a b k answers in
@@ -131,7 +131,7 @@ joined_one a b k answers old new refs e v h g =
       dropped = g ∙ ap (λ es. old.dropped ++ es) (drops_are a b r few refl refl refs.from_depth refs.to_depth k answers answers there ∙ sym (append-nil (drops_of c c.answers)));
     }
 
-pub joined_apart : (a b : Occurrence) (old : Lines) → None ≡ dependence_of a b → AreJoined ((a, b) ∷ []) old old
+pub joined_apart : (a b : Occurrence) (old : Dependences) → None ≡ dependence_of a b → AreJoined ((a, b) ∷ []) old old
 joined_apart a b old e = record {
   couples = [];
   are = ([], [], refl, subst (λ (o : Option Dep). AreCouplesAs o a b []) e refl, refl);
@@ -151,22 +151,22 @@ kind_alike a b k e = sym (e ∙ ap (λ t. cond t (kind_between a.place.at b.plac
 
 -- ---- rows and tables
 
-pub row_more : (a : Occurrence) (bs : List Occurrence) (i : ℕ) (b : Occurrence) (old mid new : Lines) → i < length bs → b ≡ get_or bs i b
+pub row_more : (a : Occurrence) (bs : List Occurrence) (i : ℕ) (b : Occurrence) (old mid new : Dependences) → i < length bs → b ≡ get_or bs i b
     → AreJoined (row a (take i bs)) old mid → AreJoined ((a, b) ∷ []) mid new → AreJoined (row a (take (i + 1) bs)) old new
 row_more a bs i b old mid new h e p q =
     subst (λ (ps : List (Occurrence × Occurrence)). AreJoined ps old new)
     (sym (ap (row a) (one_more bs i b h e) ∙ map-append (λ (c : Occurrence). (a, c)) (take i bs) (b ∷ [])))
     (joined_then (row a (take i bs)) ((a, b) ∷ []) old mid new p q)
 
-pub table_more : (as' bs : List Occurrence) (i : ℕ) (a : Occurrence) (old mid new : Lines) → i < length as' → a ≡ get_or as' i a
+pub table_more : (as' bs : List Occurrence) (i : ℕ) (a : Occurrence) (old mid new : Dependences) → i < length as' → a ≡ get_or as' i a
     → AreJoined (table (take i as') bs) old mid → AreJoined (row a bs) mid new → AreJoined (table (take (i + 1) as') bs) old new
 table_more as' bs i a old mid new h e p q =
     subst (λ (ps : List (Occurrence × Occurrence)). AreJoined ps old new)
     (sym (ap (λ (xs : List Occurrence). table xs bs) (one_more as' i a h e) ∙ flat_map-append (λ (c : Occurrence). row c bs) (take i as') (a ∷ []) ∙ ap (λ ps. table (take i as') bs ++ ps) (append-nil (row a bs))))
     (joined_then (table (take i as') bs) (row a bs) old mid new p q)
 
-pub row_all : (a : Occurrence) (bs : List Occurrence) (i : ℕ) (old new : Lines) → length bs ≤ i → AreJoined (row a (take i bs)) old new → AreJoined (row a bs) old new
+pub row_all : (a : Occurrence) (bs : List Occurrence) (i : ℕ) (old new : Dependences) → length bs ≤ i → AreJoined (row a (take i bs)) old new → AreJoined (row a bs) old new
 row_all a bs i old new h j = subst (λ (xs : List Occurrence). AreJoined (row a xs) old new) (take_all i bs h) j
 
-pub table_all : (as' bs : List Occurrence) (i : ℕ) (old new : Lines) → length as' ≤ i → AreJoined (table (take i as') bs) old new → AreJoined (table as' bs) old new
+pub table_all : (as' bs : List Occurrence) (i : ℕ) (old new : Dependences) → length as' ≤ i → AreJoined (table (take i as') bs) old new → AreJoined (table as' bs) old new
 table_all as' bs i old new h j = subst (λ (xs : List Occurrence). AreJoined (table xs bs) old new) (take_all i as' h) j

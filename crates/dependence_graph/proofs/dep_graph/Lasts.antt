@@ -10,7 +10,7 @@ use Rattle.nest.specs.declared.parts.Trip.{Trip}
 use Rattle.nest.specs.Plain.{Loop}
 use Rattle.dependence_graph.specs.nest_graph.Spans as spans
 use Rattle.dependence_graph.specs.nest_graph.Spans.{ends_at, has_no_turn, is_open, last_after, span_of, spans_of}
-use Rattle.dependence_graph.specs.nest_graph.Trips.{HasConstantTrip, capped, corner, ends_early, greatest_sum, has_no_symbol, is_constant, last_by, lasts_of}
+use Rattle.dependence_graph.specs.nest_graph.Trips.{HasConstantTrip, capped, corner_of_trip, ends_early, greatest_sum_of_trips, has_no_symbol, has_constant_top, last_by, lasts_of}
 
 abbrev pub last_in : Span → Option ℤ
 last_in s = s.last
@@ -23,18 +23,18 @@ any_early : (ss : List Span) → list_any has_no_turn ss ≡ list_any ends_early
 any_early [] = refl
 any_early (s ∷ ss) = ap (λ (b : Bool). ends_early s.last || b) (any_early ss)
 
-corners : (a : ℤ) (s : Span) → spans.corner a s ≡ corner a s.last
+corners : (a : ℤ) (s : Span) → spans.corner a s ≡ corner_of_trip a s.last
 corners (pos n) s = refl
 corners (negsuc n) s = refl
 
-sums : (cs : List ℤ) (ss : List Span) → spans.greatest_sum cs ss ≡ greatest_sum cs (map last_in ss)
+sums : (cs : List ℤ) (ss : List Span) → spans.greatest_sum cs ss ≡ greatest_sum_of_trips cs (map last_in ss)
 sums [] ss = refl
 sums (a ∷ as') [] = refl
 sums (a ∷ as') (s ∷ ss) = ap₂ (λ (x y : ℤ). a *ℤ x +ℤ y) (corners a s) (sums as' ss)
 
 last_after_is : (outer : List Span) (t : Trip) → last_after outer t
     ≡ cond (has_no_symbol t && not (list_any is_none (map last_in outer)))
-    (cond (list_any ends_early (map last_in outer)) (Some (pos 0)) (capped (int_div (greatest_sum t.top.loops (map last_in outer) +ℤ t.top.constant) t.by))) None
+    (cond (list_any ends_early (map last_in outer)) (Some (pos 0)) (capped (int_div (greatest_sum_of_trips t.top.loops (map last_in outer) +ℤ t.top.constant) t.by))) None
 last_after_is outer t =
     let rest : Bool → ℤ → Option ℤ = λ c z. cond c (Some (pos 0)) (capped (int_div (z +ℤ t.top.constant) t.by)) in
     ap (λ (x : Bool). cond (has_no_symbol t && not x) (rest (list_any has_no_turn outer) (spans.greatest_sum t.top.loops outer)) None) (any_open outer)
@@ -42,11 +42,11 @@ last_after_is outer t =
 
 last_is : (outer : List Span) (o : Option Trip) → (span_of outer o).last ≡ last_by (map last_in outer) o
 last_is outer None = refl
-last_is outer (Some t) = by (is_constant t)
+last_is outer (Some t) = by (has_constant_top t)
   where
     by : (b : Bool) → (cond b (record { last = Some (int_div t.top.constant t.by); fixed = true }) (ends_at (last_after outer t))).last
         ≡ cond b (Some (int_div t.top.constant t.by)) (cond (has_no_symbol t && not (list_any is_none (map last_in outer)))
-        (cond (list_any ends_early (map last_in outer)) (Some (pos 0)) (capped (int_div (greatest_sum t.top.loops (map last_in outer) +ℤ t.top.constant) t.by))) None)
+        (cond (list_any ends_early (map last_in outer)) (Some (pos 0)) (capped (int_div (greatest_sum_of_trips t.top.loops (map last_in outer) +ℤ t.top.constant) t.by))) None)
     by true = refl
     by false = last_after_is outer t
 
@@ -61,14 +61,14 @@ lasts_are outer (l ∷ ls) =
 
 -- ---- constant trips
 
-fixed_by : (outer : List Span) (o : Option Trip) → IsSomeAnd o (λ t. IsTrue (is_constant t)) → IsTrue (span_of outer o).fixed
+fixed_by : (outer : List Span) (o : Option Trip) → IsSomeAnd o (λ t. IsTrue (has_constant_top t)) → IsTrue (span_of outer o).fixed
 fixed_by outer None h = absurd h
 fixed_by outer (Some t) h =
     ap (λ (b : Bool). (cond b (record { last = Some (int_div t.top.constant t.by); fixed = true }) (ends_at (last_after outer t))).fixed) h
 
-constant_by : (outer : List Span) (o : Option Trip) → IsTrue (span_of outer o).fixed → IsSomeAnd o (λ t. IsTrue (is_constant t))
+constant_by : (outer : List Span) (o : Option Trip) → IsTrue (span_of outer o).fixed → IsSomeAnd o (λ t. IsTrue (has_constant_top t))
 constant_by outer None h = cc
-constant_by outer (Some t) h = by (is_constant t) h
+constant_by outer (Some t) h = by (has_constant_top t) h
   where
     by : (b : Bool) → (cond b (record { last = Some (int_div t.top.constant t.by); fixed = true }) (ends_at (last_after outer t))).fixed ≡ true → b ≡ true
     by true e = refl

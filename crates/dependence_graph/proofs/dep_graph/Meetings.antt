@@ -23,7 +23,7 @@ use Rattle.dependence_graph.specs.nest_graph.Instances.{AreTurns}
 use Rattle.dependence_graph.specs.nest_graph.References.{variables_round}
 use Rattle.dependence_graph.specs.nest_graph.Ready.{AreElements, HaveTrips}
 use Rattle.dependence_graph.specs.nest_graph.Tested.{common_of}
-use Rattle.dependence_graph.specs.nest_graph.Touched.{AreSubscriptsAt, IsSubscriptAt, Touches, values_from}
+use Rattle.dependence_graph.specs.nest_graph.Touched.{AreSubscriptsAt, IsSubscriptAt, Touches, symbol_values_from}
 use Rattle.dependence_graph.specs.nest_references.Occurrences.{AreFormsIn, IsFormIn}
 use Rattle.dependence_graph.specs.loop_spans.Greatest.{AreSpansOf}
 use Rattle.dependence_graph.proofs.loop_spans.TurnLaws.{fixed_turns, spans_length, turns_within}
@@ -36,7 +36,7 @@ use Rattle.dependence_graph.proofs.dep_graph.Places.{form_short}
 
 module _ (loops symbols : List (List ℕ)) (values : ℕ → ℤ) (x : List ℤ) (deep : length x ≡ length loops) where
   form_value : (e : Expression) (f : Form) (a : Affine) → form_of loops symbols e ≡ Some f → IsAffineOf (length loops) f a
-      → value_at a values (with_ones x) ≡ number_at f (x ++ values_from values 0 symbols)
+      → value_at a values (with_ones x) ≡ number_at f (x ++ symbol_values_from values 0 symbols)
   form_value e f a g h =
       affine_value f a symbols values x (ones (length x)) (subst (λ (n : ℕ). IsAffineOf n f a) (sym deep) h)
       (let s = form_short loops symbols e f g in omega (arith, length-append loops symbols))
@@ -47,7 +47,7 @@ module _ (loops symbols : List (List ℕ)) (values : ℕ → ℤ) (x : List ℤ)
   value_of_subscript e a z h k = by (form_of loops symbols e) refl h k
     where
       by : (o : Option Form) → form_of loops symbols e ≡ o → IsFound (length loops) o (Some a)
-          → MatchOption o ⊤ (λ (f : Form). z ≡ number_at f (x ++ values_from values 0 symbols)) → z ≡ value_at a values (with_ones x)
+          → MatchOption o ⊤ (λ (f : Form). z ≡ number_at f (x ++ symbol_values_from values 0 symbols)) → z ≡ value_at a values (with_ones x)
       by None g i j = absurd i
       by (Some f) g i j = j ∙ sym (form_value e f a g i)
 
@@ -56,7 +56,7 @@ module _ (loops symbols : List (List ℕ)) (values : ℕ → ℤ) (x : List ℤ)
   subscript_of_value e a z h k = by (form_of loops symbols e) refl h
     where
       by : (o : Option Form) → form_of loops symbols e ≡ o → IsFound (length loops) o (Some a)
-          → MatchOption o ⊤ (λ (f : Form). z ≡ number_at f (x ++ values_from values 0 symbols))
+          → MatchOption o ⊤ (λ (f : Form). z ≡ number_at f (x ++ symbol_values_from values 0 symbols))
       by None g i = absurd i
       by (Some f) g i = k ∙ form_value e f a g i
 

@@ -22,13 +22,13 @@ use Rattle.subscripts.specs.declared.affine.Dir.TheVariants.{Any}
 use Rattle.subscripts.specs.declared.affine.Span.{Span}
 use Rattle.subscripts.specs.declared.pairing.Pairing.{Pairing}
 use Rattle.dependence_graph.specs.nest_graph.Arcs.{in_places}
-use Rattle.dependence_graph.specs.nest_graph.Indices.{Cancels, Contains, First, Index, IsIndex, IsSivIn, IsZiv, Second, Shared, SubscriptPair, coefficient_at, first_of, form_in, paired, pairs_in, second_of, symbol_difference}
+use Rattle.dependence_graph.specs.nest_graph.Indices.{Cancels, Contains, First, Index, IsIndex, IsSivIn, IsZiv, Second, Shared, SubscriptPair, coefficient_at, first_of, linear_subscript_form, paired_forms, pairs_in, second_of, symbol_difference}
 use Rattle.dependence_graph.specs.nest_graph.Paired.{pairing_of}
 use Rattle.dependence_graph.specs.nest_graph.References.{variables_round}
-use Rattle.dependence_graph.specs.nest_graph.Refuted.{AreNeverEqual, DividesAll, IsInVector, IsOneSided, IsRefutedByGcd, IsWithin, difference, lasts_round}
+use Rattle.dependence_graph.specs.nest_graph.Refuted.{AreNeverEqual, DividesAll, IsInVector, IsOneSided, IsRefutedByGcd, IsWithin, pair_difference, lasts_round}
 use Rattle.dependence_graph.specs.nest_graph.Spans.{span_of, spans_of}
 use Rattle.dependence_graph.specs.nest_graph.Tested.{Both, common_of}
-use Rattle.dependence_graph.specs.nest_graph.Touched.{values_from}
+use Rattle.dependence_graph.specs.nest_graph.Touched.{symbol_values_from}
 use Rattle.dependence_graph.proofs.dep_graph.FormValues.{affine_value}
 use Rattle.dependence_graph.proofs.dep_graph.Lasts.{last_in, lasts_are}
 use Rattle.dependence_graph.proofs.dep_graph.Lists.{ones, with_ones}
@@ -82,14 +82,14 @@ pub record AreShort (b : Both) (p : SubscriptPair) : Type 0 where
   pub first : length p.first.coefficients ≤ length b.first.loops + length b.symbols
   pub second : length p.second.coefficients ≤ length b.second.loops + length b.symbols
 
-form_in_short : (loops symbols : List (List ℕ)) (s : Subscript) (f : Form) → form_in loops symbols s ≡ Some f → length f.coefficients ≤ length (loops ++ symbols)
+form_in_short : (loops symbols : List (List ℕ)) (s : Subscript) (f : Form) → linear_subscript_form loops symbols s ≡ Some f → length f.coefficients ≤ length (loops ++ symbols)
 form_in_short loops symbols (Only e) f h = form_short loops symbols e f h
 form_in_short loops symbols (Section x y z) f h = cc
 
 abbrev made : Form → Form → SubscriptPair
 made f g = record { first = f; second = g }
 
-paired_is : (o q : Option Form) (p : SubscriptPair) → paired o q ≡ Some p → (o ≡ Some p.first) × (q ≡ Some p.second)
+paired_is : (o q : Option Form) (p : SubscriptPair) → paired_forms o q ≡ Some p → (o ≡ Some p.first) × (q ≡ Some p.second)
 paired_is None q p e = cc
 paired_is (Some f) None p e = cc
 paired_is (Some f) (Some g) p e =
@@ -100,8 +100,8 @@ pub are_short : (b : Both) (rs us : Subscripts) (k : ℕ) (p : SubscriptPair) �
 are_short b no_subscripts us k p e = cc
 are_short b (subscript r rs) no_subscripts k p e = cc
 are_short b (subscript r rs) (subscript u us) zero p e =
-    let o : paired (form_in (variables_round b.first) b.symbols r) (form_in (variables_round b.second) b.symbols u) ≡ Some p = cc in
-    let f = paired_is (form_in (variables_round b.first) b.symbols r) (form_in (variables_round b.second) b.symbols u) p o in
+    let o : paired_forms (linear_subscript_form (variables_round b.first) b.symbols r) (linear_subscript_form (variables_round b.second) b.symbols u) ≡ Some p = cc in
+    let f = paired_is (linear_subscript_form (variables_round b.first) b.symbols r) (linear_subscript_form (variables_round b.second) b.symbols u) p o in
     let g = form_in_short (variables_round b.first) b.symbols r p.first f.0 in
     let h = form_in_short (variables_round b.second) b.symbols u p.second f.1 in
     let m = round_length b.first in let n = round_length b.second in
@@ -321,26 +321,26 @@ module _ (b : Both) (shallow : AreShallow b) (p : SubscriptPair) where
     -- ---- the difference of both sides
 
     first_value : (values : ℕ → ℤ) (x : List ℤ) → length x ≡ length b.first.loops
-        → value_at q.from values (with_ones x) ≡ number_at p.first (x ++ values_from values 0 b.symbols)
+        → value_at q.from values (with_ones x) ≡ number_at p.first (x ++ symbol_values_from values 0 b.symbols)
     first_value values x e =
         affine_value p.first q.from b.symbols values x (ones (length x))
         (subst (λ (m : ℕ). IsAffineOf m p.first q.from) (round_length b.first ∙ sym e) (is_affine (length (variables_round b.first)) p.first))
         (let s = short.first in omega arith)
 
     second_value : (values : ℕ → ℤ) (y : List ℤ) → length y ≡ length b.second.loops
-        → value_at q.to values (with_ones y) ≡ number_at p.second (y ++ values_from values 0 b.symbols)
+        → value_at q.to values (with_ones y) ≡ number_at p.second (y ++ symbol_values_from values 0 b.symbols)
     second_value values y e =
         affine_value p.second q.to b.symbols values y (ones (length y))
         (subst (λ (m : ℕ). IsAffineOf m p.second q.to) (round_length b.second ∙ sym e) (is_affine (length (variables_round b.second)) p.second))
         (let s = short.second in omega arith)
 
     pub difference_is : (values : ℕ → ℤ) (x y : List ℤ) → IsInVector b v x y
-        → forms.difference q values (with_ones x) (with_ones y) ≡ difference b p values x y
+        → forms.difference q values (with_ones x) (with_ones y) ≡ pair_difference b p values x y
     difference_is values x y h =
         ap₂ (λ (z w : ℤ). z -ℤ w) (first_value values x (first_count x (first_spans x h.first))) (second_value values y (second_count y (second_spans y h.second)))
 
     pub difference_back : (values : ℕ → ℤ) (x y : List ℤ) → IsInRegion q (in_places v) x y
-        → forms.difference q values x y ≡ difference b p values (first_front x) (second_front y)
+        → forms.difference q values x y ≡ pair_difference b p values (first_front x) (second_front y)
     difference_back values x y h =
         let ss = spans_of [] b.first.loops in let ts = spans_of [] b.second.loops in
         ap₂ (λ (z w : List ℤ). forms.difference q values z w) (with_ones_is ss x h.from_within) (with_ones_is ts y h.to_within)

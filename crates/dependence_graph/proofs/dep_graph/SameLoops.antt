@@ -3,48 +3,48 @@ use Rattle.std.proofs.Common.{◌≡◌, ◌⊎◌, inl, inr, ℕ, zero, suc, �
 use Rattle.std.specs.Prelude.{slice_get}
 use Rattle.std.proofs.lemmas.Bool.{eqb-true}
 use Rattle.tree.specs.Plain.{Expression}
-use Rattle.components.specs.Lists.{Distinct, Each, In}
+use Rattle.components.specs.Lists.{Distinct, Each, IsMember}
 use Rattle.nest.specs.Plain.{Branches, Guarded, Loop, Nest, Part, Parts, Run, Turns, Choice, Label, Jump, branch, no_branches, no_parts, part}
 use Rattle.nest.specs.Bodies.{Standing, loops_in_branches, loops_in_parts, loops_of, nest_loops, nest_statements, statements_in, statements_in_branches, statements_in_parts}
 use Rattle.dependence_graph.specs.nest_graph.Tested.{common_of}
 use Rattle.dependence_graph.proofs.loop_spans.TurnLaws.{HaveSameLoops}
 
-pub in_front : {A : Type 0} (x : A) (xs ys : List A) → In x xs → In x (xs ++ ys)
+pub in_front : {A : Type 0} (x : A) (xs ys : List A) → IsMember x xs → IsMember x (xs ++ ys)
 in_front x [] ys h = absurd h
 in_front x (z ∷ xs) ys h = elim h [ inl e ↦ inl e | inr r ↦ inr (in_front x xs ys r) ]
 
-pub in_rest : {A : Type 0} (x : A) (xs ys : List A) → In x ys → In x (xs ++ ys)
+pub in_rest : {A : Type 0} (x : A) (xs ys : List A) → IsMember x ys → IsMember x (xs ++ ys)
 in_rest x [] ys h = h
 in_rest x (z ∷ xs) ys h = inr (in_rest x xs ys h)
 
-pub in_either : {A : Type 0} (x : A) (xs ys : List A) → In x (xs ++ ys) → In x xs ⊎ In x ys
+pub in_either : {A : Type 0} (x : A) (xs ys : List A) → IsMember x (xs ++ ys) → IsMember x xs ⊎ IsMember x ys
 in_either x [] ys h = inr h
 in_either x (z ∷ xs) ys h = elim h [ inl e ↦ inl (inl e) | inr r ↦ elim (in_either x xs ys r) [ inl a ↦ inl (inr a) | inr b ↦ inr b ] ]
 
-pub in_at : {A : Type 0} (xs : List A) (i : ℕ) (x : A) → slice_get xs i ≡ Some x → In x xs
+pub in_at : {A : Type 0} (xs : List A) (i : ℕ) (x : A) → slice_get xs i ≡ Some x → IsMember x xs
 in_at [] i x e = cc
 in_at (y ∷ xs) zero x e = let f : x ≡ y = cc in inl f
 in_at (y ∷ xs) (suc i) x e = inr (in_at xs i x e)
 
 -- ---- loops round a statement
 
-wider : (l m : Loop) (ls more less : List Loop) → In l (ls ++ m ∷ []) ⊎ In l less → ((k : Loop) → In k less → In k more) → In m more → In l ls ⊎ In l more
+wider : (l m : Loop) (ls more less : List Loop) → IsMember l (ls ++ m ∷ []) ⊎ IsMember l less → ((k : Loop) → IsMember k less → IsMember k more) → IsMember m more → IsMember l ls ⊎ IsMember l more
 wider l m ls more less h f g =
     elim h [
       | inl a ↦ elim (in_either l ls (m ∷ []) a) [
         | inl b ↦ inl b
-        | inr b ↦ elim b [ inl e ↦ inr (subst (λ (k : Loop). In k more) (sym e) g) | inr c ↦ absurd c ]
+        | inr b ↦ elim b [ inl e ↦ inr (subst (λ (k : Loop). IsMember k more) (sym e) g) | inr c ↦ absurd c ]
       ]
       | inr a ↦ inr (f l a)
     ]
 
-right_of : (l : Loop) (ls less more : List Loop) → In l ls ⊎ In l less → ((k : Loop) → In k less → In k more) → In l ls ⊎ In l more
+right_of : (l : Loop) (ls less more : List Loop) → IsMember l ls ⊎ IsMember l less → ((k : Loop) → IsMember k less → IsMember k more) → IsMember l ls ⊎ IsMember l more
 right_of l ls less more h f = elim h [ inl a ↦ inl a | inr b ↦ inr (f l b) ]
 
 mutual
-  in_part : (ls : List Loop) (p : Part) (s : Standing) (l : Loop) → In s (statements_in ls p) → In l s.loops → In l ls ⊎ In l (loops_of p)
+  in_part : (ls : List Loop) (p : Part) (s : Standing) (l : Loop) → IsMember s (statements_in ls p) → IsMember l s.loops → IsMember l ls ⊎ IsMember l (loops_of p)
   in_part ls (Run c) s l h i =
-      elim h [ inl e ↦ inl (subst (λ (z : Standing). In l z.loops) e i) | inr a ↦ absurd a ]
+      elim h [ inl e ↦ inl (subst (λ (z : Standing). IsMember l z.loops) e i) | inr a ↦ absurd a ]
   in_part ls (Turns m ps) s l h i =
       wider l m ls (m ∷ loops_in_parts ps) (loops_in_parts ps) (in_parts (ls ++ m ∷ []) ps s l h i) (λ k g. inr g) (inl refl)
   in_part ls (Choice bs ps) s l h i =
@@ -55,7 +55,7 @@ mutual
   in_part ls (Label m) s l h i = absurd h
   in_part ls (Jump m) s l h i = absurd h
 
-  in_parts : (ls : List Loop) (ps : Parts) (s : Standing) (l : Loop) → In s (statements_in_parts ls ps) → In l s.loops → In l ls ⊎ In l (loops_in_parts ps)
+  in_parts : (ls : List Loop) (ps : Parts) (s : Standing) (l : Loop) → IsMember s (statements_in_parts ls ps) → IsMember l s.loops → IsMember l ls ⊎ IsMember l (loops_in_parts ps)
   in_parts ls no_parts s l h i = absurd h
   in_parts ls (part p ps) s l h i =
       elim (in_either s (statements_in ls p) (statements_in_parts ls ps) h) [
@@ -63,7 +63,7 @@ mutual
         | inr a ↦ right_of l ls (loops_in_parts ps) (loops_of p ++ loops_in_parts ps) (in_parts ls ps s l a i) (λ k g. in_rest k (loops_of p) (loops_in_parts ps) g)
       ]
 
-  in_branches : (ls : List Loop) (bs : Branches) (s : Standing) (l : Loop) → In s (statements_in_branches ls bs) → In l s.loops → In l ls ⊎ In l (loops_in_branches bs)
+  in_branches : (ls : List Loop) (bs : Branches) (s : Standing) (l : Loop) → IsMember s (statements_in_branches ls bs) → IsMember l s.loops → IsMember l ls ⊎ IsMember l (loops_in_branches bs)
   in_branches ls no_branches s l h i = absurd h
   in_branches ls (branch e ps bs) s l h i =
       elim (in_either s (statements_in_parts ls ps) (statements_in_branches ls bs) h) [
@@ -71,20 +71,20 @@ mutual
         | inr a ↦ right_of l ls (loops_in_branches bs) (loops_in_parts ps ++ loops_in_branches bs) (in_branches ls bs s l a i) (λ k g. in_rest k (loops_in_parts ps) (loops_in_branches bs) g)
       ]
 
-in_nest : (n : Nest) (s : Standing) (l : Loop) → In s (nest_statements n) → In l s.loops → In l (nest_loops n)
+in_nest : (n : Nest) (s : Standing) (l : Loop) → IsMember s (nest_statements n) → IsMember l s.loops → IsMember l (nest_loops n)
 in_nest n s l h i = elim (in_part [] n.body s l h i) [ inl a ↦ absurd a | inr b ↦ b ]
 
 -- ---- loops by their numbers
 
-number_in : (l : Loop) (xs : List Loop) → In l xs → In l.number (map (λ (k : Loop). k.number) xs)
+number_in : (l : Loop) (xs : List Loop) → IsMember l xs → IsMember l.number (map (λ (k : Loop). k.number) xs)
 number_in l [] h = absurd h
 number_in l (x ∷ xs) h = elim h [ inl e ↦ inl (ap (λ (k : Loop). k.number) e) | inr r ↦ inr (number_in l xs r) ]
 
-not_in : (n m : ℕ) (ns : List ℕ) → Each (λ k. n ≡ k → ⊥) ns → In m ns → n ≡ m → ⊥
+not_in : (n m : ℕ) (ns : List ℕ) → Each (λ k. n ≡ k → ⊥) ns → IsMember m ns → n ≡ m → ⊥
 not_in n m [] h i e = i
 not_in n m (k ∷ ns) h i e = elim i [ inl f ↦ h.0 (e ∙ f) | inr r ↦ not_in n m ns h.1 r e ]
 
-by_number : (l m : Loop) (xs : List Loop) → Distinct (map (λ (k : Loop). k.number) xs) → In l xs → In m xs → l.number ≡ m.number → l ≡ m
+by_number : (l m : Loop) (xs : List Loop) → Distinct (map (λ (k : Loop). k.number) xs) → IsMember l xs → IsMember m xs → l.number ≡ m.number → l ≡ m
 by_number l m [] d h i e = absurd h
 by_number l m (x ∷ xs) d h i e =
     elim h [
@@ -125,7 +125,7 @@ common_at (l ∷ ls) (m ∷ ms) k h = by (eqb l.number m.number) refl (λ j i. c
         zero_above : k < 0 → ⊥
         zero_above g = omega arith
 
-pub same_loops : (n : Nest) (s t : Standing) → Distinct (map (λ (l : Loop). l.number) (nest_loops n)) → In s (nest_statements n) → In t (nest_statements n) → HaveSameLoops s.loops t.loops
+pub same_loops : (n : Nest) (s t : Standing) → Distinct (map (λ (l : Loop). l.number) (nest_loops n)) → IsMember s (nest_statements n) → IsMember t (nest_statements n) → HaveSameLoops s.loops t.loops
 same_loops n s t d h i k l =
     let c = common_at s.loops t.loops k l in
     let e : c.first ≡ c.second = by_number c.first c.second (nest_loops n) d (in_nest n s c.first h (in_at s.loops k c.first c.is_first))

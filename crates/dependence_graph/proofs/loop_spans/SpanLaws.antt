@@ -19,7 +19,7 @@ use Rattle.subscripts.specs.Shapes.{IsSmall}
 use Rattle.subscripts.specs.declared.affine.Span.{Span}
 use Rattle.nest.specs.declared.parts.Trip.{Trip}
 use Rattle.dependence_graph.specs.nest_graph.Instances.{turns_at}
-use Rattle.dependence_graph.specs.nest_graph.Spans.{capped, corner, ends_at, ends_early, greatest_sum, greatest_trip, has_no_symbol, has_no_turn, is_constant, is_open, last_after, span_after}
+use Rattle.dependence_graph.specs.nest_graph.Spans.{capped, corner, ends_at, ends_early, greatest_sum, greatest_trip, has_no_symbol, has_no_turn, has_constant_top, is_open, last_after, span_after}
 use Rattle.dependence_graph.specs.loop_spans.Ends.{HasSmallEnd}
 use Rattle.dependence_graph.specs.loop_spans.Greatest.{HasNoSymbol, IsConstant, IsGreatest, IsSpan, is_empty, no_values}
 
@@ -45,12 +45,12 @@ no_symbol_is t h = all_hold (λ (s : ℕ × ℤ). int_eq s.1 (pos 0)) (λ (s : �
 pub is_no_symbol : (t : Trip) → HasNoSymbol t → has_no_symbol t ≡ true
 is_no_symbol t h = all_pass (λ (s : ℕ × ℤ). int_eq s.1 (pos 0)) (λ (s : ℕ × ℤ). s.1 ≡ pos 0) t.top.syms (λ s e. is_zero s.1 e) h
 
-pub constant_is : (t : Trip) → is_constant t ≡ true → IsConstant t
+pub constant_is : (t : Trip) → has_constant_top t ≡ true → IsConstant t
 constant_is t h =
     let k = and_parts (list_all (λ a. int_eq a (pos 0)) t.top.loops) (has_no_symbol t) h in
     record { loops = all_hold (λ a. int_eq a (pos 0)) (λ a. a ≡ pos 0) t.top.loops (λ a e. zero_is a e) k.0; symbols = no_symbol_is t k.1 }
 
-pub is_constant_by : (t : Trip) → IsConstant t → is_constant t ≡ true
+pub is_constant_by : (t : Trip) → IsConstant t → has_constant_top t ≡ true
 is_constant_by t h =
     and_from (list_all (λ a. int_eq a (pos 0)) t.top.loops) (has_no_symbol t)
     (all_pass (λ a. int_eq a (pos 0)) (λ a. a ≡ pos 0) t.top.loops (λ a e. is_zero a e) h.loops) (is_no_symbol t h.symbols)
@@ -277,14 +277,14 @@ capped_great (pos n) h = let e : 2 ^ 40 < n = omega (arith, ints) in cond-false 
 capped_great (negsuc n) h = absurd (omega (arith, ints))
 
 record IsVarying (t : Trip) : Type 0 where
-  varying : is_constant t ≡ false
+  varying : has_constant_top t ≡ false
   symbols : has_no_symbol t ≡ true
 
-not_constant : (t : Trip) → (IsConstant t → ⊥) → is_constant t ≡ false
-not_constant t h = false_from_ne_true (is_constant t) (λ e. h (constant_is t e))
+not_constant : (t : Trip) → (IsConstant t → ⊥) → has_constant_top t ≡ false
+not_constant t h = false_from_ne_true (has_constant_top t) (λ e. h (constant_is t e))
 
-pub at_varying : (outer : List Span) (t : Trip) → is_constant t ≡ false → span_after outer t ≡ ends_at (last_after outer t)
-at_varying outer t h = cond-false (is_constant t) _ _ h
+pub at_varying : (outer : List Span) (t : Trip) → has_constant_top t ≡ false → span_after outer t ≡ ends_at (last_after outer t)
+at_varying outer t h = cond-false (has_constant_top t) _ _ h
 
 pub last_open_trip : (outer : List Span) (t : Trip) → has_no_symbol t ≡ false → last_after outer t ≡ None
 last_open_trip outer t h = cond-false (has_no_symbol t && not (list_any is_open outer)) _ _ (ap (λ b. b && not (list_any is_open outer)) h)
@@ -307,8 +307,8 @@ not_open ss h = false_from_ne_true (list_any is_open ss) (λ e. h (open_is ss e)
 no_symbol_not : (t : Trip) → (HasNoSymbol t → ⊥) → has_no_symbol t ≡ false
 no_symbol_not t h = false_from_ne_true (has_no_symbol t) (λ e. h (no_symbol_is t e))
 
-symbol_varies : (t : Trip) → has_no_symbol t ≡ false → is_constant t ≡ false
-symbol_varies t h = false_from_ne_true (is_constant t) (λ e. let k = and_parts (list_all (λ a. int_eq a (pos 0)) t.top.loops) (has_no_symbol t) e in absurd_of k.1 h)
+symbol_varies : (t : Trip) → has_no_symbol t ≡ false → has_constant_top t ≡ false
+symbol_varies t h = false_from_ne_true (has_constant_top t) (λ e. let k = and_parts (list_all (λ a. int_eq a (pos 0)) t.top.loops) (has_no_symbol t) e in absurd_of k.1 h)
   where
     absurd_of : {b : Bool} → b ≡ true → b ≡ false → ⊥
     absurd_of e f = cc
@@ -342,7 +342,7 @@ at_greatest outer t m p h k o g =
 
 pub span_is : (outer : List Span) (t : Trip) → pos 1 ≤ℤ t.by → IsSpan outer t (span_after outer t)
 span_is outer t p = record {
-  constant = λ h. cond-true (is_constant t) _ _ (is_constant_by t h);
+  constant = λ h. cond-true (has_constant_top t) _ _ (is_constant_by t h);
   open_trip = λ h. let e = no_symbol_not t h in at_varying outer t (symbol_varies t e) ∙ ap ends_at (last_open_trip outer t e);
   open_loop = λ h a. at_varying outer t (not_constant t h) ∙ ap ends_at (last_open_loop outer t (is_open_by outer a));
   empty = λ h k o a. at_varying outer t (not_constant t h)
@@ -356,9 +356,9 @@ span_is outer t p = record {
 pub span_unique : (outer : List Span) (t : Trip) (s : Span) → pos 1 ≤ℤ t.by → IsSpan outer t s → s ≡ span_after outer t
 span_unique outer t s p h =
     let this = span_is outer t p in
-    elim (cases_Bool (is_constant t)) [
+    elim (cases_Bool (has_constant_top t)) [
       | inl c ↦ let k = constant_is t c in h.constant k ∙ sym (this.constant k)
-      | inr c ↦ let varies : IsConstant t → ⊥ = λ k. differ (is_constant t) (is_constant_by t k) c in
+      | inr c ↦ let varies : IsConstant t → ⊥ = λ k. differ (has_constant_top t) (is_constant_by t k) c in
           elim (cases_Bool (has_no_symbol t)) [
             | inr n ↦ let k : HasNoSymbol t → ⊥ = λ k. differ (has_no_symbol t) (is_no_symbol t k) n in h.open_trip k ∙ sym (this.open_trip k)
             | inl n ↦ elim (cases_Bool (list_any is_open outer)) [
@@ -392,7 +392,7 @@ span_unique outer t s p h =
 -- a fixed span is that of a constant trip
 pub fixed_is_constant : (outer : List Span) (t : Trip) (s : Span) → pos 1 ≤ℤ t.by → IsSpan outer t s → s.fixed ≡ true → IsConstant t
 fixed_is_constant outer t s p h f =
-    elim (cases_Bool (is_constant t)) [
+    elim (cases_Bool (has_constant_top t)) [
       | inl c ↦ constant_is t c
       | inr c ↦ absurd (differ (ap (λ (z : Span). z.fixed) (sym (span_unique outer t s p h ∙ at_varying outer t c)) ∙ f))
     ]

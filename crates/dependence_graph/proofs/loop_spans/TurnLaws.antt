@@ -10,9 +10,9 @@ use Rattle.subscripts.specs.Iterations.{WithinSpan, once}
 use Rattle.subscripts.specs.declared.affine.Span.{Span}
 use Rattle.nest.specs.Plain.{Loop}
 use Rattle.nest.specs.declared.parts.Trip.{Trip}
-use Rattle.dependence_graph.specs.nest_graph.Instances.{AreTurns, IsTurn, turns_at}
+use Rattle.dependence_graph.specs.nest_graph.Instances.{AreTurns, IsWithinTrip, turns_at}
 use Rattle.dependence_graph.specs.nest_graph.Ready.{HasTrip, HaveTrips, IsTripIn}
-use Rattle.dependence_graph.specs.nest_graph.Spans.{capped, greatest_trip, has_no_symbol, has_no_turn, is_constant, is_open, last_after, span_after, span_of, spans_of}
+use Rattle.dependence_graph.specs.nest_graph.Spans.{capped, greatest_trip, has_no_symbol, has_no_turn, has_constant_top, is_open, last_after, span_after, span_of, spans_of}
 use Rattle.dependence_graph.specs.nest_graph.Tested.{common_of}
 use Rattle.dependence_graph.specs.loop_spans.Greatest.{AreSpansOf, HasNoSymbol, IsConstant, IsSpan, IsSpanOf, no_values}
 use Rattle.dependence_graph.proofs.loop_spans.SpanLaws.{all_end, at_varying, constant_at, constant_is, fixed_is_constant, is_greatest, last_closed, last_open_loop, last_open_trip, no_symbol_is, none_within, same_trip, span_is, span_unique}
@@ -54,20 +54,20 @@ last_high outer t values before i p w h =
 within_after : (outer : List Span) (t : Trip) (values : ℕ → ℤ) (before : List ℤ) (i : ℤ) → pos 1 ≤ℤ t.by → WithinSpans outer before
     → pos 1 ≤ℤ i → i ≤ℤ turns_at t values before → WithinSpan (span_after outer t) i
 within_after outer t values before i p w l h =
-    elim (cases_Bool (is_constant t)) [
-      | inl c ↦ subst (λ (s : Span). WithinSpan s i) (sym (cond-true (is_constant t) _ _ c))
+    elim (cases_Bool (has_constant_top t)) [
+      | inl c ↦ subst (λ (s : Span). WithinSpan s i) (sym (cond-true (has_constant_top t) _ _ c))
           (record { low = l; high = subst (λ (z : ℤ). i ≤ℤ z) (constant_at t values before (constant_is t c)) h })
       | inr c ↦ subst (λ (s : Span). WithinSpan s i) (sym (at_varying outer t c)) (record { low = l; high = last_high outer t values before i p w h })
     ]
 
 one_turn : (d : ℕ) (outer : List Span) (o : Option Trip) (s : Span) (values : ℕ → ℤ) (before : List ℤ) (i : ℤ) → IsSomeAnd o (IsTripIn d) → IsSpanOf outer o s
-    → WithinSpans outer before → IsTurn o values before i → WithinSpan s i
+    → WithinSpans outer before → IsWithinTrip o values before i → WithinSpan s i
 one_turn d outer None s values before i p h w t = absurd h
 one_turn d outer (Some t) s values before i p h w k =
     subst (λ (r : Span). WithinSpan r i) (sym (span_unique outer t s p.positive h)) (within_after outer t values before i p.positive w k.0 k.1)
 
 fixed_turn : (d : ℕ) (outer : List Span) (o : Option Trip) (s : Span) (values : ℕ → ℤ) (before : List ℤ) (i : ℤ) → IsSomeAnd o (IsTripIn d) → IsSpanOf outer o s
-    → s.fixed ≡ true → WithinSpan s i → IsTurn o values before i
+    → s.fixed ≡ true → WithinSpan s i → IsWithinTrip o values before i
 fixed_turn d outer None s values before i p h f w = absurd h
 fixed_turn d outer (Some t) s values before i p h f w =
     let c = fixed_is_constant outer t s p.positive h f in

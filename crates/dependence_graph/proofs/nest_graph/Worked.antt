@@ -7,7 +7,7 @@ use Rattle.nest.specs.Bodies.{Standing}
 use Rattle.nest.specs.Plain.{Loop}
 use Rattle.subscripts.specs.declared.affine.Dir.TheVariants.{Lt, Eq, Gt, Any}
 use Rattle.dependence_graph.specs.declared.graphs.Dep.TheVariants.{Flow, Anti, Output}
-use Rattle.dependence_graph.specs.nest_graph.Arcs.{level_of}
+use Rattle.dependence_graph.specs.nest_graph.Arcs.{vector_level}
 use Rattle.dependence_graph.specs.nest_graph.Pair.{kind_between}
 use Rattle.dependence_graph.specs.nest_graph.References.{references_of}
 
@@ -39,10 +39,10 @@ unfolding indirect i_loop index left element scalar
 three_references = refl
 
 -- the level is that of the first `<`
-second_level : level_of (record { len = 3; at = Eq ∷ Lt ∷ Lt ∷ Any ∷ Any ∷ Any ∷ Any ∷ [] }) ≡ 2
+second_level : vector_level (record { len = 3; at = Eq ∷ Lt ∷ Lt ∷ Any ∷ Any ∷ Any ∷ Any ∷ [] }) ≡ 2
 second_level = refl
 
-independent : level_of (record { len = 2; at = Eq ∷ Eq ∷ Any ∷ Any ∷ Any ∷ Any ∷ Any ∷ [] }) ≡ 0
+independent : vector_level (record { len = 2; at = Eq ∷ Eq ∷ Any ∷ Any ∷ Any ∷ Any ∷ Any ∷ [] }) ≡ 0
 independent = refl
 
 write_then_read : kind_between 0 2 ≡ Some Flow

@@ -10,13 +10,13 @@ use Rattle.tree.specs.declared.exprs.Ref.{Ref}
 use Rattle.nest.specs.statement_loops.Standings.{standing_of}
 use Rattle.nest.specs.declared.statement_loops.standings.Standing.{Standing as Standing'}
 use Rattle.dependence_graph.specs.nest_graph.Ready.{IsReadyStatement}
-use Rattle.components.specs.Lists.{Each, In, Pairwise}
+use Rattle.components.specs.Lists.{Each, IsMember, Pairwise}
 use Rattle.dependence_graph.specs.declared.graphs.Place.{Place}
 use Rattle.nest.specs.Plain.{Nest}
 use Rattle.nest.specs.Bodies.{Standing, nest_statements}
 use Rattle.dependence_graph.specs.nest_graph.Graph.{IsEarlierPlace}
 use Rattle.dependence_graph.specs.nest_graph.References.{references_of}
-use Rattle.dependence_graph.specs.nest_graph.Tested.{IsReference}
+use Rattle.dependence_graph.specs.nest_graph.Tested.{IsReferenceAt}
 use Rattle.dependence_graph.specs.nest_references.Added.{IsAdded}
 use Rattle.dependence_graph.specs.nest_references.Occurrences.{AreOccurrences, AreOccurrencesFrom, AreOccurrencesIn, IsOccurrence, IsOccurrenceOf}
 use Rattle.dependence_graph.specs.declared.nest_references.occurrences.Occurrence.{Occurrence}
@@ -168,45 +168,45 @@ each_in n number (s ∷ ss) os f h =
     (λ j r g. ap (λ m. slice_get (references_of s) m) (omega arith) ∙ g) h.3)
     (each_in n (suc number) ss h.1 (λ j t g. ap (λ m. slice_get (nest_statements n) m) (omega arith) ∙ f (suc j) t g) h.4))
 
-in_front : {A : Type 0} (x : A) (xs ys : List A) → In x xs → In x (xs ++ ys)
+in_front : {A : Type 0} (x : A) (xs ys : List A) → IsMember x xs → IsMember x (xs ++ ys)
 in_front x [] ys h = absurd h
 in_front x (z ∷ xs) ys h = elim h [ inl e ↦ inl e | inr r ↦ inr (in_front x xs ys r) ]
 
-in_rest : {A : Type 0} (x : A) (xs ys : List A) → In x ys → In x (xs ++ ys)
+in_rest : {A : Type 0} (x : A) (xs ys : List A) → IsMember x ys → IsMember x (xs ++ ys)
 in_rest x [] ys h = h
 in_rest x (z ∷ xs) ys h = inr (in_rest x xs ys h)
 
 every_from : (symbols : List (List ℕ)) (number : ℕ) (s : Standing) (k : ℕ) (rs : List Reference) (os : List Occurrence) (j : ℕ) (r : Reference)
-    → AreOccurrencesFrom symbols number s k rs os → slice_get rs j ≡ Some r → In (place_at number (k + j)) (map place_in os)
+    → AreOccurrencesFrom symbols number s k rs os → slice_get rs j ≡ Some r → IsMember (place_at number (k + j)) (map place_in os)
 every_from symbols number s k [] os j r h e = cc
 every_from symbols number s k (q ∷ rs) [] j r h e = absurd h
 every_from symbols number s k (q ∷ rs) (o ∷ os) zero r h e = inl (ap (place_at number) (omega arith) ∙ sym h.0)
 every_from symbols number s k (q ∷ rs) (o ∷ os) (suc j) r h e =
-    inr (subst (λ m. In (place_at number m) (map place_in os)) (omega arith) (every_from symbols number s (suc k) rs os j r h.2 e))
+    inr (subst (λ m. IsMember (place_at number m) (map place_in os)) (omega arith) (every_from symbols number s (suc k) rs os j r h.2 e))
 
 none : (j : ℕ) → 0 + j ≡ j
 none j = omega arith
 
 every_in : (symbols : List (List ℕ)) (number : ℕ) (ss : List Standing) (os : List Occurrence) (i j : ℕ) (s : Standing) (r : Reference)
-    → AreOccurrencesIn symbols number ss os → slice_get ss i ≡ Some s → slice_get (references_of s) j ≡ Some r → In (place_at (number + i) j) (map place_in os)
+    → AreOccurrencesIn symbols number ss os → slice_get ss i ≡ Some s → slice_get (references_of s) j ≡ Some r → IsMember (place_at (number + i) j) (map place_in os)
 every_in symbols number [] os i j s r h e f = cc
 every_in symbols number (t ∷ ss) os zero j s r h e f =
     let same : t ≡ s = cc in
-    subst (λ (ps : List Occurrence). In (place_at (number + 0) j) (map place_in ps)) (sym h.2)
-    (subst (λ (ps : List Place). In (place_at (number + 0) j) ps) (sym (map-append place_in h.0 h.1))
+    subst (λ (ps : List Occurrence). IsMember (place_at (number + 0) j) (map place_in ps)) (sym h.2)
+    (subst (λ (ps : List Place). IsMember (place_at (number + 0) j) ps) (sym (map-append place_in h.0 h.1))
     (in_front (place_at (number + 0) j) (map place_in h.0) (map place_in h.1)
-    (subst (λ m. In (place_at m j) (map place_in h.0)) (omega arith)
-    (subst (λ m. In (place_at number m) (map place_in h.0)) (none j) (every_from symbols number t 0 (references_of t) h.0 j r h.3 (ap (λ (u : Standing). slice_get (references_of u) j) same ∙ f))))))
+    (subst (λ m. IsMember (place_at m j) (map place_in h.0)) (omega arith)
+    (subst (λ m. IsMember (place_at number m) (map place_in h.0)) (none j) (every_from symbols number t 0 (references_of t) h.0 j r h.3 (ap (λ (u : Standing). slice_get (references_of u) j) same ∙ f))))))
 every_in symbols number (t ∷ ss) os (suc i) j s r h e f =
-    subst (λ (ps : List Occurrence). In (place_at (number + suc i) j) (map place_in ps)) (sym h.2)
-    (subst (λ (ps : List Place). In (place_at (number + suc i) j) ps) (sym (map-append place_in h.0 h.1))
+    subst (λ (ps : List Occurrence). IsMember (place_at (number + suc i) j) (map place_in ps)) (sym h.2)
+    (subst (λ (ps : List Place). IsMember (place_at (number + suc i) j) ps) (sym (map-append place_in h.0 h.1))
     (in_rest (place_at (number + suc i) j) (map place_in h.0) (map place_in h.1)
-    (subst (λ m. In (place_at m j) (map place_in h.1)) (omega arith) (every_in symbols (suc number) ss h.1 i j s r h.4 e f))))
+    (subst (λ m. IsMember (place_at m j) (map place_in h.1)) (omega arith) (every_in symbols (suc number) ss h.1 i j s r h.4 e f))))
 
 pub all_occurrences : (n : Nest) (os : List Occurrence) → AreOccurrencesIn n.symbols 0 (nest_statements n) os → AreOccurrences n os
 all_occurrences n os h = record {
   each = each_in n 0 (nest_statements n) os (λ j s e. ap (λ m. slice_get (nest_statements n) m) (omega arith) ∙ e) h;
-  every = λ p s r i. subst (λ m. In (place_at m p.at) (map place_in os)) (omega arith) (every_in n.symbols 0 (nest_statements n) os p.stmt p.at s r h i.statement i.reference);
+  every = λ p s r i. subst (λ m. IsMember (place_at m p.at) (map place_in os)) (omega arith) (every_in n.symbols 0 (nest_statements n) os p.stmt p.at s r h i.statement i.reference);
   in_order = order_in n.symbols 0 (nest_statements n) os h;
 }
 

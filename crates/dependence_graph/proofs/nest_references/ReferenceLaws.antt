@@ -23,7 +23,7 @@ use Rattle.tree.proofs.Equations.{expression_of-list, expression_of-spread, expr
 use Rattle.nest.specs.Plain.{Loop}
 use Rattle.nest.specs.declared.parts.GuardedStmt.{GuardedStmt}
 use Rattle.nest.specs.View.{guarded_of, loop_of}
-use Rattle.dependence_graph.specs.nest_graph.References.{has_none, is_among, own_reference, references_in, references_in_all, references_in_guard, references_in_subscript, references_in_subscripts, references_of}
+use Rattle.dependence_graph.specs.nest_graph.References.{has_no_subscript, is_among, own_reference, references_in, references_in_all, references_in_guard, references_in_subscript, references_in_subscripts, references_of}
 use Rattle.dependence_graph.specs.nest_references.Items.{references_in_item}
 use Rattle.nest.specs.statement_loops.Standings.{standing_of}
 use Rattle.nest.specs.declared.statement_loops.standings.Standing.{Standing}
@@ -91,10 +91,10 @@ pub ruleset reference_laws = (ref-int, ref-truth, ref-item, ref-un, ref-bin, ref
 
 -- ---- the reference itself
 
-none_of : (ss : Seq Sub) → ss ≡ [] → has_none (subscripts (map subscript_of ss)) ≡ true
-none_of ss e = ap (λ (s : Seq Sub). has_none (subscripts (map subscript_of s))) e
+none_of : (ss : Seq Sub) → ss ≡ [] → has_no_subscript (subscripts (map subscript_of ss)) ≡ true
+none_of ss e = ap (λ (s : Seq Sub). has_no_subscript (subscripts (map subscript_of s))) e
 
-some_of : (ss : Seq Sub) → (ss ≡ [] → ⊥) → has_none (subscripts (map subscript_of ss)) ≡ false
+some_of : (ss : Seq Sub) → (ss ≡ [] → ⊥) → has_no_subscript (subscripts (map subscript_of ss)) ≡ false
 some_of [] h = absurd (h refl)
 some_of (s ∷ ss) h = refl
 
@@ -126,8 +126,8 @@ own_subscripted ls r h =
 pub own_other : (ls : List (List ℕ)) (r : Ref) → list_any (λ y. bytes_eq y (out-Ref r).name) ls ≡ false → own_reference ls (reference_of r).name (reference_of r).subscripts ≡ reference_of r ∷ []
 own_other ls r h =
     ap (λ (q : Reference). own_reference ls q.name q.subscripts) (reference_of-is r)
-    ∙ ap (λ b. cond (has_none (subscripts (map subscript_of (out-Ref r).subs))) (cond b [] (made ∷ [])) (made ∷ [])) (among_any ls (out-Ref r).name ∙ h)
-    ∙ same (has_none (subscripts (map subscript_of (out-Ref r).subs)))
+    ∙ ap (λ b. cond (has_no_subscript (subscripts (map subscript_of (out-Ref r).subs))) (cond b [] (made ∷ [])) (made ∷ [])) (among_any ls (out-Ref r).name ∙ h)
+    ∙ same (has_no_subscript (subscripts (map subscript_of (out-Ref r).subs)))
     ∙ ap (λ q. q ∷ []) (sym (reference_of-is r))
   where
     made : Reference

@@ -7,7 +7,7 @@ use Rattle.subscripts.specs.declared.affine.Dir.{Dir}
 use Rattle.subscripts.specs.declared.verdict.Test.{Test}
 use Rattle.subscripts.specs.declared.verdict.Test.TheVariants.{Trip}
 use Rattle.dependence_graph.specs.declared.graphs.Dep.{Dep}
-use Rattle.dependence_graph.specs.nest_graph.Arcs.{Answer, Assumed, Couple, Met, Never, Verdict}
+use Rattle.dependence_graph.specs.nest_graph.Arcs.{VectorVerdict, Assumed, Couple, Met, Never, Verdict}
 use Rattle.dependence_graph.specs.nest_graph.Graph.{IsCouple}
 use Rattle.dependence_graph.specs.nest_graph.Pair.{Pair, kind_between}
 use Rattle.dependence_graph.specs.nest_graph.References.{references_of}
@@ -24,7 +24,7 @@ use Rattle.dependence_graph.proofs.worked_graphs.Pairs.{IsOfWord, drop_word_of, 
 module _ (last : ℕ) (whole : int_div (pos last) (pos 1) ≡ pos last) (left : Reference) (right : Expression) (p q : ℕ) (r u : Reference) (a c b d : ℤ)
     (first : IsEnd (references_of (standing last whole left right)) p r a c) (second : IsEnd (references_of (standing last whole left right)) q u b d)
     (kind : Dep) (kind_is : kind_between p q ≡ Some kind) where
-  abbrev pub couple_here : List Answer → Couple
+  abbrev pub couple_here : List VectorVerdict → Couple
   couple_here answers = couple last whole left right p q r u first.there second.there kind kind_is answers
 
   abbrev both_here : Both

@@ -2,7 +2,7 @@
 use Rattle.std.proofs.Common.{◌≡◌, ◌⊎◌, inl, inr, ℕ, zero, suc, ◌<◌, refl, sym, ap, ap₂, ◌∙◌, subst, arith, Some, List, [], ◌∷◌, map}
 use Rattle.std.specs.Prelude.{All, slice_get}
 use Rattle.std.proofs.lemmas.List.Elements.{All-head, All-tail}
-use Rattle.components.specs.Lists.{Each, In, Pairwise}
+use Rattle.components.specs.Lists.{Each, IsMember, Pairwise}
 use Rattle.dependence_graph.specs.declared.graphs.Graph.{Graph}
 use Rattle.dependence_graph.specs.declared.graphs.Place.{Place}
 use Rattle.nest.specs.Plain.{Nest}
@@ -48,21 +48,21 @@ not_same_keys k m h e = let g = subst (λ (z : Key). IsEarlier z m) e h in not_b
 
 -- ---- lists
 
-in_each : {A : Type 0} (P : A → Type 0) (xs : List A) (x : A) → Each P xs → In x xs → P x
+in_each : {A : Type 0} (P : A → Type 0) (xs : List A) (x : A) → Each P xs → IsMember x xs → P x
 in_each P [] x h i = absurd i
 in_each P (y ∷ xs) x h i = elim i [ inl e ↦ subst P (sym e) h.0 | inr r ↦ in_each P xs x h.1 r ]
 
-pub in_all : {A : Type 0} (P : A → Type 0) (xs : List A) (x : A) → All P xs → In x xs → P x
+pub in_all : {A : Type 0} (P : A → Type 0) (xs : List A) (x : A) → All P xs → IsMember x xs → P x
 in_all P [] x h i = absurd i
 in_all P (y ∷ xs) x h i = elim i [ inl e ↦ subst P (sym e) (All-head P y xs h) | inr r ↦ in_all P xs x (All-tail P y xs h) r ]
 
 -- a couple with this key
 record HasKey (cs : List Couple) (k : Key) : Type 0 where
   couple : Couple
-  among : In couple cs
+  among : IsMember couple cs
   is : key couple ≡ k
 
-has_key : (cs : List Couple) (k : Key) → In k (map key cs) → HasKey cs k
+has_key : (cs : List Couple) (k : Key) → IsMember k (map key cs) → HasKey cs k
 has_key [] k h = absurd h
 has_key (c ∷ cs) k h =
     elim h [
@@ -71,12 +71,12 @@ has_key (c ∷ cs) k h =
     ]
 
 abbrev Covered : List Couple → List Key → Type 0
-Covered cs ks = (c : Couple) → In c cs → In (key c) ks
+Covered cs ks = (c : Couple) → IsMember c cs → IsMember (key c) ks
 
 abbrev Covering : List Couple → List Key → Type 0
-Covering cs ks = (k : Key) → In k ks → In k (map key cs)
+Covering cs ks = (k : Key) → IsMember k ks → IsMember k (map key cs)
 
-first_is : (c : Couple) (cs : List Couple) (k : Key) (ks : List Key) → Each (IsEarlierCouple c) cs → Each (IsEarlier k) ks → In (key c) (k ∷ ks) → In k (map key (c ∷ cs)) → key c ≡ k
+first_is : (c : Couple) (cs : List Couple) (k : Key) (ks : List Key) → Each (IsEarlierCouple c) cs → Each (IsEarlier k) ks → IsMember (key c) (k ∷ ks) → IsMember k (map key (c ∷ cs)) → key c ≡ k
 first_is c cs k ks h g i j =
     elim i [
       | inl e ↦ e
@@ -112,18 +112,18 @@ keys_are (c ∷ cs) (k ∷ ks) h g f e =
           | inr r ↦ r
         ]
 
-in_at : (cs : List Couple) (at : ℕ) (c : Couple) → slice_get cs at ≡ Some c → In c cs
+in_at : (cs : List Couple) (at : ℕ) (c : Couple) → slice_get cs at ≡ Some c → IsMember c cs
 in_at [] at c e = cc
 in_at (d ∷ cs) zero c e = let f : d ≡ c = cc in inl (sym f)
 in_at (d ∷ cs) (suc at) c e = inr (in_at cs at c e)
 
-in_keys : (cs : List Couple) (c : Couple) → In c cs → In (key c) (map key cs)
+in_keys : (cs : List Couple) (c : Couple) → IsMember c cs → IsMember (key c) (map key cs)
 in_keys [] c h = absurd h
 in_keys (d ∷ cs) c h = elim h [ inl e ↦ inl (ap key e) | inr r ↦ inr (in_keys cs c r) ]
 
 -- the keys of a graph's couples: those of dependent references
-pub graph_keys : (n : Nest) (g : Graph) (h : IsGraphOf n g) (ks : List Key) → Pairwise IsEarlier ks → ((c : Couple) → IsCouple n c → In (key c) ks)
-    → ((k : Key) → In k ks → AreDependent n k.0 k.1) → map key h.couples ≡ ks
+pub graph_keys : (n : Nest) (g : Graph) (h : IsGraphOf n g) (ks : List Key) → Pairwise IsEarlier ks → ((c : Couple) → IsCouple n c → IsMember (key c) ks)
+    → ((k : Key) → IsMember k ks → AreDependent n k.0 k.1) → map key h.couples ≡ ks
 graph_keys n g h ks order f e =
     keys_are h.couples ks h.in_order order (λ c i. f c (in_all (IsCouple n) h.couples c h.each i)) covering
   where
@@ -131,4 +131,4 @@ graph_keys n g h ks order f e =
     covering k i =
         let a : IsAmong h.couples k.0 k.1 = h.every k.0 k.1 (e k i) in
         let same : key a.couple ≡ k = ap₂ (λ (p q : Place). (p, q)) a.from_is a.to_is in
-        subst (λ (z : Key). In z (map key h.couples)) same (in_keys h.couples a.couple (in_at h.couples a.at a.couple a.is_at))
+        subst (λ (z : Key). IsMember z (map key h.couples)) same (in_keys h.couples a.couple (in_at h.couples a.at a.couple a.is_at))

@@ -7,9 +7,9 @@ use Rattle.subscripts.specs.declared.affine.Dir.TheVariants.{Lt, Eq}
 use Rattle.dependence_graph.specs.declared.graphs.Dep.{Dep}
 use Rattle.dependence_graph.specs.declared.graphs.Place.{Place}
 use Rattle.nest.specs.Bodies.{Standing}
-use Rattle.dependence_graph.specs.nest_graph.Arcs.{Answer, Couple, Verdict}
-use Rattle.dependence_graph.specs.nest_graph.Graph.{IsCouple, IsRight}
-use Rattle.dependence_graph.specs.nest_graph.Merged.{IsListed, under}
+use Rattle.dependence_graph.specs.nest_graph.Arcs.{VectorVerdict, Couple, Verdict}
+use Rattle.dependence_graph.specs.nest_graph.Graph.{IsCouple, IsRightVerdict}
+use Rattle.dependence_graph.specs.nest_graph.Merged.{IsListed, under_direction}
 use Rattle.dependence_graph.specs.nest_graph.Pair.{kind_between}
 use Rattle.dependence_graph.specs.nest_graph.References.{references_of}
 use Rattle.dependence_graph.specs.nest_graph.Tested.{AreReferences, Both, both, common_of}
@@ -22,27 +22,27 @@ use Rattle.dependence_graph.proofs.worked_graphs.OneLoop.{both_are, nest, refere
 not_before : 0 < 0 → ⊥
 not_before h = omega arith
 
-one_answer : (answers : List Answer) → IsListed 0 0 1 answers → (v : Verdict) × (answers ≡ (less, v) ∷ [])
+one_answer : (answers : List VectorVerdict) → IsListed 0 0 1 answers → (v : Verdict) × (answers ≡ (less, v) ∷ [])
 one_answer answers h = by h.0 h.1 h.2 h.3 h.4
   where
-    by : (xs ys : List Answer) → answers ≡ under Lt xs ++ under Eq ys → (v : Verdict) × (xs ≡ ([], v) ∷ [])
+    by : (xs ys : List VectorVerdict) → answers ≡ under_direction Lt xs ++ under_direction Eq ys → (v : Verdict) × (xs ≡ ([], v) ∷ [])
         → ((0 < 0) × ((v : Verdict) × (ys ≡ ([], v) ∷ []))) ⊎ ((0 < 0 → ⊥) × (ys ≡ [])) → (v : Verdict) × (answers ≡ (less, v) ∷ [])
     by xs ys e f (inl g) = absurd (not_before g.0)
-    by xs ys e f (inr g) = (f.0, e ∙ ap₂ (λ (as' bs : List Answer). under Lt as' ++ under Eq bs) f.1 g.1)
+    by xs ys e f (inr g) = (f.0, e ∙ ap₂ (λ (as' bs : List VectorVerdict). under_direction Lt as' ++ under_direction Eq bs) f.1 g.1)
 
 -- ---- the couple
 
 module _ (last : ℕ) (whole : int_div (pos last) (pos 1) ≡ pos last) (left : Reference) (right : Expression) (p q : ℕ) (r u : Reference)
     (first : slice_get (references_of (standing last whole left right)) p ≡ Some r) (second : slice_get (references_of (standing last whole left right)) q ≡ Some u)
     (kind : Dep) (kind_is : kind_between p q ≡ Some kind) where
-  abbrev pub couple : List Answer → Couple
+  abbrev pub couple : List VectorVerdict → Couple
   couple answers = record { from = at p; to = at q; kind = kind; array = r.name; answers = answers }
 
   abbrev pub refs : Both
   refs = two last whole left right p q r u first second
 
   -- what holds of the couple of references in these places
-  abbrev IsCoupleAt : Place → Place → List ℕ → List Answer → Type 0
+  abbrev IsCoupleAt : Place → Place → List ℕ → List VectorVerdict → Type 0
   IsCoupleAt x y array answers = (h : AreReferences (nest last whole left right) x y) × (array ≡ h.first_reference.name)
       × IsListed x.stmt y.stmt (common_of h.first.loops h.second.loops) answers
 
@@ -70,7 +70,7 @@ module _ (last : ℕ) (whole : int_div (pos last) (pos 1) ≡ pos last) (left : 
       )
 
   abbrev pub IsRightHere : Verdict → Type 0
-  IsRightHere v = IsRight (nest last whole left right) (couple ((less, v) ∷ [])) refs less v
+  IsRightHere v = IsRightVerdict (nest last whole left right) (couple ((less, v) ∷ [])) refs less v
 
   -- its only answer, which is right
   pub right_answer : (x : Couple) → IsCouple (nest last whole left right) x → key x ≡ (at p, at q) → (v : Verdict) × (x ≡ couple ((less, v) ∷ [])) × IsRightHere v
@@ -78,9 +78,9 @@ module _ (last : ℕ) (whole : int_div (pos last) (pos 1) ≡ pos last) (left : 
       let is = couple_is x h e in
       let c = couple ((less, is.0) ∷ []) in
       let all = subst (IsCouple (nest last whole left right)) is.1 h in
-      let P : Both → Type 0 = λ z. IsRight (nest last whole left right) c z less is.0 in (
+      let P : Both → Type 0 = λ z. IsRightVerdict (nest last whole left right) c z less is.0 in (
         is.0,
         is.1,
         subst P (both_are last whole left right p q r u first second all.refs)
-            (All-head (λ (y : Answer). IsRight (nest last whole left right) c (both (nest last whole left right) (at p) (at q) all.refs) y.0 y.1) (less, is.0) [] all.right),
+            (All-head (λ (y : VectorVerdict). IsRightVerdict (nest last whole left right) c (both (nest last whole left right) (at p) (at q) all.refs) y.0 y.1) (less, is.0) [] all.right),
       )

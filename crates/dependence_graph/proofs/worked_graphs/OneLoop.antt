@@ -10,7 +10,7 @@ use Rattle.dependence_graph.specs.declared.graphs.Dep.{Dep}
 use Rattle.nest.specs.Bodies.{Standing, nest_statements}
 use Rattle.nest.specs.Plain.{Nest}
 use Rattle.nest.specs.declared.parts.Trip.{Trip}
-use Rattle.dependence_graph.specs.nest_graph.Indices.{SubscriptPair, coefficient_at, paired, pairs_in, subscript_pairs}
+use Rattle.dependence_graph.specs.nest_graph.Indices.{SubscriptPair, coefficient_at, paired_forms, pairs_in, subscript_pairs}
 use Rattle.dependence_graph.specs.nest_graph.Instances.{AreTurns, turns_at}
 use Rattle.dependence_graph.specs.nest_graph.Paired.{affine_of}
 use Rattle.dependence_graph.specs.nest_graph.Pair.{Pair}
@@ -226,4 +226,4 @@ module _ (last : ℕ) (whole : int_div (pos last) (pos 1) ≡ pos last) (left : 
     pub pairs_are : subscript_pairs (two p q r u first.there second.there) ≡ Some pair ∷ []
     pairs_are =
         ap₂ (λ (ss ts : Subscripts). pairs_in (two p q r u first.there second.there) ss ts) first.subs second.subs
-        ∙ ap₂ (λ (f g : Option Form). paired f g ∷ []) first.form second.form
+        ∙ ap₂ (λ (f g : Option Form). paired_forms f g ∷ []) first.form second.form

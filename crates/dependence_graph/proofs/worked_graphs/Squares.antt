@@ -8,14 +8,14 @@ use Rattle.tree.specs.declared.ops.Op.TheVariants.{Mul}
 use Rattle.subscripts.specs.Forms.{AreRelated}
 use Rattle.subscripts.specs.declared.verdict.Test.{Test}
 use Rattle.subscripts.specs.declared.verdict.Test.TheVariants.{Strong, Unknown, Ziv}
-use Rattle.components.specs.Lists.{In}
+use Rattle.components.specs.Lists.{IsMember}
 use Rattle.dependence_graph.specs.declared.graphs.Dep.TheVariants.{Anti, Flow, Output}
 use Rattle.dependence_graph.specs.nest_graph.Arcs.{Assumed, Couple, Met, Never, Verdict}
 use Rattle.dependence_graph.specs.nest_graph.Graph.{IsCouple}
 use Rattle.dependence_graph.specs.nest_graph.Indices.{IsSeparable, SubscriptPair, subscript_pairs}
 use Rattle.dependence_graph.specs.nest_graph.Pair.{Pair}
 use Rattle.dependence_graph.specs.nest_graph.References.{references_of}
-use Rattle.dependence_graph.specs.nest_graph.Refuted.{IsInVector, IsRefuted, IsWithin, difference, lasts_round}
+use Rattle.dependence_graph.specs.nest_graph.Refuted.{IsInVector, IsRefuted, IsWithin, pair_difference, lasts_round}
 use Rattle.dependence_graph.specs.nest_graph.Tested.{Both}
 use Rattle.dependence_graph.specs.nest_graph.Words.{IsEdgeWord, IsFirstNotZiv}
 use Rattle.dependence_graph.specs.worked_graphs.Listed.{HasOnly, assumed, at, drop, less}
@@ -137,8 +137,8 @@ module _ (x : Couple) where
 pub of_square_listed : HasOnly of_square (assumed (at 0) (at 1) Flow "A" Unknown ∷ assumed (at 1) (at 0) Anti "A" Unknown ∷ []) (drop (at 0) (at 0) Output "A" Strong ∷ [])
 of_square_listed g h =
     let t = three_couples 100 refl (element "A" i) square (element "A" i) square_reference refl refl g h in
-    let each : (c : Couple) → In c (t.0 ∷ t.1 ∷ t.2 ∷ []) → IsCouple of_square c =
-    λ c j. in_all (IsCouple of_square) h.couples c h.each (subst (λ (cs : List Couple). In c cs) (sym t.3) j) in
+    let each : (c : Couple) → IsMember c (t.0 ∷ t.1 ∷ t.2 ∷ []) → IsCouple of_square c =
+    λ c j. in_all (IsCouple of_square) h.couples c h.each (subst (λ (cs : List Couple). IsMember c cs) (sym t.3) j) in
     let own = drops 100 refl (element "A" i) square 0 0 (element "A" i) (element "A" i) (pos 1) (pos 0) (pos 1) (pos 0) square_first square_first Output refl (left_one (pos 1)) Strong refl (omega (arith, ints)) square_own t.0 (each t.0 (inl refl)) t.4 in
     let flow = flow_couple t.1 (each t.1 (inr (inl refl))) t.5 in
     let anti = anti_couple t.2 (each t.2 (inr (inr (inl refl)))) t.6 in
@@ -168,15 +168,15 @@ front : HasOnlyFront own_pair.first (pos 1)
 front = record { front = refl; past = λ k. refl }
 
 -- an earlier iteration makes the first side less
-one_less : (x y : List ℤ) → IsInVector b less x y → (values : ℕ → ℤ) → difference b own_pair values x y <ℤ pos 0
+one_less : (x y : List ℤ) → IsInVector b less x y → (values : ℕ → ℤ) → pair_difference b own_pair values x y <ℤ pos 0
 one_less x y h values = by x y h.first h.second h.related
   where
-    by : (x y : List ℤ) → AllZip IsWithin (lasts_round b.first) x → AllZip IsWithin (lasts_round b.second) y → AreRelated less x y → difference b own_pair values x y <ℤ pos 0
+    by : (x y : List ℤ) → AllZip IsWithin (lasts_round b.first) x → AllZip IsWithin (lasts_round b.second) y → AreRelated less x y → pair_difference b own_pair values x y <ℤ pos 0
     by [] y f g r = absurd f
     by (k ∷ x) [] f g r = absurd g
     by (k ∷ x) (l ∷ y) f g r = less_by k l x y r.0
       where
-        less_by : (k l : ℤ) (x y : List ℤ) → k <ℤ l → difference b own_pair values (k ∷ x) (l ∷ y) <ℤ pos 0
+        less_by : (k l : ℤ) (x y : List ℤ) → k <ℤ l → pair_difference b own_pair values (k ∷ x) (l ∷ y) <ℤ pos 0
         less_by k l x y e = omega (arith, ints)
 
 refuted : IsRefuted b less
@@ -198,8 +198,8 @@ own_couple x h e =
 pub beside_square_listed : HasOnly beside_square [] (drop (at 0) (at 0) Output "A" Strong ∷ [])
 beside_square_listed g h =
     let t = one_couple 100 refl with_square right with_square (element "B" i) refl elementwise_differ g h in
-    let each : (c : Couple) → In c (t.0 ∷ []) → IsCouple beside_square c =
-    λ c j. in_all (IsCouple beside_square) h.couples c h.each (subst (λ (cs : List Couple). In c cs) (sym t.1) j) in
+    let each : (c : Couple) → IsMember c (t.0 ∷ []) → IsCouple beside_square c =
+    λ c j. in_all (IsCouple beside_square) h.couples c h.each (subst (λ (cs : List Couple). IsMember c cs) (sym t.1) j) in
     let own = own_couple t.0 (each t.0 (inl refl)) t.2 in
     let all = t.1 ∙ ap (λ (c : Couple). c ∷ []) own in
     (edges_by h.couples _ g.edges h.edges all, drops_by h.couples _ g.dropped h.dropped all)

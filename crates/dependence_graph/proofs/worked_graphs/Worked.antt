@@ -6,7 +6,7 @@ use Rattle.tree.specs.Plain.{Binary, Expression, Reference}
 use Rattle.tree.specs.declared.ops.Op.TheVariants.{Add, Sub}
 use Rattle.subscripts.specs.Cuts.{IsNoLater}
 use Rattle.subscripts.specs.declared.verdict.Test.TheVariants.{Crossing, Strong, Trip, WeakZero}
-use Rattle.components.specs.Lists.{In, Pairwise}
+use Rattle.components.specs.Lists.{IsMember, Pairwise}
 use Rattle.dependence_graph.specs.declared.graphs.Dep.{Dep}
 use Rattle.dependence_graph.specs.declared.graphs.Dep.TheVariants.{Anti, Flow, Output}
 use Rattle.dependence_graph.specs.declared.graphs.Dropped.{Dropped}
@@ -19,7 +19,7 @@ use Rattle.dependence_graph.specs.nest_graph.Arcs.{Couple}
 use Rattle.dependence_graph.specs.nest_graph.Graph.{AreDependent, IsCouple, IsGraphOf, all_drops, all_edges}
 use Rattle.dependence_graph.specs.nest_graph.Pair.{kind_between}
 use Rattle.dependence_graph.specs.nest_graph.References.{references_of}
-use Rattle.dependence_graph.specs.nest_graph.Tested.{IsReference}
+use Rattle.dependence_graph.specs.nest_graph.Tested.{IsReferenceAt}
 use Rattle.dependence_graph.specs.worked_graphs.Listed.{HasOnly, at, drop, edge}
 use Rattle.dependence_graph.specs.worked_graphs.Nests.{crossing, element, elementwise, first_element, i, number, one_turn, past_the_trip, recurrence, value}
 use Rattle.dependence_graph.proofs.worked_graphs.Couples.{AreMeeting, IsFirstMeeting, drops, drops_once, met_at}
@@ -72,7 +72,7 @@ module _ (last : ℕ) (whole : int_div (pos last) (pos 1) ≡ pos last) (left : 
       by (suc zero) g = inr (refl, cc)
       by (suc (suc m)) g = cc
 
-  place_of : (p : Place) (s : Standing) (x : Reference) → IsReference (nest last whole left right) p s x → IsPlaceOf p x
+  place_of : (p : Place) (s : Standing) (x : Reference) → IsReferenceAt (nest last whole left right) p s x → IsPlaceOf p x
   place_of p s x h = place_by p.stmt p.at s x h.statement h.reference
 
   no_kind : (k : Dep) → kind_between 1 1 ≡ Some k → ⊥
@@ -109,7 +109,7 @@ module _ (last : ℕ) (whole : int_div (pos last) (pos 1) ≡ pos last) (left : 
   pub one_couple : (r.name ≡ u.name → ⊥) → (g : Graph) → (h : IsGraphOf (nest last whole left right) g) → IsOne h.couples (at 0, at 0)
   one_couple differ g h = is_one h.couples (at 0, at 0) (graph_keys (nest last whole left right) g h ((at 0, at 0) ∷ []) (tt, tt) covered covering)
     where
-      covered : (c : Couple) → IsCouple (nest last whole left right) c → In (key c) ((at 0, at 0) ∷ [])
+      covered : (c : Couple) → IsCouple (nest last whole left right) c → IsMember (key c) ((at 0, at 0) ∷ [])
       covered c k =
           elim (place_of c.from k.refs.first k.refs.first_reference k.refs.first_is) [
             | inl a ↦ elim (place_of c.to k.refs.second k.refs.second_reference k.refs.second_is) [
@@ -122,7 +122,7 @@ module _ (last : ℕ) (whole : int_div (pos last) (pos 1) ≡ pos last) (left : 
             ]
           ]
 
-      covering : (k : Key) → In k ((at 0, at 0) ∷ []) → AreDependent (nest last whole left right) k.0 k.1
+      covering : (k : Key) → IsMember k ((at 0, at 0) ∷ []) → AreDependent (nest last whole left right) k.0 k.1
       covering k i =
           elim i [
             | inl e ↦ subst (λ (z : Key). AreDependent (nest last whole left right) z.0 z.1) (sym e) (dependent 0 0 r r first_there first_there refl (inl refl))
@@ -147,7 +147,7 @@ module _ (last : ℕ) (whole : int_div (pos last) (pos 1) ≡ pos last) (left : 
       order : Pairwise IsEarlier three
       order = ((first_second, (first_third, tt)), ((second_third, tt), (tt, tt)))
 
-      covered : (c : Couple) → IsCouple (nest last whole left right) c → In (key c) three
+      covered : (c : Couple) → IsCouple (nest last whole left right) c → IsMember (key c) three
       covered c k =
           elim (place_of c.from k.refs.first k.refs.first_reference k.refs.first_is) [
             | inl a ↦ elim (place_of c.to k.refs.second k.refs.second_reference k.refs.second_is) [
@@ -163,7 +163,7 @@ module _ (last : ℕ) (whole : int_div (pos last) (pos 1) ≡ pos last) (left : 
       at_key : (k l : Key) → k ≡ l → AreDependent (nest last whole left right) l.0 l.1 → AreDependent (nest last whole left right) k.0 k.1
       at_key k l e d = subst (λ (z : Key). AreDependent (nest last whole left right) z.0 z.1) (sym e) d
 
-      covering : (k : Key) → In k three → AreDependent (nest last whole left right) k.0 k.1
+      covering : (k : Key) → IsMember k three → AreDependent (nest last whole left right) k.0 k.1
       covering k i =
           elim i [
             | inl e ↦ at_key k (at 0, at 0) e (dependent 0 0 r r first_there first_there refl (inl refl))
@@ -224,8 +224,8 @@ elementwise_own x y m = (let e = m.equal in let f = m.before in let l = m.low in
 pub elementwise_listed : HasOnly elementwise ([]) (drop (at 0) (at 0) Output "A" Strong ∷ [])
 elementwise_listed g h =
     let t = one_couple 100 refl (element "A" i) (Binary Add (value "B" i) (number 1)) (element "A" i) (element "B" i) refl elementwise_differ g h in
-    let each : (c : Couple) → In c (t.0 ∷ []) → IsCouple elementwise c =
-    λ c j. in_all (IsCouple elementwise) h.couples c h.each (subst (λ (cs : List Couple). In c cs) (sym t.1) j) in
+    let each : (c : Couple) → IsMember c (t.0 ∷ []) → IsCouple elementwise c =
+    λ c j. in_all (IsCouple elementwise) h.couples c h.each (subst (λ (cs : List Couple). IsMember c cs) (sym t.1) j) in
     let own = drops 100 refl (element "A" i) (Binary Add (value "B" i) (number 1)) 0 0 (element "A" i) (element "A" i) (pos 1) (pos 0) (pos 1) (pos 0) elementwise_first elementwise_first Output refl (left_one (pos 1)) Strong refl (omega (arith, ints)) elementwise_own t.0 (each t.0 (inl refl)) t.2 in
     let all = t.1 ∙ ap (λ (c : Couple). c ∷ []) own in
     (edges_by h.couples _ g.edges h.edges all, drops_by h.couples _ g.dropped h.dropped all)
@@ -272,8 +272,8 @@ recurrence_anti x y m = (let e = m.equal in let f = m.before in let l = m.low in
 pub recurrence_listed : HasOnly recurrence (edge (at 0) (at 1) Flow "A" Strong (pos 1) (pos 2) ∷ []) (drop (at 0) (at 0) Output "A" Strong ∷ drop (at 1) (at 0) Anti "A" Strong ∷ [])
 recurrence_listed g h =
     let t = three_couples 100 refl (element "A" (Binary Add i (number 1))) (value "A" i) (element "A" (Binary Add i (number 1))) (element "A" i) refl refl g h in
-    let each : (c : Couple) → In c (t.0 ∷ t.1 ∷ t.2 ∷ []) → IsCouple recurrence c =
-    λ c j. in_all (IsCouple recurrence) h.couples c h.each (subst (λ (cs : List Couple). In c cs) (sym t.3) j) in
+    let each : (c : Couple) → IsMember c (t.0 ∷ t.1 ∷ t.2 ∷ []) → IsCouple recurrence c =
+    λ c j. in_all (IsCouple recurrence) h.couples c h.each (subst (λ (cs : List Couple). IsMember c cs) (sym t.3) j) in
     let own = drops 100 refl (element "A" (Binary Add i (number 1))) (value "A" i) 0 0 (element "A" (Binary Add i (number 1))) (element "A" (Binary Add i (number 1))) (pos 1) (pos 1) (pos 1) (pos 1) recurrence_first recurrence_first Output refl (left_one (pos 1)) Strong refl (omega (arith, ints)) recurrence_own t.0 (each t.0 (inl refl)) t.4 in
     let flow = met_at 100 refl (element "A" (Binary Add i (number 1))) (value "A" i) 0 1 (element "A" (Binary Add i (number 1))) (element "A" i) (pos 1) (pos 1) (pos 1) (pos 0) recurrence_first recurrence_second Flow refl (left_one (pos 1)) Strong refl (pos 1) (pos 2) refl recurrence_flow t.1 (each t.1 (inr (inl refl))) t.5 in
     let anti = drops 100 refl (element "A" (Binary Add i (number 1))) (value "A" i) 1 0 (element "A" i) (element "A" (Binary Add i (number 1))) (pos 1) (pos 0) (pos 1) (pos 1) recurrence_second recurrence_first Anti refl (left_one (pos 1)) Strong refl (omega (arith, ints)) recurrence_anti t.2 (each t.2 (inr (inr (inl refl)))) t.6 in
@@ -314,8 +314,8 @@ past_the_trip_anti x y m = (let e = m.equal in let f = m.before in let l = m.low
 pub past_the_trip_listed : HasOnly past_the_trip ([]) (drop (at 0) (at 0) Output "A" Strong ∷ drop (at 0) (at 1) Flow "A" Strong ∷ drop (at 1) (at 0) Anti "A" Strong ∷ [])
 past_the_trip_listed g h =
     let t = three_couples 50 refl (element "A" (Binary Add i (number 50))) (value "A" i) (element "A" (Binary Add i (number 50))) (element "A" i) refl refl g h in
-    let each : (c : Couple) → In c (t.0 ∷ t.1 ∷ t.2 ∷ []) → IsCouple past_the_trip c =
-    λ c j. in_all (IsCouple past_the_trip) h.couples c h.each (subst (λ (cs : List Couple). In c cs) (sym t.3) j) in
+    let each : (c : Couple) → IsMember c (t.0 ∷ t.1 ∷ t.2 ∷ []) → IsCouple past_the_trip c =
+    λ c j. in_all (IsCouple past_the_trip) h.couples c h.each (subst (λ (cs : List Couple). IsMember c cs) (sym t.3) j) in
     let own = drops 50 refl (element "A" (Binary Add i (number 50))) (value "A" i) 0 0 (element "A" (Binary Add i (number 50))) (element "A" (Binary Add i (number 50))) (pos 1) (pos 50) (pos 1) (pos 50) past_the_trip_first past_the_trip_first Output refl (left_one (pos 1)) Strong refl (omega (arith, ints)) past_the_trip_own t.0 (each t.0 (inl refl)) t.4 in
     let flow = drops 50 refl (element "A" (Binary Add i (number 50))) (value "A" i) 0 1 (element "A" (Binary Add i (number 50))) (element "A" i) (pos 1) (pos 50) (pos 1) (pos 0) past_the_trip_first past_the_trip_second Flow refl (left_one (pos 1)) Strong refl (omega (arith, ints)) past_the_trip_flow t.1 (each t.1 (inr (inl refl))) t.5 in
     let anti = drops 50 refl (element "A" (Binary Add i (number 50))) (value "A" i) 1 0 (element "A" i) (element "A" (Binary Add i (number 50))) (pos 1) (pos 0) (pos 1) (pos 50) past_the_trip_second past_the_trip_first Anti refl (left_one (pos 1)) Strong refl (omega (arith, ints)) past_the_trip_anti t.2 (each t.2 (inr (inr (inl refl)))) t.6 in
@@ -372,8 +372,8 @@ crossing_anti = record {
 pub crossing_listed : HasOnly crossing (edge (at 0) (at 1) Flow "A" Crossing (pos 1) (pos 100) ∷ edge (at 1) (at 0) Anti "A" Crossing (pos 1) (pos 100) ∷ []) (drop (at 0) (at 0) Output "A" Strong ∷ [])
 crossing_listed g h =
     let t = three_couples 100 refl (element "A" i) (value "A" (Binary Sub (number 101) i)) (element "A" i) (element "A" (Binary Sub (number 101) i)) refl refl g h in
-    let each : (c : Couple) → In c (t.0 ∷ t.1 ∷ t.2 ∷ []) → IsCouple crossing c =
-    λ c j. in_all (IsCouple crossing) h.couples c h.each (subst (λ (cs : List Couple). In c cs) (sym t.3) j) in
+    let each : (c : Couple) → IsMember c (t.0 ∷ t.1 ∷ t.2 ∷ []) → IsCouple crossing c =
+    λ c j. in_all (IsCouple crossing) h.couples c h.each (subst (λ (cs : List Couple). IsMember c cs) (sym t.3) j) in
     let own = drops 100 refl (element "A" i) (value "A" (Binary Sub (number 101) i)) 0 0 (element "A" i) (element "A" i) (pos 1) (pos 0) (pos 1) (pos 0) crossing_first crossing_first Output refl (left_one (pos 1)) Strong refl (omega (arith, ints)) crossing_own t.0 (each t.0 (inl refl)) t.4 in
     let flow = met_at 100 refl (element "A" i) (value "A" (Binary Sub (number 101) i)) 0 1 (element "A" i) (element "A" (Binary Sub (number 101) i)) (pos 1) (pos 0) (negsuc 0) (pos 101) crossing_first crossing_second Flow refl (left_one (negsuc 0)) Crossing refl (pos 1) (pos 100) refl crossing_flow t.1 (each t.1 (inr (inl refl))) t.5 in
     let anti = met_at 100 refl (element "A" i) (value "A" (Binary Sub (number 101) i)) 1 0 (element "A" (Binary Sub (number 101) i)) (element "A" i) (negsuc 0) (pos 101) (pos 1) (pos 0) crossing_second crossing_first Anti refl (right_one (negsuc 0)) Crossing refl (pos 1) (pos 100) refl crossing_anti t.2 (each t.2 (inr (inr (inl refl)))) t.6 in
@@ -422,8 +422,8 @@ first_element_anti x y m = (let e = m.equal in let f = m.before in let l = m.low
 pub first_element_listed : HasOnly first_element (edge (at 0) (at 1) Flow "A" WeakZero (pos 1) (pos 2) ∷ []) (drop (at 0) (at 0) Output "A" Strong ∷ drop (at 1) (at 0) Anti "A" WeakZero ∷ [])
 first_element_listed g h =
     let t = three_couples 100 refl (element "A" i) (value "A" (number 1)) (element "A" i) (element "A" (number 1)) refl refl g h in
-    let each : (c : Couple) → In c (t.0 ∷ t.1 ∷ t.2 ∷ []) → IsCouple first_element c =
-    λ c j. in_all (IsCouple first_element) h.couples c h.each (subst (λ (cs : List Couple). In c cs) (sym t.3) j) in
+    let each : (c : Couple) → IsMember c (t.0 ∷ t.1 ∷ t.2 ∷ []) → IsCouple first_element c =
+    λ c j. in_all (IsCouple first_element) h.couples c h.each (subst (λ (cs : List Couple). IsMember c cs) (sym t.3) j) in
     let own = drops 100 refl (element "A" i) (value "A" (number 1)) 0 0 (element "A" i) (element "A" i) (pos 1) (pos 0) (pos 1) (pos 0) first_element_first first_element_first Output refl (left_one (pos 1)) Strong refl (omega (arith, ints)) first_element_own t.0 (each t.0 (inl refl)) t.4 in
     let flow = met_at 100 refl (element "A" i) (value "A" (number 1)) 0 1 (element "A" i) (element "A" (number 1)) (pos 1) (pos 0) (pos 0) (pos 1) first_element_first first_element_second Flow refl (left_one (pos 0)) WeakZero (inr refl) (pos 1) (pos 2) refl first_element_flow t.1 (each t.1 (inr (inl refl))) t.5 in
     let anti = drops 100 refl (element "A" i) (value "A" (number 1)) 1 0 (element "A" (number 1)) (element "A" i) (pos 0) (pos 1) (pos 1) (pos 0) first_element_second first_element_first Anti refl (right_one (pos 0)) WeakZero (inl refl) (omega (arith, ints)) first_element_anti t.2 (each t.2 (inr (inr (inl refl)))) t.6 in
@@ -464,8 +464,8 @@ one_turn_anti x y m = (let e = m.equal in let f = m.before in let l = m.low in l
 pub one_turn_listed : HasOnly one_turn ([]) (drop (at 0) (at 0) Output "A" Trip ∷ drop (at 0) (at 1) Flow "A" Trip ∷ drop (at 1) (at 0) Anti "A" Trip ∷ [])
 one_turn_listed g h =
     let t = three_couples 1 refl (element "A" i) (value "A" i) (element "A" i) (element "A" i) refl refl g h in
-    let each : (c : Couple) → In c (t.0 ∷ t.1 ∷ t.2 ∷ []) → IsCouple one_turn c =
-    λ c j. in_all (IsCouple one_turn) h.couples c h.each (subst (λ (cs : List Couple). In c cs) (sym t.3) j) in
+    let each : (c : Couple) → IsMember c (t.0 ∷ t.1 ∷ t.2 ∷ []) → IsCouple one_turn c =
+    λ c j. in_all (IsCouple one_turn) h.couples c h.each (subst (λ (cs : List Couple). IsMember c cs) (sym t.3) j) in
     let own = drops_once 1 refl (element "A" i) (value "A" i) 0 0 (element "A" i) (element "A" i) (pos 1) (pos 0) (pos 1) (pos 0) one_turn_first one_turn_first Output refl (left_one (pos 1)) refl one_turn_own t.0 (each t.0 (inl refl)) t.4 in
     let flow = drops_once 1 refl (element "A" i) (value "A" i) 0 1 (element "A" i) (element "A" i) (pos 1) (pos 0) (pos 1) (pos 0) one_turn_first one_turn_second Flow refl (left_one (pos 1)) refl one_turn_flow t.1 (each t.1 (inr (inl refl))) t.5 in
     let anti = drops_once 1 refl (element "A" i) (value "A" i) 1 0 (element "A" i) (element "A" i) (pos 1) (pos 0) (pos 1) (pos 0) one_turn_second one_turn_first Anti refl (left_one (pos 1)) refl one_turn_anti t.2 (each t.2 (inr (inr (inl refl)))) t.6 in

@@ -19,12 +19,12 @@ use Rattle.direction_vectors.specs.Answers.{OnAssumed, OnKept, OnNever, OnPair}
 use Rattle.direction_vectors.specs.Candidates.{Answer, CoversCandidates, CoversEach}
 use Rattle.direction_vectors.specs.Merged.{AreMerged}
 use Rattle.dependence_graph.specs.nest_graph.Arcs as arcs
-use Rattle.dependence_graph.specs.nest_graph.Arcs.{Couple, level_of}
+use Rattle.dependence_graph.specs.nest_graph.Arcs.{Couple, vector_level}
 use Rattle.dependence_graph.specs.nest_graph.Graph.{all_drops, all_edges}
 use Rattle.dependence_graph.specs.nest_graph.Pair.{kind_between}
 use Rattle.dependence_graph.specs.declared.nest_references.occurrences.Occurrence.{Occurrence}
 use Rattle.dependence_graph.specs.declared.dep_graph.lines.Ends.{Ends}
-use Rattle.dependence_graph.specs.declared.dep_graph.lines.Lines.{Lines}
+use Rattle.dependence_graph.specs.declared.dep_graph.lines.Dependences.{Dependences}
 
 -- ---- two references
 
@@ -91,7 +91,7 @@ edge_at e d w p = record {
   kind = e.kind;
   array = e.array;
   dirs = d;
-  level = level_of d;
+  level = vector_level d;
   test = w;
   pair = p;
 }
@@ -132,7 +132,7 @@ as_verdict m n (Never w) = arcs.Never w
 as_verdict m n (Pair x y w) = arcs.Met (take m x.at) (take n y.at) w
 as_verdict m n (Assumed w) = arcs.Assumed w
 
-abbrev pub as_answer : ℕ → ℕ → Answer → arcs.Answer
+abbrev pub as_answer : ℕ → ℕ → Answer → arcs.VectorVerdict
 as_answer m n a = (take a.0.len a.0.at, as_verdict m n a.1)
 
 abbrev pub couple_of : Occurrence → Occurrence → Dep → List Answer → Couple
@@ -167,7 +167,7 @@ abbrev pub table : List Occurrence → List Occurrence → List (Occurrence × O
 table as' bs = flat_map (λ (a : Occurrence). row a bs) as'
 
 -- the lines of the couples of these were added
-pub record AreJoined (ps : List (Occurrence × Occurrence)) (old new : Lines) : Type 0 where
+pub record AreJoined (ps : List (Occurrence × Occurrence)) (old new : Dependences) : Type 0 where
   pub couples : List Couple
   pub are : AreCouplesIn ps couples
   pub edges : new.edges ≡ old.edges ++ all_edges couples

@@ -17,8 +17,8 @@ pub data Verdict : Type 0 where
   Met : List ℤ → List ℤ → Test → Verdict
   Assumed : Test → Verdict
 
-abbrev pub Answer : Type 0
-Answer = List Dir × Verdict
+abbrev pub VectorVerdict : Type 0
+VectorVerdict = List Dir × Verdict
 
 -- two references that are tested, and the answers
 pub record Couple : Type 0 where
@@ -26,7 +26,7 @@ pub record Couple : Type 0 where
   pub to : Place
   pub kind : Dep
   pub array : List ℕ
-  pub answers : List Answer
+  pub answers : List VectorVerdict
 
 -- ---- edges and drops
 
@@ -45,8 +45,8 @@ level_from k (Eq ∷ ds) = level_from (suc k) ds
 level_from k (Gt ∷ ds) = 0
 level_from k (Any ∷ ds) = 0
 
-abbrev pub level_of : Dirs → ℕ
-level_of d = level_from 0 d.at
+abbrev pub vector_level : Dirs → ℕ
+vector_level d = level_from 0 d.at
 
 abbrev pub edge_with : Couple → List Dir → Test → Option (Point × Point) → Edge
 edge_with c v w pair = record {
@@ -55,7 +55,7 @@ edge_with c v w pair = record {
   kind = c.kind;
   array = c.array;
   dirs = in_places v;
-  level = level_of (in_places v);
+  level = vector_level (in_places v);
   test = w;
   pair = pair;
 }
@@ -76,10 +76,10 @@ abbrev pub with_some : {X : Type 0} → Option X → List X → List X
 with_some None xs = xs
 with_some (Some x) xs = x ∷ xs
 
-abbrev pub edges_of : Couple → List Answer → List Edge
+abbrev pub edges_of : Couple → List VectorVerdict → List Edge
 edges_of c [] = []
 edges_of c (a ∷ as') = with_some (edge_of c a.0 a.1) (edges_of c as')
 
-abbrev pub drops_of : Couple → List Answer → List Dropped
+abbrev pub drops_of : Couple → List VectorVerdict → List Dropped
 drops_of c [] = []
 drops_of c (a ∷ as') = with_some (drop_of c a.0 a.1) (drops_of c as')

@@ -3,12 +3,12 @@
 use Rattle.std.specs.Prelude.{◌≡◌, ◌⊎◌, List}
 use Rattle.subscripts.specs.declared.affine.Dir.{Dir}
 use Rattle.subscripts.specs.declared.affine.Dirs.{Dirs}
-use Rattle.components.specs.Lists.{In}
+use Rattle.components.specs.Lists.{IsMember}
 use Rattle.dependence_graph.specs.declared.graphs.Dropped.{Dropped}
 use Rattle.dependence_graph.specs.declared.graphs.Edge.{Edge}
 use Rattle.dependence_graph.specs.declared.graphs.Graph.{Graph}
 use Rattle.nest.specs.Plain.{Nest}
-use Rattle.dependence_graph.specs.nest_graph.Arcs.{in_places, level_of}
+use Rattle.dependence_graph.specs.nest_graph.Arcs.{in_places, vector_level}
 use Rattle.dependence_graph.specs.nest_graph.Graph.{IsGraphOf}
 use Rattle.dependence_graph.specs.nest_graph.Pair.{Candidate, HasPair, IsCandidate}
 use Rattle.dependence_graph.specs.nest_graph.Vectors.{StandsFor}
@@ -33,18 +33,18 @@ pub record IsDropFor (e : Dropped) (c : Candidate) : Type 0 where
 
 pub record HasEdgeFor (g : Graph) (c : Candidate) : Type 0 where
   pub edge : Edge
-  pub among : In edge g.edges
+  pub among : IsMember edge g.edges
   pub stands : IsEdgeFor edge c
 
 pub record HasDropFor (g : Graph) (c : Candidate) : Type 0 where
   pub drop : Dropped
-  pub among : In drop g.dropped
+  pub among : IsMember drop g.dropped
   pub stands : IsDropFor drop c
 
 pub record IsComplete (n : Nest) (g : Graph) : Type 0 where
   pub covered : (c : Candidate) → IsCandidate n c → HasEdgeFor g c ⊎ HasDropFor g c
   pub dropped : (c : Candidate) → IsCandidate n c → HasDropFor g c → HasPair n c → ⊥
-  pub levels : (e : Edge) → In e g.edges → e.level ≡ level_of e.dirs
+  pub levels : (e : Edge) → IsMember e g.edges → e.level ≡ vector_level e.dirs
 
 abbrev pub GraphIsComplete : Type 0
 GraphIsComplete = (n : Nest) (g : Graph) → IsGraphOf n g → IsComplete n g

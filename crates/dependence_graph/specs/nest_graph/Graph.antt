@@ -47,10 +47,10 @@ pub record AreAssumed (b : Both) (d : List Dir) (w : Test) : Type 0 where
   pub unrefuted : (v : List Dir) → StandsFor d v → IsRefuted b v → ⊥
   pub word : IsEdgeWord b w
 
-abbrev pub IsRight : Nest → Couple → Both → List Dir → Verdict → Type 0
-IsRight n c b d (Never w) = AreDropped n c b d w
-IsRight n c b d (Met x y w) = AreMet n c b d x y w
-IsRight n c b d (Assumed w) = AreAssumed b d w
+abbrev pub IsRightVerdict : Nest → Couple → Both → List Dir → Verdict → Type 0
+IsRightVerdict n c b d (Never w) = AreDropped n c b d w
+IsRightVerdict n c b d (Met x y w) = AreMet n c b d x y w
+IsRightVerdict n c b d (Assumed w) = AreAssumed b d w
 
 -- ---- two references
 
@@ -63,7 +63,7 @@ pub record IsCouple (n : Nest) (c : Couple) : Type 0 where
   pub covered : (v : List Dir) → IsCandidate n (candidate_of c v) → HoldsOnce (λ a. StandsFor a.0 v) c.answers
   pub candidates : All (λ a. (v : List Dir) → StandsFor a.0 v → IsCandidate n (candidate_of c v)) c.answers
   pub merged : IsListed c.from.stmt c.to.stmt (common_of refs.first.loops refs.second.loops) c.answers
-  pub right : All (λ a. IsRight n c (both n c.from c.to refs) a.0 a.1) c.answers
+  pub right : All (λ a. IsRightVerdict n c (both n c.from c.to refs) a.0 a.1) c.answers
 
 -- a reference that stands earlier: in an earlier statement, or earlier in the same one
 abbrev pub IsEarlierPlace : Place → Place → Type 0

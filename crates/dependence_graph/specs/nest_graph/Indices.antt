@@ -17,20 +17,21 @@ pub record SubscriptPair : Type 0 where
   pub second : Form
 
 -- the form of a subscript, where it is linear
-abbrev pub form_in : List (List ℕ) → List (List ℕ) → Subscript → Option Form
-form_in loops symbols (Only e) = form_of loops symbols e
-form_in loops symbols (Section a b s) = None
+abbrev pub linear_subscript_form : List (List ℕ) → List (List ℕ) → Subscript → Option Form
+linear_subscript_form loops symbols (Only e) = form_of loops symbols e
+linear_subscript_form loops symbols (Section a b s) = None
 
-abbrev pub paired : Option Form → Option Form → Option SubscriptPair
-paired None g = None
-paired (Some f) None = None
-paired (Some f) (Some g) = Some (record { first = f; second = g })
+abbrev pub paired_forms : Option Form → Option Form → Option SubscriptPair
+paired_forms None g = None
+paired_forms (Some f) None = None
+paired_forms (Some f) (Some g) = Some (record { first = f; second = g })
 
 abbrev pub pairs_in : Both → Subscripts → Subscripts → List (Option SubscriptPair)
 pairs_in b no_subscripts ts = []
 pairs_in b (subscript s ss) no_subscripts = []
 pairs_in b (subscript s ss) (subscript t ts) =
-    paired (form_in (variables_round b.first) b.symbols s) (form_in (variables_round b.second) b.symbols t)
+    paired_forms (linear_subscript_form (variables_round b.first) b.symbols s)
+    (linear_subscript_form (variables_round b.second) b.symbols t)
     ∷ pairs_in b ss ts
 
 -- none where one of the two isn't linear

@@ -10,16 +10,16 @@ use Rattle.nest.specs.Bodies.{Standing, nest_statements}
 abbrev pub turns_at : Trip → (ℕ → ℤ) → List ℤ → ℤ
 turns_at t values outer = int_div (value_at t.top values outer) t.by
 
-abbrev pub IsTurn : Option Trip → (ℕ → ℤ) → List ℤ → ℤ → Type 0
-IsTurn None values outer i = ⊥
-IsTurn (Some t) values outer i = (pos 1 ≤ℤ i) × (i ≤ℤ turns_at t values outer)
+abbrev pub IsWithinTrip : Option Trip → (ℕ → ℤ) → List ℤ → ℤ → Type 0
+IsWithinTrip None values outer i = ⊥
+IsWithinTrip (Some t) values outer i = (pos 1 ≤ℤ i) × (i ≤ℤ turns_at t values outer)
 
 -- an iteration of each loop, from the outside in
 abbrev pub AreTurns : (ℕ → ℤ) → List ℤ → List Loop → List ℤ → Type 0
 AreTurns values outer [] [] = Unit {0}
 AreTurns values outer [] (i ∷ x) = ⊥
 AreTurns values outer (l ∷ ls) [] = ⊥
-AreTurns values outer (l ∷ ls) (i ∷ x) = IsTurn l.trip values outer i × AreTurns values (outer ++ i ∷ []) ls x
+AreTurns values outer (l ∷ ls) (i ∷ x) = IsWithinTrip l.trip values outer i × AreTurns values (outer ++ i ∷ []) ls x
 
 -- of the statement with this place
 pub record IsInstance (n : Nest) (values : ℕ → ℤ) (place : ℕ) (x : List ℤ) : Type 0 where

@@ -9,7 +9,7 @@ use Rattle.nest.specs.declared.parts.Trip.{Trip}
 use Rattle.nest.specs.Plain.{Loop, Nest}
 use Rattle.nest.specs.Bodies.{Standing, nest_loops, nest_statements}
 use Rattle.dependence_graph.specs.nest_graph.References.{references_of}
-use Rattle.dependence_graph.specs.nest_graph.Tested.{IsReference}
+use Rattle.dependence_graph.specs.nest_graph.Tested.{IsReferenceAt}
 
 -- ---- trips
 
@@ -51,7 +51,7 @@ pub record IsReadyStatement (s : Standing) : Type 0 where
 -- two references of one name have as many subscripts
 abbrev pub HaveEqualRank : Nest → Type 0
 HaveEqualRank n =
-    (p q : Place) (s t : Standing) (r u : Reference) → IsReference n p s r → IsReference n q t u → r.name ≡ u.name
+    (p q : Place) (s t : Standing) (r u : Reference) → IsReferenceAt n p s r → IsReferenceAt n q t u → r.name ≡ u.name
     → subscript_count r.subscripts ≡ subscript_count u.subscripts
 
 -- ---- nests

@@ -10,9 +10,9 @@ abbrev pub is_among : List (List ℕ) → List ℕ → Bool
 is_among [] x = false
 is_among (y ∷ ys) x = bytes_eq y x || is_among ys x
 
-abbrev pub has_none : Subscripts → Bool
-has_none no_subscripts = true
-has_none (subscript s ss) = false
+abbrev pub has_no_subscript : Subscripts → Bool
+has_no_subscript no_subscripts = true
+has_no_subscript (subscript s ss) = false
 
 -- the variables of the loops round a statement, from the outside in
 abbrev pub variables_round : Standing → List (List ℕ)
@@ -21,7 +21,7 @@ variables_round s = map (λ l. l.variable) s.loops
 -- a variable is a reference where it isn't that of a loop round the statement
 abbrev pub own_reference : List (List ℕ) → List ℕ → Subscripts → List Reference
 own_reference loops x ss =
-    if has_none ss then (if is_among loops x then [] else (record { name = x; subscripts = ss } ∷ []))
+    if has_no_subscript ss then (if is_among loops x then [] else (record { name = x; subscripts = ss } ∷ []))
     else (record { name = x; subscripts = ss } ∷ [])
 
 -- each occurrence of a variable other than a loop's, in the order in which it is printed

@@ -13,7 +13,7 @@ use Rattle.dependence_graph.specs.nest_graph.Indices.{Contains, First, Index, Is
 use Rattle.dependence_graph.specs.nest_graph.Indices.{SubscriptPair, first_of, second_of, subscript_pairs}
 use Rattle.dependence_graph.specs.nest_graph.Indices.{symbol_difference}
 use Rattle.dependence_graph.specs.nest_graph.Tested.{Both}
-use Rattle.dependence_graph.specs.nest_graph.Touched.{values_from}
+use Rattle.dependence_graph.specs.nest_graph.Touched.{symbol_values_from}
 use Rattle.dependence_graph.specs.nest_graph.Trips.{HasConstantTrip, lasts_of}
 
 -- the class in which the tests are exact: each pair of subscripts has one index variable or none, and all trips are
@@ -59,12 +59,13 @@ pub record IsInVector (b : Both) (v : List Dir) (x y : List ℤ) : Type 0 where
   pub related : AreRelated v x y
 
 -- the first side of a pair less the second, where the symbols have these values
-abbrev pub difference : Both → SubscriptPair → (ℕ → ℤ) → List ℤ → List ℤ → ℤ
-difference b p values x y =
-    number_at p.first (x ++ values_from values 0 b.symbols) -ℤ number_at p.second (y ++ values_from values 0 b.symbols)
+abbrev pub pair_difference : Both → SubscriptPair → (ℕ → ℤ) → List ℤ → List ℤ → ℤ
+pair_difference b p values x y =
+    number_at p.first (x ++ symbol_values_from values 0 b.symbols)
+    -ℤ number_at p.second (y ++ symbol_values_from values 0 b.symbols)
 
 abbrev pub AreEqual : Both → SubscriptPair → List ℤ → List ℤ → Type 0
-AreEqual b p x y = (values : ℕ → ℤ) × (difference b p values x y ≡ pos 0)
+AreEqual b p x y = (values : ℕ → ℤ) × (pair_difference b p values x y ≡ pos 0)
 
 abbrev pub AreNeverEqual : Both → List Dir → SubscriptPair → Type 0
 AreNeverEqual b v p = (x y : List ℤ) → IsInVector b v x y → AreEqual b p x y → ⊥
@@ -88,8 +89,8 @@ IsRefutedByGcd b p = (g : ℕ) × (HasGcd b p g × (g ∣ unsigned_abs (p.second
 -- Banerjee's: the first side is above the second at all iterations, or below it
 abbrev pub IsOneSided : Both → List Dir → SubscriptPair → Type 0
 IsOneSided b v p =
-    ((values : ℕ → ℤ) (x y : List ℤ) → IsInVector b v x y → pos 0 <ℤ difference b p values x y)
-    ⊎ ((values : ℕ → ℤ) (x y : List ℤ) → IsInVector b v x y → difference b p values x y <ℤ pos 0)
+    ((values : ℕ → ℤ) (x y : List ℤ) → IsInVector b v x y → pos 0 <ℤ pair_difference b p values x y)
+    ⊎ ((values : ℕ → ℤ) (x y : List ℤ) → IsInVector b v x y → pair_difference b p values x y <ℤ pos 0)
 
 pub record IsRefutedByPair (b : Both) (v : List Dir) : Type 0 where
   pub at : ℕ
@@ -105,10 +106,10 @@ HasConstantLoop b (Shared k) = IsSomeAnd (slice_get b.first.loops k) HasConstant
 HasConstantLoop b (First k) = IsSomeAnd (slice_get b.first.loops k) HasConstantTrip
 HasConstantLoop b (Second k) = IsSomeAnd (slice_get b.second.loops k) HasConstantTrip
 
-abbrev pub last_of : Both → Index → Option ℤ
-last_of b (Shared k) = last_at b.first k
-last_of b (First k) = last_at b.first k
-last_of b (Second k) = last_at b.second k
+abbrev pub last_of_index : Both → Index → Option ℤ
+last_of_index b (Shared k) = last_at b.first k
+last_of_index b (First k) = last_at b.first k
+last_of_index b (Second k) = last_at b.second k
 
 abbrev pub direction_of : List Dir → Index → Dir
 direction_of v (Shared k) = slice_index_or v k Any
@@ -117,8 +118,8 @@ direction_of v (Second k) = Any
 
 -- iterations of the loop, related as the vector says
 pub record IsInLoop (b : Both) (v : List Dir) (i : Index) (x y : ℤ) : Type 0 where
-  pub first : IsWithin (last_of b i) x
-  pub second : IsWithin (last_of b i) y
+  pub first : IsWithin (last_of_index b i) x
+  pub second : IsWithin (last_of_index b i) y
   pub related : IsRelated (direction_of v i) x y
 
 -- both sides of a pair without another index variable are equal there

@@ -7,7 +7,8 @@ use Rattle.std.specs.List.{list_any}
 use Rattle.subscripts.specs.declared.affine.Span.{Span}
 use Rattle.nest.specs.declared.parts.Trip.{Trip}
 use Rattle.nest.specs.Plain.{Loop}
-pub use Rattle.dependence_graph.specs.nest_graph.Trips.{capped, ends_early, has_no_symbol, is_below_one, is_constant}
+pub use Rattle.dependence_graph.specs.nest_graph.Trips.{capped, ends_early, has_no_symbol, is_below_one}
+pub use Rattle.dependence_graph.specs.nest_graph.Trips.{has_constant_top}
 
 -- ---- trips and ends
 
@@ -49,7 +50,7 @@ last_after outer t =
 -- by the spans of the loops round it
 abbrev pub span_after : List Span → Trip → Span
 span_after outer t =
-    if is_constant t then record { last = Some (int_div t.top.constant t.by); fixed = true }
+    if has_constant_top t then record { last = Some (int_div t.top.constant t.by); fixed = true }
     else ends_at (last_after outer t)
 
 abbrev pub span_of : List Span → Option Trip → Span

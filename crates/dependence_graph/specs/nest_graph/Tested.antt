@@ -13,7 +13,7 @@ common_of (l ∷ ls) [] = 0
 common_of (l ∷ ls) (m ∷ ms) = if l.number == m.number then suc (common_of ls ms) else 0
 
 -- the reference in this place of the nest, with its statement
-pub record IsReference (n : Nest) (at : Place) (s : Standing) (r : Reference) : Type 0 where
+pub record IsReferenceAt (n : Nest) (at : Place) (s : Standing) (r : Reference) : Type 0 where
   pub statement : slice_get (nest_statements n) at.stmt ≡ Some s
   pub reference : slice_get (references_of s) at.at ≡ Some r
 
@@ -23,8 +23,8 @@ pub record AreReferences (n : Nest) (from to : Place) : Type 0 where
   pub second : Standing
   pub first_reference : Reference
   pub second_reference : Reference
-  pub first_is : IsReference n from first first_reference
-  pub second_is : IsReference n to second second_reference
+  pub first_is : IsReferenceAt n from first first_reference
+  pub second_is : IsReferenceAt n to second second_reference
   pub same_name : first_reference.name ≡ second_reference.name
 
 -- what says how they may depend: their statements, with the loops round each, and what they name

@@ -5,14 +5,15 @@ use Rattle.tree.specs.Plain.{Expression, Only, Section, Subscripts, no_subscript
 use Rattle.linear_forms.specs.Linear.{form_of, number_at}
 
 -- the symbols' values, in their order
-abbrev pub values_from : (ℕ → ℤ) → ℕ → List (List ℕ) → List ℤ
-values_from values k [] = []
-values_from values k (s ∷ ss) = values k ∷ values_from values (suc k) ss
+abbrev pub symbol_values_from : (ℕ → ℤ) → ℕ → List (List ℕ) → List ℤ
+symbol_values_from values k [] = []
+symbol_values_from values k (s ∷ ss) = values k ∷ symbol_values_from values (suc k) ss
 
 module _ (loops symbols : List (List ℕ)) (values : ℕ → ℤ) (x : List ℤ) where
   -- a linear subscript has its value at the iteration; one that isn't linear may have any
   abbrev pub IsSubscriptAt : Expression → ℤ → Type 0
-  IsSubscriptAt e z = MatchOption (form_of loops symbols e) ⊤ (λ f. z ≡ number_at f (x ++ values_from values 0 symbols))
+  IsSubscriptAt e z =
+      MatchOption (form_of loops symbols e) ⊤ (λ f. z ≡ number_at f (x ++ symbol_values_from values 0 symbols))
 
   abbrev pub AreSubscriptsAt : Subscripts → List ℤ → Type 0
   AreSubscriptsAt no_subscripts [] = Unit {0}

@@ -13,11 +13,11 @@ abbrev pub has_no_symbol : Trip → Bool
 has_no_symbol t = list_all (λ (s : ℕ × ℤ). int_eq s.1 (pos 0)) t.top.syms
 
 -- no loop has one, and no symbol
-abbrev pub is_constant : Trip → Bool
-is_constant t = list_all (λ a. int_eq a (pos 0)) t.top.loops && has_no_symbol t
+abbrev pub has_constant_top : Trip → Bool
+has_constant_top t = list_all (λ a. int_eq a (pos 0)) t.top.loops && has_no_symbol t
 
 abbrev pub HasConstantTrip : Loop → Type 0
-HasConstantTrip l = IsSomeAnd l.trip (λ t. IsTrue (is_constant t))
+HasConstantTrip l = IsSomeAnd l.trip (λ t. IsTrue (has_constant_top t))
 
 -- below 1
 abbrev pub is_below_one : ℤ → Bool
@@ -30,14 +30,14 @@ ends_early None = false
 ends_early (Some n) = is_below_one n
 
 -- the last iteration where the coefficient isn't negative, else the first
-abbrev pub corner : ℤ → Option ℤ → ℤ
-corner (pos a) last = unwrap_or last (pos 1)
-corner (negsuc a) last = pos 1
+abbrev pub corner_of_trip : ℤ → Option ℤ → ℤ
+corner_of_trip (pos a) last = unwrap_or last (pos 1)
+corner_of_trip (negsuc a) last = pos 1
 
-abbrev pub greatest_sum : List ℤ → List (Option ℤ) → ℤ
-greatest_sum [] lasts = pos 0
-greatest_sum (a ∷ as') [] = pos 0
-greatest_sum (a ∷ as') (last ∷ lasts) = a *ℤ corner a last +ℤ greatest_sum as' lasts
+abbrev pub greatest_sum_of_trips : List ℤ → List (Option ℤ) → ℤ
+greatest_sum_of_trips [] lasts = pos 0
+greatest_sum_of_trips (a ∷ as') [] = pos 0
+greatest_sum_of_trips (a ∷ as') (last ∷ lasts) = a *ℤ corner_of_trip a last +ℤ greatest_sum_of_trips as' lasts
 
 -- none where the greatest trip is negative, and unknown where it is above 2^40
 abbrev pub capped : ℤ → Option ℤ
@@ -49,10 +49,10 @@ capped (negsuc n) = Some (pos 0)
 abbrev pub last_by : List (Option ℤ) → Option Trip → Option ℤ
 last_by outer None = None
 last_by outer (Some t) =
-    if is_constant t then Some (int_div t.top.constant t.by)
+    if has_constant_top t then Some (int_div t.top.constant t.by)
     else (if has_no_symbol t && not (list_any is_none outer)
     then (if list_any ends_early outer then Some (pos 0)
-    else capped (int_div (greatest_sum t.top.loops outer +ℤ t.top.constant) t.by))
+    else capped (int_div (greatest_sum_of_trips t.top.loops outer +ℤ t.top.constant) t.by))
     else None)
 
 -- those of the loops from the outside in

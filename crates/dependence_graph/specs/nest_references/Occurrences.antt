@@ -4,14 +4,14 @@ use Rattle.tree.specs.Plain.{Only, Section, Subscript, Subscripts, no_subscripts
 use Rattle.subscripts.specs.declared.affine.Affine.{Affine}
 use Rattle.linear_forms.specs.Linear.{form_of}
 use Rattle.linear_forms.specs.Affines.{IsFound}
-use Rattle.components.specs.Lists.{In, Pairwise}
+use Rattle.components.specs.Lists.{IsMember, Pairwise}
 use Rattle.dependence_graph.specs.declared.graphs.Place.{Place}
 use Rattle.nest.specs.Plain.{Loop, Nest}
 use Rattle.nest.specs.Bodies.{Standing}
 use Rattle.dependence_graph.specs.nest_graph.Graph.{IsEarlierPlace}
 use Rattle.dependence_graph.specs.nest_graph.References.{references_of, variables_round}
 use Rattle.dependence_graph.specs.nest_graph.Spans.{spans_of}
-use Rattle.dependence_graph.specs.nest_graph.Tested.{IsReference}
+use Rattle.dependence_graph.specs.nest_graph.Tested.{IsReferenceAt}
 use Rattle.dependence_graph.specs.declared.nest_references.occurrences.Occurrence.{Occurrence}
 
 -- ---- forms
@@ -64,12 +64,12 @@ AreOccurrencesIn symbols number (s ∷ ss) os =
 pub record IsOccurrence (n : Nest) (o : Occurrence) : Type 0 where
   pub standing : Standing
   pub reference : Reference
-  pub is_reference : IsReference n o.place standing reference
+  pub is_reference : IsReferenceAt n o.place standing reference
   pub kept : IsOccurrenceOf n.symbols standing reference o
 
 -- each reference of the nest once, in their order
 pub record AreOccurrences (n : Nest) (os : List Occurrence) : Type 0 where
   pub each : All (IsOccurrence n) os
-  pub every : (p : Place) (s : Standing) (r : Reference) → IsReference n p s r
-      → In p (map (λ (o : Occurrence). o.place) os)
+  pub every : (p : Place) (s : Standing) (r : Reference) → IsReferenceAt n p s r
+      → IsMember p (map (λ (o : Occurrence). o.place) os)
   pub in_order : Pairwise IsEarlierPlace (map (λ (o : Occurrence). o.place) os)

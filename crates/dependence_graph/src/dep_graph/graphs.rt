@@ -5,7 +5,7 @@ ghost use Rattle.nest.specs.View.{nest_of};
 ghost use Rattle.dependence_graph.specs.nest_graph.Graph.{IsGraphOf};
 ghost use Rattle.dependence_graph.specs.nest_graph.Ready.{IsReady};
 
-use crate::dep_graph::lines::Lines;
+use crate::dep_graph::lines::Dependences;
 use crate::graphs::Graph;
 use crate::nest_references::occurrences_of;
 use nest::Nest;
@@ -32,9 +32,9 @@ pub fn graph(alloc: Global, nest: &Nest) -> Result<Graph, Memory>
     ensures { IfOk result (λ g. IsGraphOf (nest_of nest.now) g) }
 {
     let all = occurrences_of(alloc, nest)?;
-    let mut lines = Lines::new(alloc);
+    let mut lines = Dependences::new(alloc);
     lines.add_table(alloc, all.as_slice())?;
-    let Lines { edges, dropped } = lines;
+    let Dependences { edges, dropped } = lines;
     Ok(Graph {
         stmts: statement_count(alloc, nest)?,
         edges,

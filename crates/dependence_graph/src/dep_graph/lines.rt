@@ -1,6 +1,6 @@
 //! Edges and drops.
 ghost use Rattle.std.specs.Prelude.{◌≡◌, ◌+◌, [], ◌++◌, ◌≤◌, OnOk, length};
-ghost use Rattle.dependence_graph.specs.nest_graph.Arcs.{level_from, level_of};
+ghost use Rattle.dependence_graph.specs.nest_graph.Arcs.{level_from, vector_level};
 ghost use Rattle.dependence_graph.specs.dep_graph.Joined.{all_drops_at, all_edges_at, drops_at, edge_at, edges_at};
 
 use crate::graphs::{Dep, Dropped, Edge, Place};
@@ -19,7 +19,7 @@ pub struct Ends {
 
 /// Edges and drops in their order.
 #[derive(Drop)]
-pub struct Lines {
+pub struct Dependences {
     pub edges: Seq<Edge>,
     pub dropped: Seq<Dropped>,
 }
@@ -41,7 +41,7 @@ fn level_from(outer: u8, dirs: &[Dir]) -> u8
 
 // The level of the loop that carries a dependence in these directions.
 fn level_of(dirs: &Dirs) -> u8
-    ensures { result ≡ level_of dirs.now }
+    ensures { result ≡ vector_level dirs.now }
 {
     level_from(0, &dirs.at)
 }
@@ -83,13 +83,13 @@ impl Ends {
     }
 }
 
-impl Lines {
+impl Dependences {
     /// No line.
-    pub fn new(alloc: Global) -> Lines
+    pub fn new(alloc: Global) -> Dependences
         ensures edges { result.edges ≡ [] }
         ensures dropped { result.dropped ≡ [] }
     {
-        Lines {
+        Dependences {
             edges: Seq::new(alloc),
             dropped: Seq::new(alloc),
         }

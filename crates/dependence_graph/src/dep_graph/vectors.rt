@@ -3,7 +3,7 @@ ghost use Rattle.std.specs.Prelude.{◌∷◌, [], All, IfOk, OnOk};
 ghost use Rattle.direction_vectors.specs.vector_tests.Refs.{IsRefPair};
 ghost use Rattle.dependence_graph.specs.dep_graph.Joined.{AreJoined, AreVectors, IsTestable, row, table};
 
-use crate::dep_graph::lines::{Ends, Lines};
+use crate::dep_graph::lines::{Dependences, Ends};
 use crate::dep_graph::pairs::{dependence_of, ref_pair};
 use crate::nest_references::Occurrence;
 use direction_vectors::{RefPair, vectors};
@@ -18,7 +18,7 @@ fn vectors_of(alloc: Global, refs: &RefPair) -> Result<Seq<(Dirs, Verdict)>, Mem
     vectors(alloc, refs)
 }
 
-impl Lines {
+impl Dependences {
     pub(crate) fn add_couple(
         &mut self,
         alloc: Global,

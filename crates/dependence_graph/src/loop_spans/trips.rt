@@ -7,7 +7,7 @@ ghost use Rattle.subscripts.specs.Shapes.{IsForm, IsSmall};
 ghost use Rattle.dependence_graph.specs.nest_graph.Ready.{IsTripIn};
 ghost use Rattle.dependence_graph.specs.nest_graph.Spans.{capped, corner, greatest_sum, greatest_trip, has_no_symbol};
 ghost use Rattle.dependence_graph.specs.nest_graph.Spans.{has_no_turn};
-ghost use Rattle.dependence_graph.specs.nest_graph.Spans.{is_constant, is_open, last_after, span_after};
+ghost use Rattle.dependence_graph.specs.nest_graph.Spans.{has_constant_top, is_open, last_after, span_after};
 ghost use Rattle.dependence_graph.specs.loop_spans.Ends.{HasSmallEnd};
 ghost use Rattle.dependence_graph.specs.loop_spans.Greatest.{IsSpan};
 
@@ -46,7 +46,7 @@ fn has_no_symbol(trip: &Trip) -> bool
 }
 
 fn is_constant(trip: &Trip) -> bool
-    ensures { result ≡ is_constant trip.now }
+    ensures { result ≡ has_constant_top trip.now }
 {
     are_zero(&trip.top.loops) && has_no_symbol(trip)
 }

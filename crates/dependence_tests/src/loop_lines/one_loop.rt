@@ -7,8 +7,7 @@ ghost use Rattle.subscripts.specs.Shapes.{IsPairing, AreDirsOf};
 ghost use Rattle.dependence_tests.specs.loop_lines.line_points.Crossings.{IsSmallLine};
 ghost use Rattle.dependence_tests.specs.loop_lines.Places.{loop_at};
 ghost use Rattle.dependence_tests.specs.loop_lines.OneLoop.{IsWithinPlaces, dir_of, first_point, second_point};
-ghost use Rattle.dependence_tests.specs.loop_lines.OneLoop.{IsLineOf};
-ghost use Rattle.dependence_tests.specs.loop_lines.OneLoop.{HasNoneAt, HasSevenLists, HasSevenPlaces};
+ghost use Rattle.dependence_tests.specs.loop_lines.OneLoop.{IsLineOf, HasNoneAt, HasSevenLists, HasSevenPlaces};
 
 use crate::loop_lines::line_points::Line;
 use subscripts::{Class, Dir, Dirs, Pairing, Point, Span, classify};

@@ -4,8 +4,7 @@ ghost use Rattle.dependence_tests.specs.loop_lines.OneLoop.{HasSevenPlaces};
 ghost use Rattle.subscripts.specs.Classes.{HasOneLoop, IsMiv, IsZiv, Loop};
 ghost use Rattle.subscripts.specs.Shapes.{AreDirsOf, IsPairing};
 ghost use Rattle.direction_vectors.specs.vector_tests.Places.{IsLeft, IsMivLeft, IsOneLeft, IsOneRefuted, IsRefutedIn};
-ghost use Rattle.direction_vectors.specs.vector_tests.Places.{IsSeveralRefuted};
-ghost use Rattle.direction_vectors.specs.vector_tests.Places.{IsSivLeft};
+ghost use Rattle.direction_vectors.specs.vector_tests.Places.{IsSeveralRefuted, IsSivLeft};
 ghost use Rattle.direction_vectors.specs.vector_tests.Words.{HasUnequalConstants};
 
 use crate::vector_tests::words::is_separable;

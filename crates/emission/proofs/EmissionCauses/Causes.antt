@@ -4,7 +4,7 @@ use Rattle.std.specs.Prelude.{slice_get}
 use Rattle.std.specs.List.{concat, range_with_len}
 use Rattle.std.proofs.lemmas.Bool.{both_ways, cases_eq}
 use Rattle.std.proofs.lemmas.List.Elements.{All-weaker}
-use Rattle.closed_walks.specs.Cycles.{AreCycles, AreCyclesOf as AreWalksOf, IsCycle, StandIn}
+use Rattle.closed_walks.specs.Cycles.{AreCycles, AreLeastWalksOf as AreWalksOf, IsCycle, StandIn}
 use Rattle.closed_walks.specs.FlatComponents as flat
 use Rattle.closed_walks.specs.Walks.{IsClosedWalk, IsLeastClosedWalk}
 use Rattle.components.specs.Lists as lists
@@ -39,25 +39,25 @@ use Rattle.emission.proofs.nest_emission.CycleLaws.{stand_among, standing_among}
 
 -- ---- lists
 
-member_or_not : (s : ℕ) (xs : List ℕ) → lists.In s xs ⊎ (lists.In s xs → ⊥)
+member_or_not : (s : ℕ) (xs : List ℕ) → lists.IsMember s xs ⊎ (lists.IsMember s xs → ⊥)
 member_or_not s [] = inr (λ i. i)
 member_or_not s (x ∷ xs) = by (cases_eq s x) (member_or_not s xs)
   where
-    by : (s ≡ x) ⊎ (s ≡ x → ⊥) → lists.In s xs ⊎ (lists.In s xs → ⊥) → ((s ≡ x) ⊎ lists.In s xs) ⊎ ((s ≡ x) ⊎ lists.In s xs → ⊥)
+    by : (s ≡ x) ⊎ (s ≡ x → ⊥) → lists.IsMember s xs ⊎ (lists.IsMember s xs → ⊥) → ((s ≡ x) ⊎ lists.IsMember s xs) ⊎ ((s ≡ x) ⊎ lists.IsMember s xs → ⊥)
     by (inl e) more = inl (inl e)
     by (inr f) (inl i) = inl (inr i)
     by (inr f) (inr g) = inr (λ h. neither f g h)
       where
-        neither : (s ≡ x → ⊥) → (lists.In s xs → ⊥) → (s ≡ x) ⊎ lists.In s xs → ⊥
+        neither : (s ≡ x → ⊥) → (lists.IsMember s xs → ⊥) → (s ≡ x) ⊎ lists.IsMember s xs → ⊥
         neither a b (inl e) = a e
         neither a b (inr i) = b i
 
-pub stand_among_numbers : (xs ys : List ℕ) → StandIn xs ys → (s : ℕ) → lists.In s xs → lists.In s ys
-stand_among_numbers xs [] h s i = subst (lists.In s) h i
+pub stand_among_numbers : (xs ys : List ℕ) → StandIn xs ys → (s : ℕ) → lists.IsMember s xs → lists.IsMember s ys
+stand_among_numbers xs [] h s i = subst (lists.IsMember s) h i
 stand_among_numbers xs (y ∷ ys) (inl h) s i = inr (stand_among_numbers xs ys h s i)
-stand_among_numbers xs (y ∷ ys) (inr h) s i = by (subst (lists.In s) h.1 i) (stand_among_numbers h.0 ys h.2 s)
+stand_among_numbers xs (y ∷ ys) (inr h) s i = by (subst (lists.IsMember s) h.1 i) (stand_among_numbers h.0 ys h.2 s)
   where
-    by : (s ≡ y) ⊎ lists.In s h.0 → (lists.In s h.0 → lists.In s ys) → (s ≡ y) ⊎ lists.In s ys
+    by : (s ≡ y) ⊎ lists.IsMember s h.0 → (lists.IsMember s h.0 → lists.IsMember s ys) → (s ≡ y) ⊎ lists.IsMember s ys
     by (inl e) more = inl e
     by (inr j) more = inr (more j)
 
@@ -80,7 +80,7 @@ module _ (pairs : List (ℕ × ℕ)) where
     among : In (s ∷ over) walks
     least : IsLeastClosedWalk pairs s over
 
-  walk_of : (starts : List ℕ) (walks : List (List ℕ)) → AreWalksOf pairs starts walks → (s : ℕ) → lists.In s starts → WalkOf walks s
+  walk_of : (starts : List ℕ) (walks : List (List ℕ)) → AreWalksOf pairs starts walks → (s : ℕ) → lists.IsMember s starts → WalkOf walks s
   walk_of [] [] h s i = absurd i
   walk_of [] (w ∷ walks) h s i = absurd h
   walk_of (r ∷ starts) [] h s i = absurd h
@@ -99,7 +99,7 @@ module _ (pairs : List (ℕ × ℕ)) where
   pub record StartOf (starts : List ℕ) (w : List ℕ) : Type 0 where
     pub start : ℕ
     pub over : List ℕ
-    pub among : lists.In start starts
+    pub among : lists.IsMember start starts
     pub least : IsLeastClosedWalk pairs start over
     pub is : w ≡ start ∷ over
 
@@ -245,16 +245,16 @@ module _ (n : Nest) (edges : List Edge) (holds : List Hold) (may : MayBeMarked n
         let w = joined_with edges d s q j in
         has_of q (is.is_part.whole s q i (with_within n edges holds may d s q (is.is_part.inside s i) w) w)
 
-    member : (s : ℕ) → In s c → lists.In s (statements_among count ps)
+    member : (s : ℕ) → In s c → lists.IsMember s (statements_among count ps)
     member s i =
         In-filter (λ s. stands_among s ps) (range_with_len 0 count) s
         (from_in s (range_with_len 0 count) (in_range 0 count s (omega arith) (let b = is.is_part.inside s i in omega arith))) (has_of s i)
 
-    of_member : (s : ℕ) → lists.In s (statements_among count ps) → In s c
+    of_member : (s : ℕ) → lists.IsMember s (statements_among count ps) → In s c
     of_member s i = of_has s (filter-In (λ s. stands_among s ps) (range_with_len 0 count) s i).1
 
     module _ (walks : List (List ℕ)) (w : AreCycles (steps_of (λ s. stands_among s ps) edges k) (statements_among count ps) walks) where
-      cycle_of : (s : ℕ) → lists.In s w.starts → HasCycle edges (map (cycle_at k) walks) s k
+      cycle_of : (s : ℕ) → lists.IsMember s w.starts → HasCycle edges (map (cycle_at k) walks) s k
       cycle_of s i =
           let m = walk_of (steps_of (λ s. stands_among s ps) edges k) w.starts walks w.each s i in
           let inside = of_member s (stand_among_numbers w.starts (statements_among count ps) w.among s i) in
@@ -264,13 +264,13 @@ module _ (n : Nest) (edges : List Edge) (holds : List Hold) (may : MayBeMarked n
             among = contained (map (cycle_at k) walks) (cycle_at k (s ∷ m.over)) (map-In (cycle_at k) (s ∷ m.over) walks m.among);
           }
 
-      starts : (s : ℕ) (over : List ℕ) → In s c → IsClosedWalk (steps_at edges k) s over → lists.In s w.starts
+      starts : (s : ℕ) (over : List ℕ) → In s c → IsClosedWalk (steps_at edges k) s over → lists.IsMember s w.starts
       starts s over i closed = w.all s over (member s i) (closed_within edges k has s (joined_has s i) over closed)
 
       here : (s : ℕ) → In s c → HasCycle edges (map (cycle_at k) walks) s k ⊎ IsHeldThere edges holds s k
       here s i = by (member_or_not s w.starts)
         where
-          by : lists.In s w.starts ⊎ (lists.In s w.starts → ⊥) → HasCycle edges (map (cycle_at k) walks) s k ⊎ IsHeldThere edges holds s k
+          by : lists.IsMember s w.starts ⊎ (lists.IsMember s w.starts → ⊥) → HasCycle edges (map (cycle_at k) walks) s k ⊎ IsHeldThere edges holds s k
           by (inl j) = inl (cycle_of s j)
           by (inr f) = inr (record { by_itself = alone; held = held (is_recurrent edges k s) (is_held holds k s) refl refl turns })
             where

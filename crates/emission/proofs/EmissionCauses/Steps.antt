@@ -6,7 +6,7 @@ use Rattle.std.proofs.lemmas.Bool.Decides.{Decides-eqb}
 use Rattle.closed_walks.proofs.FlatComponents.{nested_is_flat}
 use Rattle.closed_walks.specs.FlatComponents as flat
 use Rattle.closed_walks.specs.Walks.{IsClosedWalk, IsLeastClosedWalk}
-use Rattle.components.specs.Lists.{In}
+use Rattle.components.specs.Lists.{IsMember}
 use Rattle.components.specs.Reachability.{Reaches, Walk}
 use Rattle.components.proofs.ListLaws.{filter-In, In-filter}
 use Rattle.dependence_graph.specs.declared.graphs.Edge.{Edge}
@@ -26,7 +26,7 @@ use Rattle.emission.proofs.nest_emission.PairLaws.{joined, joining}
 module _ (edges : List Edge) (k : ℕ) where
   pub record IsStep (has : ℕ → Bool) (a b : ℕ) : Type 0 where
     pub edge : Edge
-    pub among : In edge edges
+    pub among : IsMember edge edges
     pub from : edge.from.stmt ≡ a
     pub to : edge.to.stmt ≡ b
     pub work : is_at_work k edge.level ≡ true
@@ -34,10 +34,10 @@ module _ (edges : List Edge) (k : ℕ) where
     pub start : has a ≡ true
     pub end : has b ≡ true
 
-  pub step_of : (has : ℕ → Bool) (a b : ℕ) → In (a, b) (steps_of has edges k) → IsStep has a b
+  pub step_of : (has : ℕ → Bool) (a b : ℕ) → IsMember (a, b) (steps_of has edges k) → IsStep has a b
   step_of has a b i = by (map_in (λ (e : Edge). (e.from.stmt, e.to.stmt)) (filter (is_step has k) edges) (a, b) i)
     where
-      by : (e : Edge) × In e (filter (is_step has k) edges) × (◌≡◌ {A = ℕ × ℕ} (a, b) (e.from.stmt, e.to.stmt)) → IsStep has a b
+      by : (e : Edge) × IsMember e (filter (is_step has k) edges) × (◌≡◌ {A = ℕ × ℕ} (a, b) (e.from.stmt, e.to.stmt)) → IsStep has a b
       by m =
           let e = m.0 in
           let test = filter-In (is_step has k) edges e m.1 in
@@ -57,15 +57,15 @@ module _ (edges : List Edge) (k : ℕ) where
             end = subst (λ z. has z ≡ true) to r.1;
           }
 
-  pub in_steps : (has : ℕ → Bool) (a b : ℕ) → IsStep has a b → In (a, b) (steps_of has edges k)
+  pub in_steps : (has : ℕ → Bool) (a b : ℕ) → IsStep has a b → IsMember (a, b) (steps_of has edges k)
   in_steps has a b h =
       let e = h.edge in
       let test : is_step has k e ≡ true =
       and_from (is_at_work k e.level) (not (is_own_anti e) && (has e.from.stmt && has e.to.stmt)) h.work
       (and_from (not (is_own_anti e)) (has e.from.stmt && has e.to.stmt) h.own
       (and_from (has e.from.stmt) (has e.to.stmt) (subst (λ z. has z ≡ true) (sym h.from) h.start) (subst (λ z. has z ≡ true) (sym h.to) h.end))) in
-      subst (λ z. In {X = ℕ × ℕ} (a, z) (steps_of has edges k)) h.to
-      (subst (λ z. In {X = ℕ × ℕ} (z, e.to.stmt) (steps_of has edges k)) h.from
+      subst (λ z. IsMember {X = ℕ × ℕ} (a, z) (steps_of has edges k)) h.to
+      (subst (λ z. IsMember {X = ℕ × ℕ} (z, e.to.stmt) (steps_of has edges k)) h.from
       (in_map (λ (e : Edge). (e.from.stmt, e.to.stmt)) (filter (is_step has k) edges) e (In-filter (is_step has k) edges e h.among test)))
 
   pub step_leads : (has : ℕ → Bool) (a b : ℕ) → IsStep has a b → leads edges k a b ≡ true
@@ -124,12 +124,12 @@ module _ (edges : List Edge) (k : ℕ) where
   abbrev pub free : ℕ → Type 0
   free q = Unit {0}
 
-  pub to_free : (has : ℕ → Bool) (a : ℕ) (over : List ℕ) (b : ℕ) → Walk (steps_of has edges k) a over b → flat.IsWalk (leads edges) k (λ q. Unit {0}) a over b
+  pub to_free : (has : ℕ → Bool) (a : ℕ) (over : List ℕ) (b : ℕ) → Walk (steps_of has edges k) a over b → flat.IsFlatWalk (leads edges) k (λ q. Unit {0}) a over b
   to_free has a [] b w = w
   to_free has a (q ∷ over) b w = (step_leads has a q (step_of has a q w.0), tt, to_free has q over b w.1)
 
   -- without what leads from a statement to itself
-  pub of_free : (a : ℕ) (over : List ℕ) (b : ℕ) → flat.IsWalk (leads edges) k (λ q. Unit {0}) a over b → Reaches (steps_at edges k) a b
+  pub of_free : (a : ℕ) (over : List ℕ) (b : ℕ) → flat.IsFlatWalk (leads edges) k (λ q. Unit {0}) a over b → Reaches (steps_at edges k) a b
   of_free a [] b w = ([], w)
   of_free a (q ∷ over) b w = by (cases_eq a q) (of_free q over b w.2)
     where
@@ -177,9 +177,9 @@ module _ (edges : List Edge) (k : ℕ) where
 
     module _ (s : ℕ) (all : (q : ℕ) → flat.IsJoined (leads edges) k s q → has q ≡ true) where
       abbrev Free : ℕ → ℕ → Type 0
-      Free a b = flat.Reaches (leads edges) k (λ q. Unit {0}) a b
+      Free a b = flat.ReachesFlat (leads edges) k (λ q. Unit {0}) a b
 
-      free_more : (a : ℕ) (us : List ℕ) (b c : ℕ) → flat.IsWalk (leads edges) k (λ q. Unit {0}) a us b → leads edges k b c ≡ true → Free a c
+      free_more : (a : ℕ) (us : List ℕ) (b c : ℕ) → flat.IsFlatWalk (leads edges) k (λ q. Unit {0}) a us b → leads edges k b c ≡ true → Free a c
       free_more a [] b c w h = (c ∷ [], (subst (λ z. leads edges k z c ≡ true) (sym w) h, tt, refl))
       free_more a (u ∷ us) b c w h = let m = free_more u us b c w.2 h in (u ∷ m.0, (w.0, tt, m.1))
 
@@ -216,7 +216,7 @@ module _ (edges : List Edge) (k : ℕ) where
       }
 
 -- a step leads to a statement of the nest
-pub step_within : (n : Nest) (edges : List Edge) (k : ℕ) (has : ℕ → Bool) (a b : ℕ) → AreEdgesOf n edges → In (a, b) (steps_of has edges k) → b < length (nest_statements n)
+pub step_within : (n : Nest) (edges : List Edge) (k : ℕ) (has : ℕ → Bool) (a b : ℕ) → AreEdgesOf n edges → IsMember (a, b) (steps_of has edges k) → b < length (nest_statements n)
 step_within n edges k has a b legal i =
     let h = step_of edges k has a b i in
     subst (λ z. z < length (nest_statements n)) h.to (in_all (IsEdgeOf n) edges legal h.edge h.among).to
@@ -224,7 +224,7 @@ step_within n edges k has a b legal i =
 -- ---- components level by level, and at once
 
 module _ (edges : List Edge) where
-  walk_as : (k : ℕ) (Has Other : ℕ → Type 0) → ((q : ℕ) → Has q → Other q) → (s : ℕ) (qs : List ℕ) (r : ℕ) → flat.IsWalk (leads edges) k Has s qs r
+  walk_as : (k : ℕ) (Has Other : ℕ → Type 0) → ((q : ℕ) → Has q → Other q) → (s : ℕ) (qs : List ℕ) (r : ℕ) → flat.IsFlatWalk (leads edges) k Has s qs r
       → marks.IsWalk edges k Other s qs r
   walk_as k Has Other f s [] r w = w
   walk_as k Has Other f s (q ∷ qs) r w = (w.0, f q w.1, walk_as k Has Other f q qs r w.2)
@@ -255,7 +255,7 @@ module _ (edges : List Edge) where
   joined_with k s r h = with_as (suc k) s r ((nested_is_flat (leads edges) outer k s r).1 h)
 
   as_walk : (k : ℕ) (Has Other : ℕ → Type 0) → ((q : ℕ) → Has q → Other q) → (s : ℕ) (qs : List ℕ) (r : ℕ) → marks.IsWalk edges k Has s qs r
-      → flat.IsWalk (leads edges) k Other s qs r
+      → flat.IsFlatWalk (leads edges) k Other s qs r
   as_walk k Has Other f s [] r w = w
   as_walk k Has Other f s (q ∷ qs) r w = (w.0, f q w.1, as_walk k Has Other f q qs r w.2)
 

@@ -6,10 +6,10 @@ use Rattle.std.proofs.lemmas.Bool.{and_parts, cases_lt}
 use Rattle.std.proofs.lemmas.Bool.Decides.{Decides-int_eq}
 use Rattle.std.proofs.lemmas.Int.{ints}
 use Rattle.std.proofs.lemmas.List.{length-replicate}
-use Rattle.array_form.specs.forms.Loops.{Trip as FormTrip}
-use Rattle.array_form.specs.holds.Bounds.{is_constant}
+use Rattle.array_form.specs.forms.Loops.{FormTrip}
+use Rattle.array_form.specs.holds.Bounds.{is_constant_trip}
 use Rattle.array_form.specs.holds.Statements.{no_statement}
-use Rattle.array_form.specs.holds.Surroundings.{coefficients_from, counted, form_of_affine, trip_of}
+use Rattle.array_form.specs.holds.Surroundings.{coefficients_from, counted_loop, form_of_affine, form_trip_of}
 use Rattle.array_form.specs.lone.Cells.{KeepConstantTrips}
 use Rattle.dependence_graph.specs.nest_graph.Instances.{turns_at}
 use Rattle.dependence_graph.specs.nest_graph.Ready.{IsReady}
@@ -136,9 +136,9 @@ none_is d e = grind arith
 
 module _ (n : Nest) (v : ℕ → ℤ) (m : ℕ) (few : m ≤ 7) (l : Loop) (known : IsKnownLoop n.symbols m l) (there : loop_numbered (nest_loops n) l.number ≡ Some l) where
   abbrev form_trip : FormTrip
-  form_trip = trip_of m (counted l).trip
+  form_trip = form_trip_of m (counted_loop l).trip
 
-  constant_turns : (before : List ℕ) → is_constant form_trip ≡ true → turns_in n v l.number before ≤ not_negative form_trip.form.constant
+  constant_turns : (before : List ℕ) → is_constant_trip form_trip ≡ true → turns_in n v l.number before ≤ not_negative form_trip.form.constant
   constant_turns before h =
       let p = and_parts (form_trip.divisor == 1) (not_zero form_trip.form.coefficients == 0) h in
       let by_is : (trip_in l).by ≡ pos 1 = abs_one known.trip.by (trip_in l).by known.trip.by_is (one_is form_trip.divisor p.0) in
@@ -155,7 +155,7 @@ pub constant_trips : (n : Nest) (plain : IsPlain n.body) (ready : IsReady n) (s 
 constant_trips n plain ready s within known v j l t before at round h =
     let m = length (loops_at n s) in
     let few : m ≤ 7 = (ready.statements s no_statement within).depth in
-    let same : trip_of m (counted l).trip ≡ t = nth_map (λ (k : Loop). trip_of m (counted k).trip) (loops_at n s) j l t at round in
+    let same : form_trip_of m (counted_loop l).trip ≡ t = nth_map (λ (k : Loop). form_trip_of m (counted_loop k).trip) (loops_at n s) j l t at round in
     let there = known_loop n plain ready s within l (nth_in (loops_at n s) j l at) in
-    let most = constant_turns n v m few l (subst (λ k. IsKnownLoop n.symbols k l) (let e : 0 + m ≡ m = omega arith in e) (known_at n.symbols 0 (loops_at n s) j l known at)) there before (subst (λ (u : FormTrip). is_constant u ≡ true) (sym same) h) in
+    let most = constant_turns n v m few l (subst (λ k. IsKnownLoop n.symbols k l) (let e : 0 + m ≡ m = omega arith in e) (known_at n.symbols 0 (loops_at n s) j l known at)) there before (subst (λ (u : FormTrip). is_constant_trip u ≡ true) (sym same) h) in
     subst (λ (u : FormTrip). turns_in n v l.number before ≤ not_negative u.form.constant) same most

@@ -16,7 +16,7 @@ use Rattle.nest_order.proofs.facts.Facts.{facts_suffice, have-append, loops_have
 use Rattle.nest_order.proofs.facts.Facts.{symbols-sized}
 use Rattle.dependence_graph.specs.nest_graph.Instances.{turns_at}
 use Rattle.nest_order.specs.orders.Lists.{In, Each, Distinct}
-use Rattle.nest_order.specs.orders.Shapes.{no_shapes, shape, loops, instances, instances_in, turns, within_turn}
+use Rattle.nest_order.specs.orders.Shapes.{no_shapes, shape, loops_of_shape, instances, instances_in, turns, within_turn}
 use Rattle.nest_order.proofs.orders.Lists.{Distinct-rest, Each-append, In-left, In-right}
 use Rattle.nest_order.proofs.orders.Membership.{In-map}
 use Rattle.nest_order.specs.runs.Alone.{chain}
@@ -35,6 +35,9 @@ use Rattle.nest.specs.Plain.{Loop, Nest}
 use Rattle.emission.specs.emission_forms.Written.{HaveTripTexts, IsTripText}
 use Rattle.emission.proofs.EmissionForms.FormsGiven.{trip_has_value}
 use Rattle.emission.proofs.EmissionForms.FormsTurns.{IsFree, map-append, some_trip, trip_in, turns_anywhere, turns_there}
+use Rattle.tree.specs.Widths.{bits_of}
+use Rattle.meaning.proofs.Widths.{in_range_more, narrowest}
+use Rattle.tree.specs.declared.width.Width.{Width}
 
 -- ---- no instance
 
@@ -56,7 +59,7 @@ turns_to_is : (z : ℤ) → turns_to z ≡ not_negative z
 turns_to_is (pos k) = refl
 turns_to_is (negsuc k) = refl
 
-at_as_many : (r : runs.Nest) (ls is : List ℕ) (s : Store) → AreAt r ls is s → length is ≡ length ls
+at_as_many : (r : runs.RunNest) (ls is : List ℕ) (s : Store) → AreAt r ls is s → length is ≡ length ls
 at_as_many r [] [] s h = refl
 at_as_many r [] (i ∷ is) s h = absurd h
 at_as_many r (l ∷ ls) [] s h = absurd h
@@ -65,11 +68,11 @@ at_as_many r (l ∷ ls) (i ∷ is) s h = ap suc (at_as_many r ls is s h.1)
 zero_plus : (j : ℕ) → j ≡ 0 + j
 zero_plus j = omega arith
 
-module _ (n : Nest) (w : Setting) (facts : HasFacts 31 (run_nest n) w) where
-  values_have : (round bef : List ℕ) (st : Store) → ((m : ℕ) → In m round → In m (loops (run_nest n).shape)) → HoldsNest 31 (run_nest n) w st → AreAt (run_nest n) round bef st
+module _ (width : Width) (n : Nest) (w : Setting) (facts : HasFacts (bits_of width) (run_nest n) w) where
+  values_have : (round bef : List ℕ) (st : Store) → ((m : ℕ) → In m round → In m (loops_of_shape (run_nest n).shape)) → HoldsNest (bits_of width) (run_nest n) w st → AreAt (run_nest n) round bef st
       → HaveValues (map (run_nest n).variable_at round ++ n.symbols) st (map pos bef ++ values_from w.values 0 n.symbols)
   values_have round bef st known holds at = have-append (map (run_nest n).variable_at round) n.symbols st (map pos bef) (values_from w.values 0 n.symbols)
-      (loops_have 31 (run_nest n) w facts round bef st (λ m j. holds.bounds ((run_nest n).variable_at m) ∙ facts.variables m (known m j)) at)
+      (loops_have (bits_of width) (run_nest n) w facts round bef st (λ m j. holds.bounds ((run_nest n).variable_at m) ∙ facts.variables m (known m j)) at)
       (symbols-have w.values st n.symbols 0 (λ x i. holds.bounds x ∙ facts.symbols x i) (λ j x e. holds.symbols j x e ∙ ap (λ m. Int (w.values m)) (zero_plus j)))
 
   values_sized : (bef : List ℕ) (st : Store) → Each (λ i. i ≤ 2147483646) bef → AreSized (map pos bef ++ values_from w.values 0 n.symbols)
@@ -93,18 +96,18 @@ module _ (n : Nest) (w : Setting) (facts : HasFacts 31 (run_nest n) w) where
     joined l ls h (inr stops) = inr (record { loop = stops.loop; among = inr stops.among; none = stops.none })
 
     pub counted_or_none : (ls : List Loop) (round bef is : List ℕ) (st : Store) → bef ≡ before ++ is → Each (IsFree n outs ins) ls → HaveTripTexts n.symbols (map (run_nest n).variable_at round) ls
-        → ((l : Loop) → In l ls → loop_numbered (nest_loops n) l.number ≡ Some l) → Distinct (round ++ numbers_of ls) → ((m : ℕ) → In m (round ++ numbers_of ls) → In m (loops (run_nest n).shape))
-        → Each (λ i. i ≤ 2147483646) bef → HoldsNest 31 (run_nest n) w st → AreAt (run_nest n) round bef st → AreCounted 31 (run_nest n) w round bef (chain (numbers_of ls) s) → AreSmall ls ⊎ Stops ls
+        → ((l : Loop) → In l ls → loop_numbered (nest_loops n) l.number ≡ Some l) → Distinct (round ++ numbers_of ls) → ((m : ℕ) → In m (round ++ numbers_of ls) → In m (loops_of_shape (run_nest n).shape))
+        → Each (λ i. i ≤ 2147483646) bef → HoldsNest (bits_of width) (run_nest n) w st → AreAt (run_nest n) round bef st → AreCounted (bits_of width) (run_nest n) w round bef (chain (numbers_of ls) s) → AreSmall ls ⊎ Stops ls
     counted_or_none [] round bef is st e free texts numbered once known small holds at counted = inl (λ l i. absurd i)
     counted_or_none (l ∷ ls) round bef is st e free texts numbered once known small holds at counted =
         let c = counted.0 in
         let it = numbered l (inl refl) in
-        let value : number_of (sequential 31) l.last st ≡ Ok c.top = subst (λ o. number_of (sequential 31) (trip_of_loop o) st ≡ Ok c.top) it (c.gives st holds at) in
+        let value : number_of (sequential (bits_of width)) l.last st ≡ Ok c.top = subst (λ o. number_of (sequential (bits_of width)) (trip_of_loop o) st ≡ Ok c.top) it (c.gives st holds at) in
         let text = (some_trip l.trip (IsTripText (map (run_nest n).variable_at round) n.symbols l.last) texts.0).1 in
         let long : length (map pos bef) ≡ length (map (run_nest n).variable_at round) = length-map bef pos ∙ (at_as_many (run_nest n) round bef st at ∙ sym (length-map round (run_nest n).variable_at)) in
-        let round_known : (m : ℕ) → In m round → In m (loops (run_nest n).shape) = λ m j. known m (In-left m round (numbers_of (l ∷ ls)) j) in
+        let round_known : (m : ℕ) → In m round → In m (loops_of_shape (run_nest n).shape) = λ m j. known m (In-left m round (numbers_of (l ∷ ls)) j) in
         let top : c.top ≡ turns_at (trip_in l) w.values (map pos bef)
-        = trip_has_value (sequential 31) (map (run_nest n).variable_at round) n.symbols w.values (map pos bef) st long (values_have round bef st round_known holds at) (values_sized bef st small) l.last (trip_in l) c.top text value in
+        = trip_has_value (sequential (bits_of width)) (map (run_nest n).variable_at round) n.symbols w.values (map pos bef) st long (values_have round bef st round_known holds at) (values_sized bef st small) l.last (trip_in l) c.top text value in
         let same : c.top ≡ turns_of l = top ∙ (ap (λ js. turns_at (trip_in l) w.values (map pos js)) e ∙ turns_anywhere n outs ins w.values before as_many l free.0 is) in
         let k = (run_nest n).turns_of w.values l.number bef in
         let count : k ≡ not_negative (turns_of l) = count_from_one c.top k c.counts ∙ (turns_to_is c.top ∙ ap not_negative same) in
@@ -122,7 +125,7 @@ module _ (n : Nest) (w : Setting) (facts : HasFacts 31 (run_nest n) w) where
               (subst (λ xs. HaveTripTexts n.symbols xs ls) (sym (map-append (run_nest n).variable_at round (l.number ∷ []) ∙ ap (λ o. map (run_nest n).variable_at round ++ variable_of_loop o ∷ []) it)) texts.1)
               (λ m i. numbered m (inr i)) (subst Distinct (sym further) once) (λ m i. known m (subst (In m) further i))
               (Each-append (λ i. i ≤ 2147483646) bef (1 ∷ []) small (omega arith, tt))
-              (variable_inside 31 (run_nest n) w (facts_suffice 31 (run_nest n) w facts) l.number (known l.number own) (pos 1) st refl holds)
+              (variable_inside (bits_of width) (run_nest n) w (facts_suffice (bits_of width) (run_nest n) w facts) l.number (known l.number own) (pos 1) st (in_range_more 31 (bits_of width) (narrowest width) (Int (pos 1)) refl) holds)
               (AreAt-more (run_nest n) round bef l.number 1 next (AreAt-put (run_nest n) round bef (var (run_nest n) l.number) (Int (pos 1)) st fresh at) (put_there (var (run_nest n) l.number) (Int (pos 1)) st))
               (counted.1 1 (omega arith) (omega arith)).0)
           | inr none ↦ inr (record { loop = l; among = inl refl; none = omega arith })

@@ -34,7 +34,7 @@ use Rattle.nest_order.specs.facts.Facts.{values_from}
 use Rattle.dependence_graph.specs.nest_graph.Instances.{turns_at}
 use Rattle.dependence_graph.specs.nest_graph.Ready.{IsTripIn}
 use Rattle.nest_order.specs.orders.Lists.{In}
-use Rattle.nest_order.specs.orders.Shapes.{loops}
+use Rattle.nest_order.specs.orders.Shapes.{loops_of_shape}
 use Rattle.nest_order.specs.runs.Stores.{Setting}
 use Rattle.nest_order.proofs.runs.Results.{both_ok, ok_same}
 use Rattle.nest.specs.declared.parts.Trip.{Trip}

@@ -92,7 +92,7 @@ short_form n k a h = let e = length-append (take n a.loops) (coefficients_from 0
 
 -- ---- numbers
 
-pub values_same : (v : ℕ → ℤ) (k : ℕ) (xs : List (List ℕ)) → touched.values_from v k xs ≡ values_from v k xs
+pub values_same : (v : ℕ → ℤ) (k : ℕ) (xs : List (List ℕ)) → touched.symbol_values_from v k xs ≡ values_from v k xs
 values_same v k [] = refl
 values_same v k (x ∷ xs) = ap (λ vs. v k ∷ vs) (values_same v (suc k) xs)
 

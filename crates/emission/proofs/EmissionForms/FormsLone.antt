@@ -22,7 +22,7 @@ use Rattle.nest_order.specs.facts.Facts.{HasFacts}
 use Rattle.dependence_graph.specs.nest_graph.Graph.{IsGraphOf}
 use Rattle.dependence_graph.specs.nest_graph.Ready.{HaveTrips, IsReady}
 use Rattle.nest_order.specs.orders.Lists.{In, Distinct}
-use Rattle.nest_order.specs.orders.Shapes.{loops}
+use Rattle.nest_order.specs.orders.Shapes.{loops_of_shape}
 use Rattle.nest_order.proofs.orders.Lists.{In-left, In-right}
 use Rattle.nest_order.specs.runs.Guarded as runs
 use Rattle.nest_order.specs.runs.LoneForms.{AreLoneForms, IsFormOf}
@@ -49,6 +49,8 @@ use Rattle.emission.proofs.EmissionForms.FormsTurns.{texts_behind, trips_behind}
 use Rattle.emission.proofs.EmissionForms.OwnEdges.{no_own_edge}
 use Rattle.emission.proofs.EmissionForms.Surroundings.{guarded_there, in_nest, known_loop, loops_known}
 use Rattle.emission.proofs.EmissionForms.Surroundings.{loops_there, names_distinct, nth_is, statements_stand, variables_numbered}
+use Rattle.tree.specs.Widths.{bits_of}
+use Rattle.tree.specs.declared.width.Width.{Width}
 
 -- ---- the outer loops and the inner ones
 
@@ -81,8 +83,8 @@ not_both b p q = cc
 
 -- ---- a statement
 
-module _ (stores : GuardedFormStoresInstances) (n : Nest) (g : Graph) (holds : List Hold) (w : Setting) (plain : IsPlain n.body) (ready : IsReady n) (regular : AreRegular n) (all : AreAllHolds n holds)
-    (facts : HasFacts 31 (run_nest n) w) (given : HasFormFacts n w) (guarded : HaveGuardedNames n w) (named : UnguardedNameCells (run_nest n) w) where
+module _ (width : Width) (stores : GuardedFormStoresInstances width) (n : Nest) (g : Graph) (holds : List Hold) (w : Setting) (plain : IsPlain n.body) (ready : IsReady n) (regular : AreRegular n) (all : AreAllHolds n holds)
+    (facts : HasFacts (bits_of width) (run_nest n) w) (given : HasFormFacts n w) (guarded : HaveGuardedNames n w) (named : UnguardedNameCells (run_nest n) w) where
   module _ (s : ℕ) (within : s < length (nest_statements n)) (outs ins : List Loop) (is : loops_at n s ≡ outs ++ ins) (some : 1 ≤ length ins) where
     abbrev level : ℕ
     level = suc (length (numbers_of outs))
@@ -99,11 +101,11 @@ module _ (stores : GuardedFormStoresInstances) (n : Nest) (g : Graph) (holds : L
     abbrev safe : Bool
     safe = is_safe n (standing_at n s)
 
-    same : ◌≡◌ {A = runs.Guarded} (record { guard = own_guard; left = own_left; right = own_right }) ((run_nest n).statement_at s)
+    same : ◌≡◌ {A = runs.GuardedAssignment} (record { guard = own_guard; left = own_left; right = own_right }) ((run_nest n).statement_at s)
     same = sym (guarded_there n plain ready s within)
 
     left_is : own_left ≡ ((run_nest n).statement_at s).left
-    left_is = ap (λ (x : runs.Guarded). x.left) same
+    left_is = ap (λ (x : runs.GuardedAssignment). x.left) same
 
     at_level : IsLevelOf n level s
     at_level =
@@ -135,15 +137,15 @@ module _ (stores : GuardedFormStoresInstances) (n : Nest) (g : Graph) (holds : L
         let inner : HaveTrips (length (map (λ (l : Loop). l.variable) outs)) ins = subst (λ d. HaveTrips d ins) (let e : 0 + length outs ≡ length (map (λ (l : Loop). l.variable) outs) = omega arith in e) trips in
         subst (λ d. HaveKnown n.symbols d ins) (let e : length (map (λ (l : Loop). l.variable) outs) ≡ length outs + 0 = omega arith in e) (have_known n.symbols (map (λ (l : Loop). l.variable) outs) ins inner texts)
 
-    loops_once : Distinct (numbers_of outs ++ numbers_of ins) × ((m : ℕ) → In m (numbers_of outs ++ numbers_of ins) → In m (loops (run_nest n).shape))
-    loops_once = subst (λ ks. Distinct ks × ((m : ℕ) → In m ks → In m (loops (run_nest n).shape))) numbers_are (loops_known n plain ready s within facts.text)
+    loops_once : Distinct (numbers_of outs ++ numbers_of ins) × ((m : ℕ) → In m (numbers_of outs ++ numbers_of ins) → In m (loops_of_shape (run_nest n).shape))
+    loops_once = subst (λ ks. Distinct ks × ((m : ℕ) → In m ks → In m (loops_of_shape (run_nest n).shape))) numbers_are (loops_known n plain ready s within facts.text)
 
-    there : may_be_formed g.edges holds level s ≡ true → IsThere n w outs ins s
+    there : may_be_formed g.edges holds level s ≡ true → IsThere width n w outs ins s
     there may =
         let few : length (outs ++ ins) ≤ 7 = subst (λ (ls : List Loop). length ls ≤ 7) is (ready.statements s no_statement within).depth in
-        let distinct = subst (λ ls. trips.AreDistinct (forms.names_of (surroundings_of n ls))) is (names_distinct n plain ready s within facts.text given.symbols) in
+        let distinct = subst (λ ls. trips.AreDistinct (forms.form_names_of (surroundings_of n ls))) is (names_distinct n plain ready s within facts.text given.symbols) in
         let square : is_triangle (around n outs ins) (map (formed_loop n outs ins) ins) ≡ false
-        = subst (λ ls. is_triangle (around n outs ins) ls ≡ false) (inner_loops n w outs ins) (no_triangle (around n outs ins) level own_left (unheld (around n outs ins) level own_guard own_left safe (no_hold may))) in
+        = subst (λ ls. is_triangle (around n outs ins) ls ≡ false) (inner_loops width n w outs ins) (no_triangle (around n outs ins) level own_left (unheld (around n outs ins) level own_guard own_left safe (no_hold may))) in
         record {
           in_nest = in_nest n plain ready s within;
           fits = loops_there n plain ready s within ∙ numbers_are;
@@ -160,7 +162,7 @@ module _ (stores : GuardedFormStoresInstances) (n : Nest) (g : Graph) (holds : L
 
     -- where the statement has a guard, its references name cells if it is safe
     has_guard : ((run_nest n).statement_at s).guard ≢ None → own_guard ≢ None
-    has_guard there_is none = there_is (sym (ap (λ (x : runs.Guarded). x.guard) same) ∙ none)
+    has_guard there_is none = there_is (sym (ap (λ (x : runs.GuardedAssignment). x.guard) same) ∙ none)
 
     all_known : HaveKnown n.symbols 0 (loops_at n s)
     all_known = have_known n.symbols [] (loops_at n s) (ready.statements s no_statement within).trips (given.trips s within)
@@ -168,35 +170,35 @@ module _ (stores : GuardedFormStoresInstances) (n : Nest) (g : Graph) (holds : L
     cells : own_guard ≢ None → safe ≡ true → HaveCells (run_nest n) w s
     cells there_is h =
         let own = guarded s within there_is in
-        safe_statements_have_cells n (linear_in n) (turns_in n) w s (standing_at n s) (statements_stand n plain ready) facts (nth_is (nest_statements n) s no_statement within)
+        safe_statements_have_cells width n (linear_in n) (turns_in n) w s (standing_at n s) (statements_stand n plain ready) facts (nth_is (nest_statements n) s no_statement within)
         own.declared (constant_trips n plain ready s within all_known w.values) named own.made h
 
     -- the left side moves, and guard and right side are regular, with these loops
-    abbrev IsRegularIn : List Loop → runs.Guarded → Type 0
+    abbrev IsRegularIn : List Loop → runs.GuardedAssignment → Type 0
     IsRegularIn ls x =
         (are_moved (surroundings_of n ls) (loops_assigned (surroundings_of n ls) level x.left) x.left.subscripts ≡ true)
         × (is_regular_guard (surroundings_of n ls) (loops_assigned (surroundings_of n ls) level x.left) x.guard ≡ true)
         × (is_regular (surroundings_of n ls) (loops_assigned (surroundings_of n ls) level x.left) x.right ≡ true)
 
-    abbrev IsForm : Statement → List Loop → runs.Guarded → Type 0
+    abbrev IsForm : Statement → List Loop → runs.GuardedAssignment → Type 0
     IsForm c ls x =
         array_form_of (surroundings_of n ls) level (standing_at n s).statement.line (Some (mark_of n s level)) x.guard x.left x.right ≡ statement c no_statements
 
-    abbrev IsUnheld : runs.Guarded → Type 0
+    abbrev IsUnheld : runs.GuardedAssignment → Type 0
     IsUnheld x = hold_at (around n outs ins) level x.guard x.left safe ≡ None
 
-    form_is : (c : Statement) → may_be_formed g.edges holds level s ≡ true → formed_block n level s ≡ statement c no_statements → IsFormOf 31 true (run_nest n) w (numbers_of outs) (numbers_of ins) s c
+    form_is : (c : Statement) → may_be_formed g.edges holds level s ≡ true → formed_block n level s ≡ statement c no_statements → IsFormOf (bits_of width) true (run_nest n) w (numbers_of outs) (numbers_of ins) s c
     form_is c may form =
         let rest = regular level s at_level (none_listed may) in
-        let x : runs.Guarded = record { guard = own_guard; left = own_left; right = own_right } in
+        let x : runs.GuardedAssignment = record { guard = own_guard; left = own_left; right = own_right } in
         let moves = subst (IsRegularIn (outs ++ ins)) same (subst (λ ls. IsRegularIn ls x) is (rest.left, rest.guard, rest.right)) in
-        composed n w outs ins facts stores s (there may) some (standing_at n s).statement.line (Some (mark_of n s level)) c safe (λ there_is. cells (has_guard there_is))
+        composed width n w outs ins facts stores s (there may) some (standing_at n s).statement.line (Some (mark_of n s level)) c safe (λ there_is. cells (has_guard there_is))
         (subst IsUnheld same (no_hold may)) moves.0 moves.1 moves.2
         (subst (IsForm c (outs ++ ins)) same (subst (λ ls. IsForm c ls x) is form))
 
   -- ---- all forms
 
-  pub lone_forms : ArcsAreEdges → IsGraphOf n g → AreLoneForms 31 true (run_nest n) w (arcs_of g.edges) (formed n g.edges holds)
+  pub lone_forms : ArcsAreEdges → IsGraphOf n g → AreLoneForms (bits_of width) true (run_nest n) w (arcs_of g.edges) (formed n g.edges holds)
   lone_forms arcs graph outer t c e =
       let f = formed_is n g.edges holds outer t c e in
       let parts = split (loops_at n f.number) outer f.inner f.loops in
@@ -205,13 +207,13 @@ module _ (stores : GuardedFormStoresInstances) (n : Nest) (g : Graph) (holds : L
         f.inner,
         f.is_chain,
         no_own_edge n g holds (length outer) f.number graph (arcs n g ready graph) f.may,
-        subst (λ ks. IsFormOf 31 true (run_nest n) w outer ks f.number c) parts.inner_is
-            (subst (λ ks. IsFormOf 31 true (run_nest n) w ks (numbers_of parts.ins) f.number c) parts.outer_is
+        subst (λ ks. IsFormOf (bits_of width) true (run_nest n) w outer ks f.number c) parts.inner_is
+            (subst (λ ks. IsFormOf (bits_of width) true (run_nest n) w ks (numbers_of parts.ins) f.number c) parts.outer_is
             (form_is f.number f.within parts.outs parts.ins parts.is some c
             (subst (λ (ks : List ℕ). may_be_formed g.edges holds (suc (length ks)) f.number ≡ true) (sym parts.outer_is) f.may)
             (subst (λ (ks : List ℕ). formed_block n (suc (length ks)) f.number ≡ statement c no_statements) (sym parts.outer_is) f.form))),
       )
 
-pub forms_are_lone : FormsAreLone
-forms_are_lone n g holds w plain ready regular graph all facts given guarded named =
-    lone_forms guarded_form_stores_instances n g holds w plain ready regular all facts given guarded named arcs_are_edges graph
+pub forms_are_lone : (width : Width) → FormsAreLone width
+forms_are_lone width n g holds w plain ready regular graph all facts given guarded named =
+    lone_forms width (guarded_form_stores_instances width) n g holds w plain ready regular all facts given guarded named arcs_are_edges graph

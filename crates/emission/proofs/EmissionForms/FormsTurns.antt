@@ -30,7 +30,7 @@ use Rattle.nest_order.specs.shapes.Shapes.{loop_numbered, numbers_of}
 use Rattle.nest.specs.declared.parts.Trip.{Trip}
 use Rattle.nest.specs.Bodies.{nest_loops}
 use Rattle.nest.specs.Plain.{Loop, Nest}
-use Rattle.array_form.specs.holds.Surroundings.{counted, counted_of, form_of_affine, known_trip, surroundings_of}
+use Rattle.array_form.specs.holds.Surroundings.{counted_loop, counted_of, form_of_affine, known_trip, surroundings_of}
 use Rattle.subscripts.specs.Forms.{value_at}
 use Rattle.emission.specs.emission_forms.Written.{HaveTripTexts, IsTripText}
 use Rattle.emission.proofs.EmissionForms.FormsGiven.{IsKnownTrip, divided_is, known_of_text}
@@ -129,11 +129,11 @@ module _ (n : Nest) (outs ins : List Loop) where
   abbrev pub round_both : ℕ
   round_both = length (outs ++ ins)
 
-  abbrev pub around : forms.Surroundings
+  abbrev pub around : forms.FormSurroundings
   around = surroundings_of n (outs ++ ins)
 
-  abbrev pub formed_loop : Loop → forms.Loop
-  formed_loop l = counted_of (length (outs ++ ins)) (counted l)
+  abbrev pub formed_loop : Loop → forms.FormLoop
+  formed_loop l = counted_of (length (outs ++ ins)) (counted_loop l)
 
   -- its trip has no inner loop
   pub record IsFree (l : Loop) : Type 0 where
@@ -143,13 +143,13 @@ module _ (n : Nest) (outs ins : List Loop) where
     pub trip : IsKnownTrip depth n.symbols (trip_in l)
     pub free : (k : ℕ) → length outs ≤ k → get_or (trip_in l).top.loops k (pos 0) ≡ pos 0
 
-  module _ (few : length (outs ++ ins) ≤ 7) (distinct : trips.AreDistinct (forms.names_of around)) (square : is_triangle around (map formed_loop ins) ≡ false) where
-    names_are : forms.names_of around ≡ map (λ (l : Loop). l.variable) outs ++ (map (λ (l : Loop). l.variable) ins ++ n.symbols)
+  module _ (few : length (outs ++ ins) ≤ 7) (distinct : trips.AreDistinct (forms.form_names_of around)) (square : is_triangle around (map formed_loop ins) ≡ false) where
+    names_are : forms.form_names_of around ≡ map (λ (l : Loop). l.variable) outs ++ (map (λ (l : Loop). l.variable) ins ++ n.symbols)
     names_are =
         ap (λ xs. xs ++ n.symbols) (variables_counted (length (outs ++ ins)) (outs ++ ins) ∙ map-append (λ (l : Loop). l.variable) outs ins)
         ∙ append_assoc (map (λ (l : Loop). l.variable) outs) (map (λ (l : Loop). l.variable) ins) n.symbols
 
-    names_long : length (forms.names_of around) ≡ length outs + (length ins + length n.symbols)
+    names_long : length (forms.form_names_of around) ≡ length outs + (length ins + length n.symbols)
     names_long =
         let a = ap (λ (xs : List (List ℕ)). length xs) names_are in
         let b = length-append (map (λ (l : Loop). l.variable) outs) (map (λ (l : Loop). l.variable) ins ++ n.symbols) in
@@ -157,25 +157,25 @@ module _ (n : Nest) (outs ins : List Loop) where
         let d = length-map outs (λ (l : Loop). l.variable) in
         let e = length-map ins (λ (l : Loop). l.variable) in omega arith
 
-    own_place : (front back : List Loop) (l : Loop) → ins ≡ front ++ l ∷ back → get_or (forms.names_of around) (length outs + length front) [] ≡ l.variable
+    own_place : (front back : List Loop) (l : Loop) → ins ≡ front ++ l ∷ back → get_or (forms.form_names_of around) (length outs + length front) [] ≡ l.variable
     own_place front back l e =
         let xs = map (λ (m : Loop). m.variable) outs in
         let ys = map (λ (m : Loop). m.variable) front in
         let zs = map (λ (m : Loop). m.variable) back in
-        let parts : forms.names_of around ≡ (xs ++ ys) ++ l.variable ∷ (zs ++ n.symbols) =
+        let parts : forms.form_names_of around ≡ (xs ++ ys) ++ l.variable ∷ (zs ++ n.symbols) =
         names_are
         ∙ (ap (λ us. xs ++ (us ++ n.symbols)) (ap (map (λ (m : Loop). m.variable)) e ∙ map-append (λ (m : Loop). m.variable) front (l ∷ back))
         ∙ (ap (λ us. xs ++ us) (append_assoc ys (l.variable ∷ zs) n.symbols) ∙ sym (append_assoc xs ys (l.variable ∷ (zs ++ n.symbols))))) in
         let size : length outs + length front ≡ length (xs ++ ys) = let a = length-append xs ys in let b = length-map outs (λ (m : Loop). m.variable) in let c = length-map front (λ (m : Loop). m.variable) in omega arith in
-        ap (λ k. get_or (forms.names_of around) k []) size ∙ (ap (λ us. get_or us (length (xs ++ ys)) []) parts ∙ at_place (xs ++ ys) (zs ++ n.symbols) l.variable)
+        ap (λ k. get_or (forms.form_names_of around) k []) size ∙ (ap (λ us. get_or us (length (xs ++ ys)) []) parts ∙ at_place (xs ++ ys) (zs ++ n.symbols) l.variable)
 
-    free_by : (front back : List Loop) (l m : Loop) (k : ℕ) → ins ≡ front ++ l ∷ back → IsKnownTrip (length outs + length front) n.symbols (trip_in l) → k < length outs + length front → get_or (forms.names_of around) k [] ≡ m.variable
-        → (bytes_eq l.variable m.variable ≡ true) ⊎ (int_eq (forms.coefficient (forms.names_of around) m.variable (formed_loop l).trip.form.coefficients) (pos 0) ≡ true)
+    free_by : (front back : List Loop) (l m : Loop) (k : ℕ) → ins ≡ front ++ l ∷ back → IsKnownTrip (length outs + length front) n.symbols (trip_in l) → k < length outs + length front → get_or (forms.form_names_of around) k [] ≡ m.variable
+        → (bytes_eq l.variable m.variable ≡ true) ⊎ (int_eq (forms.coefficient (forms.form_names_of around) m.variable (formed_loop l).trip.form.coefficients) (pos 0) ≡ true)
         → get_or (trip_in l).top.loops k (pos 0) ≡ pos 0
     free_by front back l m k e h near is (inl same) =
         let size : length ins ≡ length front + suc (length back) = ap (λ (ls : List Loop). length ls) e ∙ length-append front (l ∷ back) in
         let long = names_long in
-        let one = one_place (forms.names_of around) k (length outs + length front) distinct (omega arith) (omega arith) (is ∙ (sym ((bytes_eq-Decides l.variable m.variable).0 same) ∙ sym (own_place front back l e))) in
+        let one = one_place (forms.form_names_of around) k (length outs + length front) distinct (omega arith) (omega arith) (is ∙ (sym ((bytes_eq-Decides l.variable m.variable).0 same) ∙ sym (own_place front back l e))) in
         absurd (omega arith)
     free_by front back l m k e h near is (inr none) =
         let size : length ins ≡ length front + suc (length back) = ap (λ (ls : List Loop). length ls) e ∙ length-append front (l ∷ back) in
@@ -184,8 +184,8 @@ module _ (n : Nest) (outs ins : List Loop) where
         let seven = h.seven in
         let cs = (formed_loop l).trip.form.coefficients in
         sym (front_get (length (outs ++ ins)) (trip_in l).top.loops (Rattle.array_form.specs.holds.Surroundings.coefficients_from 0 (trip_in l).top.syms) k (omega arith) (omega arith))
-        ∙ (sym (coefficient_at (forms.names_of around) cs k distinct (omega arith))
-        ∙ (ap (λ x. forms.coefficient (forms.names_of around) x cs) is ∙ (Decides-int_eq (forms.coefficient (forms.names_of around) m.variable cs) (pos 0)).0 none))
+        ∙ (sym (coefficient_at (forms.form_names_of around) cs k distinct (omega arith))
+        ∙ (ap (λ x. forms.coefficient (forms.form_names_of around) x cs) is ∙ (Decides-int_eq (forms.coefficient (forms.form_names_of around) m.variable cs) (pos 0)).0 none))
 
     free_at : (front back : List Loop) (l : Loop) → ins ≡ front ++ l ∷ back → IsKnownTrip (length outs + length front) n.symbols (trip_in l) → (k : ℕ) → length outs ≤ k
         → (k < length outs + length front) ⊎ (length outs + length front ≤ k) → get_or (trip_in l).top.loops k (pos 0) ≡ pos 0
@@ -194,15 +194,15 @@ module _ (n : Nest) (outs ins : List Loop) where
         let size : length ins ≡ length front + suc (length back) = ap (λ (ls : List Loop). length ls) e ∙ length-append front (l ∷ back) in
         let outer_size = length-map outs (λ (m : Loop). m.variable) in
         let inner_size = length-map ins (λ (m : Loop). m.variable) in
-        let there : In (get_or (forms.names_of around) k []) (map (λ (m : Loop). m.variable) ins)
+        let there : In (get_or (forms.form_names_of around) k []) (map (λ (m : Loop). m.variable) ins)
         = subst (λ xs. In (get_or xs k []) (map (λ (m : Loop). m.variable) ins)) (sym names_are)
         (in_middle (map (λ (m : Loop). m.variable) outs) (map (λ (m : Loop). m.variable) ins) n.symbols k (omega arith) (omega arith)) in
-        let o = In-map (λ (m : Loop). m.variable) (get_or (forms.names_of around) k []) ins there in
+        let o = In-map (λ (m : Loop). m.variable) (get_or (forms.form_names_of around) k []) ins there in
         let own : In l ins = subst (λ ls. In l ls) (sym e) (In-right l front (l ∷ back) (inl refl)) in
-        let row = any_none (λ (x : forms.Loop). list_any (depends_on around x) (map formed_loop ins)) (map formed_loop ins) (formed_loop l) square (map-In formed_loop l ins own) in
+        let row = any_none (λ (x : forms.FormLoop). list_any (depends_on around x) (map formed_loop ins)) (map formed_loop ins) (formed_loop l) square (map-In formed_loop l ins own) in
         let pair = any_none (depends_on around (formed_loop l)) (map formed_loop ins) (formed_loop o.it) row (map-In formed_loop o.it ins o.inside) in
         free_by front back l o.it k e h near o.is
-        (either_so (bytes_eq l.variable o.it.variable) (int_eq (forms.coefficient (forms.names_of around) o.it.variable (formed_loop l).trip.form.coefficients) (pos 0)) pair)
+        (either_so (bytes_eq l.variable o.it.variable) (int_eq (forms.coefficient (forms.form_names_of around) o.it.variable (formed_loop l).trip.form.coefficients) (pos 0)) pair)
 
     pub all_free : (front ls : List Loop) → ins ≡ front ++ ls → HaveKnown n.symbols (length outs + length front) ls → Each IsFree ls
     all_free front [] e h = tt
@@ -254,7 +254,7 @@ module _ (n : Nest) (outs ins : List Loop) where
       has_trip l h small = record {
         limits = (limits_there l h).0;
         short = (let a = short_form (length (outs ++ ins)) (length n.symbols) (trip_in l).top h.trip.short in
-            let b = length-append (forms.variables_of around.loops) n.symbols in
+            let b = length-append (forms.form_variables_of around.loops) n.symbols in
             let c = ap (λ (xs : List (List ℕ)). length xs) (variables_counted (length (outs ++ ins)) (outs ++ ins)) in
             let d = length-map (outs ++ ins) (λ (m : Loop). m.variable) in omega arith);
         divisor = (limits_there l h).1;

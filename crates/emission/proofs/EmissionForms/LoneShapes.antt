@@ -1,7 +1,7 @@
 -- A shape in which one statement stands alone in its loops, and its array form, which is one statement.
 use Rattle.std.proofs.Common.{◌≡◌, refl, ap, ℕ, List, [], ◌∷◌, Option, Some, None}
-use Rattle.array_form.specs.forms.Statements.{and_all, guarded_by, guarded_form, loops_from, tests_of}
-use Rattle.array_form.specs.forms.Loops.{names_of}
+use Rattle.array_form.specs.forms.Statements.{and_all, guarded_by, guarded_form, loops_from, form_tests_of}
+use Rattle.array_form.specs.forms.Loops.{form_names_of}
 use Rattle.emission.specs.emission_pieces.Nests.{loops_at, standing_at}
 use Rattle.emission.specs.emission_pieces.Pieces.{formed_block, mark_of}
 use Rattle.tree.specs.Plain.{Expression, Statement, If, no_arms, arm, Block, no_statements, statement}
@@ -39,5 +39,5 @@ pub one_formed : (n : Nest) (k s : ℕ) → IsOne (formed_block n k s)
 one_formed n k s =
     let a = surroundings_of n (loops_at n s) in
     let x = (standing_at n s).statement in
-    one_guarded x.line (tests_of (names_of a) (loops_from a k))
+    one_guarded x.line (form_tests_of (form_names_of a) (loops_from a k))
     (guarded_form a k x.line (Some (mark_of n s k)) x.guard x.left x.right)

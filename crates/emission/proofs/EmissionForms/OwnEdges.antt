@@ -15,7 +15,7 @@ use Rattle.emission.specs.emission_pieces.Shapes as pieces
 use Rattle.emission.proofs.EmissionPieces.Emitted.{from_in}
 use Rattle.emission.proofs.EmissionPieces.Lists.{both_true, in_any}
 use Rattle.emission.specs.graph_orders.Arcs.{arc_of, arcs_of, place_of}
-use Rattle.dependence_graph.specs.nest_graph.Arcs.{Answer, Assumed, Couple, Met, Never, Verdict, edge_of, edges_of}
+use Rattle.dependence_graph.specs.nest_graph.Arcs.{VectorVerdict, Assumed, Couple, Met, Never, Verdict, edge_of, edges_of}
 use Rattle.dependence_graph.specs.nest_graph.Arcs.{with_some}
 use Rattle.dependence_graph.specs.nest_graph.Graph.{IsCouple, IsGraphOf, all_edges}
 use Rattle.dependence_graph.specs.nest_graph.Pair.{kind_between}
@@ -36,7 +36,7 @@ made_first c d (Never w) e es h = inr h
 made_first c d (Met x y w) e es h = elim h [ inl f ↦ inl (ap (λ (z : Edge). z.from) f, ap (λ (z : Edge). z.to) f, ap (λ (z : Edge). z.kind) f) | inr r ↦ inr r ]
 made_first c d (Assumed w) e es h = elim h [ inl f ↦ inl (ap (λ (z : Edge). z.from) f, ap (λ (z : Edge). z.to) f, ap (λ (z : Edge). z.kind) f) | inr r ↦ inr r ]
 
-made_by : (c : Couple) (as' : List Answer) (e : Edge) → In e (edges_of c as') → IsMade c e
+made_by : (c : Couple) (as' : List VectorVerdict) (e : Edge) → In e (edges_of c as') → IsMade c e
 made_by c [] e h = absurd h
 made_by c (a ∷ as') e h = elim (made_first c a.0 a.1 e (edges_of c as') h) [ inl m ↦ m | inr r ↦ made_by c as' e r ]
 

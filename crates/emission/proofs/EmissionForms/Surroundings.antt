@@ -15,7 +15,7 @@ use Rattle.emission.specs.graph_orders.Nests.{run_nest}
 use Rattle.dependence_graph.specs.nest_graph.Ready.{IsReady}
 use Rattle.dependence_graph.specs.nest_graph.References.{variables_round as names_round}
 use Rattle.nest_order.specs.orders.Lists.{In, Each, Distinct}
-use Rattle.nest_order.specs.orders.Shapes.{statements, loops}
+use Rattle.nest_order.specs.orders.Shapes.{statements, loops_of_shape}
 use Rattle.nest_order.proofs.orders.Common.{statement_stands}
 use Rattle.nest_order.proofs.orders.Lists.{Each-In, In-append, In-left, In-right}
 use Rattle.nest_order.proofs.orders.Membership.{In-map, map-In}
@@ -31,7 +31,7 @@ use Rattle.nest.specs.Bodies.{statements_in_parts}
 use Rattle.nest.specs.Plain.{Loop, Nest, Part, Run, Turns, Choice, Label, Jump, Parts, no_parts, part}
 use Rattle.array_form.specs.holds.Statements.{no_statement}
 use Rattle.array_form.specs.lone.Cells.{StatementsStand}
-use Rattle.array_form.specs.holds.Surroundings.{counted, counted_of}
+use Rattle.array_form.specs.holds.Surroundings.{counted_loop, counted_of}
 use Rattle.emission.specs.emission_forms.Forms.{surroundings_at}
 
 -- ---- lists
@@ -119,7 +119,7 @@ apart_names f (l ∷ ls) ys d same once other = (
   apart_names f ls ys d.1 (λ k m i j. same k m (inr i) (inr j)) once (λ k x i. other k x (inr i)),
 )
 
-pub variables_counted : (k : ℕ) (ls : List Loop) → forms.variables_of (map (λ (l : Loop). counted_of k (counted l)) ls) ≡ map (λ (l : Loop). l.variable) ls
+pub variables_counted : (k : ℕ) (ls : List Loop) → forms.form_variables_of (map (λ (l : Loop). counted_of k (counted_loop l)) ls) ≡ map (λ (l : Loop). l.variable) ls
 variables_counted k [] = refl
 variables_counted k (l ∷ ls) = ap (λ xs. l.variable ∷ xs) (variables_counted k ls)
 
@@ -133,7 +133,7 @@ module _ (n : Nest) (plain : IsPlain n.body) (ready : IsReady n) (s : ℕ) (with
   there : nth_of (nest_statements n) s ≡ Some (standing_at n s)
   there = nth_is (nest_statements n) s no_statement within
 
-  pub guarded_there : ◌≡◌ {A = runs.Guarded} ((run_nest n).statement_at s) (record { guard = (standing_at n s).statement.guard; left = (standing_at n s).statement.left; right = (standing_at n s).statement.right })
+  pub guarded_there : ◌≡◌ {A = runs.GuardedAssignment} ((run_nest n).statement_at s) (record { guard = (standing_at n s).statement.guard; left = (standing_at n s).statement.left; right = (standing_at n s).statement.right })
   guarded_there = ap guarded_of there
 
   pub loops_there : (run_nest n).loops_of s ≡ numbers_at n s
@@ -152,7 +152,7 @@ module _ (n : Nest) (plain : IsPlain n.body) (ready : IsReady n) (s : ℕ) (with
   variables_there = variables_numbered n (loops_at n s) known_loop
 
   module _ (text : IsNestText (run_nest n)) where
-    pub loops_known : Distinct (numbers_at n s) × ((m : ℕ) → In m (numbers_at n s) → In m (loops (run_nest n).shape))
+    pub loops_known : Distinct (numbers_at n s) × ((m : ℕ) → In m (numbers_at n s) → In m (loops_of_shape (run_nest n).shape))
     loops_known =
         let k = statement_stands (run_nest n).shape s in_nest in
         let e : k.0 ≡ numbers_at n s = sym (text.nest.fits s k.0 k.1) ∙ loops_there in (
@@ -160,9 +160,9 @@ module _ (n : Nest) (plain : IsPlain n.body) (ready : IsReady n) (s : ℕ) (with
           λ m j. stands_loops (run_nest n).shape s k.0 k.1 m (subst (In m) (sym e) j),
         )
 
-    pub names_distinct : trips.AreDistinct n.symbols → trips.AreDistinct (forms.names_of (surroundings_at n s))
+    pub names_distinct : trips.AreDistinct n.symbols → trips.AreDistinct (forms.form_names_of (surroundings_at n s))
     names_distinct once =
-        let variables : map (run_nest n).variable_at (numbers_at n s) ≡ forms.variables_of (surroundings_at n s).loops
+        let variables : map (run_nest n).variable_at (numbers_at n s) ≡ forms.form_variables_of (surroundings_at n s).loops
         = variables_there ∙ sym (variables_counted (length (loops_at n s)) (loops_at n s)) in
         subst (λ xs. trips.AreDistinct (xs ++ n.symbols)) variables
         (apart_names (run_nest n).variable_at (numbers_at n s) n.symbols loops_known.0 (λ l m i j. text.variables l m (loops_known.1 l i) (loops_known.1 m j)) once

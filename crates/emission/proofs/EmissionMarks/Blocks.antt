@@ -3,7 +3,7 @@ use Rattle.std.proofs.Common.{◌≡◌, refl, sym, ap, ap₂, ◌∙◌, ℕ, B
 use Rattle.std.proofs.Common.{List, [], ◌∷◌, ◌++◌, map, append_assoc, append-nil}
 use Rattle.std.proofs.lemmas.List.{map-append}
 use Rattle.array_form.specs.forms.Forms.{form}
-use Rattle.array_form.specs.forms.Loops.{Surroundings}
+use Rattle.array_form.specs.forms.Loops.{FormSurroundings}
 use Rattle.array_form.specs.forms.Statements.{and_all, array_assignment, guarded_by, guarded_form, left_form}
 use Rattle.array_form.specs.forms.Statements.{loops_assigned, right_form, stand_in_guard}
 use Rattle.tree.specs.Plain.{Expression, Reference, Statement, Assignment, Where, If, Do, Label, GoTo, Stop, Read}
@@ -13,7 +13,7 @@ use Rattle.nest.specs.Allocations.{allocation_then, allocations_then, block_then
 use Rattle.nest.specs.Blocks.{under_guard}
 use Rattle.nest.specs.Plain.{Made}
 use Rattle.emission.specs.emission_marks.Marks.{Marked, Otherwise, Round, Turning, Under, bodies, bodies_in}
-use Rattle.emission.specs.emission_marks.Marks.{conditions_of, marked, marked_in, marked_under, under}
+use Rattle.emission.specs.emission_marks.Marks.{conditions_of, marked, marked_in, marked_under, guard_round}
 use Rattle.emission.specs.emission_marks.Marks.{with_mark}
 
 pub marked_then : (round : List Round) (a b : Block)
@@ -85,7 +85,7 @@ bodies_conditions line (e ∷ es) b = nothing_more (bodies_in b)
 pub marked_kept : (round : List Round) (line : ℕ) (guard : Option Expression) (m : Mark) (left : Reference)
     (right : Expression)
     → marked_in round (statement (under_guard line guard (Assignment line (Some m) left right)) no_statements)
-    ≡ record { round = round ++ under guard; mark = m; statement = Assignment line (Some m) left right } ∷ []
+    ≡ record { round = round ++ guard_round guard; mark = m; statement = Assignment line (Some m) left right } ∷ []
 marked_kept round line None m left right =
     ap (λ around. record { round = around; mark = m; statement = Assignment line (Some m) left right } ∷ [])
     (sym (append-nil round))
@@ -97,7 +97,7 @@ bodies_kept line None m left right = refl
 bodies_kept line (Some e) m left right = refl
 
 -- in array form
-module _ (a : Surroundings) (k line : ℕ) (m : Mark) (left : Reference) (right : Expression) where
+module _ (a : FormSurroundings) (k line : ℕ) (m : Mark) (left : Reference) (right : Expression) where
   abbrev stands : Option Expression → Bool
   stands guard = stand_in_guard (loops_assigned a k left) guard
 
@@ -111,7 +111,7 @@ module _ (a : Surroundings) (k line : ℕ) (m : Mark) (left : Reference) (right 
   abbrev pub marked_form : List Round → Option Expression → Marked
   marked_form round guard =
       cond (stands guard) (record { round = round; mark = m; statement = form_under guard })
-      (record { round = round ++ under guard; mark = m; statement = assigned })
+      (record { round = round ++ guard_round guard; mark = m; statement = assigned })
 
   form_marked : (round : List Round) (guard : Option Expression)
       → marked_in round (statement (form_under guard) no_statements) ≡ marked_form round guard ∷ []

@@ -9,7 +9,7 @@ use Rattle.nest_order.proofs.orders.Lists.{Each-from, In-append, In-left, In-rig
 
 -- ---- the words of other crates
 
-pub element : {X : Type 0} (xs : List X) (k : ℕ) (d : X) → k < length xs → lists.In (get_or xs k d) xs
+pub element : {X : Type 0} (xs : List X) (k : ℕ) (d : X) → k < length xs → lists.IsMember (get_or xs k d) xs
 element [] k d h = absurd (omega arith)
 element (x ∷ xs) zero d h = inl refl
 element (x ∷ xs) (suc k) d h = inr (element xs k d (omega arith))

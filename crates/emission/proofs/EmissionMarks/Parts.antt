@@ -29,7 +29,7 @@ use Rattle.nest_order.specs.shapes.Shapes.{numbers_of, shape_of}
 use Rattle.nest.specs.Bodies.{nest_statements}
 use Rattle.nest.specs.Plain.{Loop, Nest}
 use Rattle.array_form.specs.holds.Statements.{no_statement}
-use Rattle.emission.specs.emission_marks.Components.{IsWith, Reaches}
+use Rattle.emission.specs.emission_marks.Components.{IsWith, ReachesInLevel}
 use Rattle.emission.specs.emission_marks.Laws.{MayBeMarked}
 use Rattle.emission.proofs.EmissionMarks.Lists.{contained, element, from_distinct, in_range, range_within, range_once}
 use Rattle.emission.proofs.EmissionMarks.Lists.{to_distinct}
@@ -116,23 +116,23 @@ module _ (n : Nest) (edges : List Edge) (may : MayBeMarked n edges) where
       near = near_in_class c i;
     }
       where
-        reaches : (s q r : ℕ) → In s c → In q c → In r c → Reaches edges (suc d) (IsWith edges d s) q r
+        reaches : (s q r : ℕ) → In s c → In q c → In r c → ReachesInLevel edges (suc d) (IsWith edges d s) q r
         reaches s q r j k l = walks_of_class edges (suc d) part classes given c (from_in c classes i) (IsWith edges d s)
             (λ p m. is.joined s p (in_part c i s j) (to_in p part m)) q r (from_in q c k) (from_in r c l)
 
         inside_part : (s : ℕ) → In s part → (p q : ℕ) → leads edges (suc d) p q ≡ true → IsWith edges d s q
-            → lists.In q part
+            → lists.IsMember q part
         inside_part s j p q leads w = from_in q part (is.whole s q j (leads_within (suc d) p q leads) w)
 
-        closed : (s r : ℕ) → In s c → Reaches edges (suc d) (IsWith edges d s) s r
-            → Reaches edges (suc d) (IsWith edges d s) r s → In r c
+        closed : (s r : ℕ) → In s c → ReachesInLevel edges (suc d) (IsWith edges d s) s r
+            → ReachesInLevel edges (suc d) (IsWith edges d s) r s → In r c
         closed s r j to back =
             to_in r c (class_of_walks edges (suc d) part classes given c (from_in c classes i) (IsWith edges d s)
             (from_distinct part is.once) (inside_part s (in_part c i s j)) s r (from_in s c j) to back)
 
   -- ---- the next loop of a part
 
-  standing_inside : (s : ℕ) → s < size → lists.In (standing_at n s) (nest_statements n)
+  standing_inside : (s : ℕ) → s < size → lists.IsMember (standing_at n s) (nest_statements n)
   standing_inside s h = element (nest_statements n) s no_statement h
 
   -- all its statements have the next loop of one of them

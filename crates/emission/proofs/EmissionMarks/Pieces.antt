@@ -3,8 +3,8 @@ use Rattle.std.proofs.Common.{◌≡◌, ◌∙◌, inl, inr, refl, sym, ap, sub
 use Rattle.std.proofs.Common.{Contains, List, [], ◌∷◌, ◌++◌, length, map, take, take_all, append-nil}
 use Rattle.std.specs.List.{concat}
 use Rattle.std.proofs.lemmas.List.{map-append}
-use Rattle.array_form.specs.forms.Loops.{Surroundings, names_of}
-use Rattle.array_form.specs.forms.Statements.{loops_from, tests_of}
+use Rattle.array_form.specs.forms.Loops.{FormSurroundings, form_names_of}
+use Rattle.array_form.specs.forms.Statements.{loops_from, form_tests_of}
 use Rattle.dependence_graph.specs.declared.graphs.Edge.{Edge}
 use Rattle.dependence_graph.specs.declared.graphs.Hold.{Hold}
 use Rattle.emission.specs.emission_pieces.Emission.{AreEmitted, AreEmittedFor, IsEmittedFor}
@@ -21,7 +21,7 @@ use Rattle.array_form.specs.holds.Surroundings.{surroundings_of}
 use Rattle.emission.specs.emission_marks.Components.{IsAloneAt, IsLevel}
 use Rattle.emission.specs.emission_marks.Laws.{EmissionIsMarked, MayBeMarked}
 use Rattle.emission.specs.emission_marks.Marks.{Marked, Round, conditions_of, marked_at, marked_in, turning_of}
-use Rattle.emission.specs.emission_marks.Marks.{under}
+use Rattle.emission.specs.emission_marks.Marks.{guard_round}
 use Rattle.emission.proofs.EmissionMarks.Blocks.{marked_allocated, marked_deallocated, marked_form, marked_guarded, marked_kept}
 use Rattle.emission.proofs.EmissionMarks.Blocks.{marked_then, number_of}
 use Rattle.emission.proofs.EmissionMarks.Lists.{among, contained, from_distinct, in_range, take_next}
@@ -79,7 +79,7 @@ module _ (n : Nest) (edges : List Edge) (holds : List Hold) (may : MayBeMarked n
 
       kept : List Round → Marked
       kept around = record {
-        round = around ++ under x.guard;
+        round = around ++ guard_round x.guard;
         mark = mark_of n s (length (loops_at n s) + 1);
         statement = kept_assignment n s;
       }
@@ -96,14 +96,14 @@ module _ (n : Nest) (edges : List Edge) (holds : List Hold) (may : MayBeMarked n
       marked_guarded a (suc d) x.line (mark_of n s (suc d)) x.left x.right round tests x.guard
       ∙ ap (λ y. y ∷ []) (ap formed same ∙ sym (formed_is n edges holds may s (suc d) h))
     where
-      a : Surroundings
+      a : FormSurroundings
       a = surroundings_of n (loops_at n s)
 
       x : Guarded
       x = (standing_at n s).statement
 
       tests : List Expression
-      tests = tests_of (names_of a) (loops_from a (suc d))
+      tests = form_tests_of (form_names_of a) (loops_from a (suc d))
 
       formed : List Round → Marked
       formed around =

@@ -2,8 +2,8 @@
 use Rattle.std.proofs.Common.{◌≡◌, ◌≢◌, ◌⊎◌, ◌↔◌, ◌∙◌, inl, inr, refl, sym, ap, subst, arith, ℕ, zero, suc, ◌+◌, ◌<◌}
 use Rattle.std.proofs.Common.{Some, List, [], ◌∷◌, ◌++◌, length, map, append-nil}
 use Rattle.std.specs.List.{concat}
-use Rattle.array_form.specs.forms.Loops.{names_of}
-use Rattle.array_form.specs.forms.Statements.{loops_from, tests_of}
+use Rattle.array_form.specs.forms.Loops.{form_names_of}
+use Rattle.array_form.specs.forms.Statements.{loops_from, form_tests_of}
 use Rattle.dependence_graph.specs.declared.graphs.Edge.{Edge}
 use Rattle.dependence_graph.specs.declared.graphs.Hold.{Hold}
 use Rattle.emission.specs.emission_pieces.Emission.{AreEmitted, AreEmittedFor, IsEmittedFor}
@@ -74,7 +74,7 @@ module _ (n : Nest) (edges : List Edge) (holds : List Hold) (may : MayBeMarked n
       let a = surroundings_of n (loops_at n s) in
       let x = (standing_at n s).statement in
       absurd (subst (In y) (bodies_guarded a k x.line (mark_of n s k) x.left x.right
-      (tests_of (names_of a) (loops_from a k)) x.guard) i)
+      (form_tests_of (form_names_of a) (loops_from a k)) x.guard) i)
   body_in_one (Turning l qs) k c cs h y (inl e) =
       (record { class = c; loop = l; pieces = qs; listed = inl refl; emitted = h }, e)
   body_in_one (Turning l qs) k c cs h y (inr i) = absurd i

@@ -2,7 +2,7 @@
 use Rattle.std.proofs.Common.{◌≡◌, refl, sym, ap, subst, ◌∙◌, ℕ, zero, suc, ◌+◌, ◌<◌, true, List, [], ◌∷◌, length}
 use Rattle.std.proofs.Common.{map, arith}
 use Rattle.std.specs.Prelude.{slice_index}
-use Rattle.components.specs.Lists.{In, Distinct}
+use Rattle.components.specs.Lists.{IsMember, Distinct}
 use Rattle.components.specs.Orders.{IsComponent}
 use Rattle.components.specs.Reachability.{Reaches as ReachesPlace, Walk}
 use Rattle.dependence_graph.specs.declared.graphs.Edge.{Edge}
@@ -10,7 +10,7 @@ use Rattle.components.proofs.ClassLaws.{In-concat}
 use Rattle.components.proofs.ListLaws.{Each-In}
 use Rattle.components.proofs.Places.{Distinct-get_or, In-get_or, In-map, get_or-In, map-In}
 use Rattle.emission.specs.emission_pieces.Levels.{AreComponents, ArePairsAt, leads}
-use Rattle.emission.specs.emission_marks.Components.{IsWalk, IsWith, Reaches}
+use Rattle.emission.specs.emission_marks.Components.{IsWalk, IsWith, ReachesInLevel}
 
 -- ---- levels
 
@@ -41,7 +41,7 @@ module _ (edges : List Edge) (k : ℕ) (part : List ℕ) (pairs : List (ℕ × �
   abbrev at : ℕ → ℕ
   at i = slice_index part i
 
-  over_statements : ((q : ℕ) → In q part → Has q) → (over : List ℕ) (i j : ℕ) → Walk pairs i over j
+  over_statements : ((q : ℕ) → IsMember q part → Has q) → (over : List ℕ) (i j : ℕ) → Walk pairs i over j
       → IsWalk edges k Has (at i) (map at over) (at j)
   over_statements has [] i j w = ap at w
   over_statements has (q ∷ over) i j w =
@@ -54,7 +54,7 @@ module _ (edges : List Edge) (k : ℕ) (part : List ℕ) (pairs : List (ℕ × �
     there : r ≡ at place
     reached : ReachesPlace pairs i place
 
-  over_places : ((p q : ℕ) → leads edges k p q ≡ true → Has q → In q part) → (qs : List ℕ) (i r : ℕ) → i < length part
+  over_places : ((p q : ℕ) → leads edges k p q ≡ true → Has q → IsMember q part) → (qs : List ℕ) (i r : ℕ) → i < length part
       → IsWalk edges k Has (at i) qs r → EndsAt i r
   over_places inside [] i r h w = record { place = i; within = h; there = sym w; reached = ([], refl) }
   over_places inside (q ∷ qs) i r h w =
@@ -75,21 +75,21 @@ module _ (edges : List Edge) (k : ℕ) (part : List ℕ) (pairs : List (ℕ × �
 -- ---- components of a part
 
 module _ (edges : List Edge) (k : ℕ) (part : List ℕ) (classes : List (List ℕ))
-    (given : AreComponents edges k part classes) (c : List ℕ) (is_class : In c classes) (Has : ℕ → Type 0) where
+    (given : AreComponents edges k part classes) (c : List ℕ) (is_class : IsMember c classes) (Has : ℕ → Type 0) where
   -- the places of the class
-  placed : (places : List ℕ) × In places given.places × (c ≡ map (slice_index part) places)
-  placed = map-In (map (slice_index part)) given.places c (subst (In c) given.statements is_class)
+  placed : (places : List ℕ) × IsMember places given.places × (c ≡ map (slice_index part) places)
+  placed = map-In (map (slice_index part)) given.places c (subst (IsMember c) given.statements is_class)
 
-  within : (i : ℕ) → In i placed.0 → i < length part
+  within : (i : ℕ) → IsMember i placed.0 → i < length part
   within i j = (given.order.members i).0 (In-concat i placed.0 given.places placed.1 j)
 
-  place_of : (s : ℕ) → In s c → (i : ℕ) × In i placed.0 × (s ≡ slice_index part i)
-  place_of s i = map-In (slice_index part) placed.0 s (subst (In s) placed.2 i)
+  place_of : (s : ℕ) → IsMember s c → (i : ℕ) × IsMember i placed.0 × (s ≡ slice_index part i)
+  place_of s i = map-In (slice_index part) placed.0 s (subst (IsMember s) placed.2 i)
 
   is_component : IsComponent given.pairs placed.0
   is_component = Each-In (IsComponent given.pairs) given.places given.order.components placed.0 placed.1
 
-  pub walks_of_class : ((q : ℕ) → In q part → Has q) → (s r : ℕ) → In s c → In r c → Reaches edges k Has s r
+  pub walks_of_class : ((q : ℕ) → IsMember q part → Has q) → (s r : ℕ) → IsMember s c → IsMember r c → ReachesInLevel edges k Has s r
   walks_of_class has s r i j =
       let a = place_of s i in
       let b = place_of r j in
@@ -101,8 +101,8 @@ module _ (edges : List Edge) (k : ℕ) (part : List ℕ) (classes : List (List �
             (over_statements edges k part given.pairs given.paired Has has walk.0 a.0 b.0 walk.1)),
       )
 
-  pub class_of_walks : Distinct part → ((p q : ℕ) → leads edges k p q ≡ true → Has q → In q part)
-      → (s r : ℕ) → In s c → Reaches edges k Has s r → Reaches edges k Has r s → In r c
+  pub class_of_walks : Distinct part → ((p q : ℕ) → leads edges k p q ≡ true → Has q → IsMember q part)
+      → (s r : ℕ) → IsMember s c → ReachesInLevel edges k Has s r → ReachesInLevel edges k Has r s → IsMember r c
   class_of_walks once inside s r i to back =
       let a = place_of s i in
       let low = within a.0 a.1 in
@@ -112,6 +112,6 @@ module _ (edges : List Edge) (k : ℕ) (part : List ℕ) (classes : List (List �
       (subst (λ z. IsWalk edges k Has z back.0 s) ahead.there back.1) in
       let same = Distinct-get_or part once home.place a.0 home.within low (sym home.there ∙ a.2) in
       let returns = subst (ReachesPlace given.pairs ahead.place) same home.reached in
-      let there : In ahead.place placed.0 = (is_component a.0 ahead.place a.1).1 (ahead.reached, returns) in
-      subst (λ z. In z c) (sym ahead.there)
-      (subst (In (slice_index part ahead.place)) (sym placed.2) (In-map (slice_index part) placed.0 ahead.place there))
+      let there : IsMember ahead.place placed.0 = (is_component a.0 ahead.place a.1).1 (ahead.reached, returns) in
+      subst (λ z. IsMember z c) (sym ahead.there)
+      (subst (IsMember (slice_index part ahead.place)) (sym placed.2) (In-map (slice_index part) placed.0 ahead.place there))

@@ -37,6 +37,8 @@ use Rattle.nest.specs.Bodies.{Standing, nest_loops, nest_statements, statements_
 use Rattle.nest.specs.Plain.{Nest}
 use Rattle.array_form.specs.holds.Statements.{no_statement}
 use Rattle.emission.specs.emission_meaning.Laws.{EmissionKeepsMeaning}
+use Rattle.tree.specs.Widths.{bits_of}
+use Rattle.tree.specs.declared.width.Width.{Width}
 
 -- ---- lists
 
@@ -82,17 +84,17 @@ emitted_shapes n g holds ps plain once ready graph h =
     let arcs = subst (λ es. IsEmitted (numbers_at n) es 0 (shapes.statements (shape_of 0 n.body)) (shapes_of n 0 ps)) (sym (arcs_are_edges n g ready graph)) whole in
     subst (λ f. IsEmitted f (map edge_of (arcs_of g.edges)) 0 (shapes.statements (shape_of 0 n.body)) (shapes_of n 0 ps)) (same_loops n) arcs
 
-pub emission_keeps_meaning : EmissionKeepsMeaning
-emission_keeps_meaning n g holds ps w s plain ready regular facts written_facts guarded graph all emitted held going =
+pub emission_keeps_meaning : (width : Width) → EmissionKeepsMeaning width
+emission_keeps_meaning width n g holds ps w s plain ready regular facts written_facts guarded graph all emitted held going =
     let once : Distinct (numbers_of (nest_loops n)) = distinct (numbers_of (nest_loops n)) ready.loops in
     let y = layout_of n.line n.body in
     let same = statement_is_of_shape n.line n.body n.symbols (linear_in n) (turns_in n) plain once in
-    let ok = facts_suffice 31 (run_nest n) w facts in
-    let runs = subst (λ c. (does (sequential 31) None c s).way ≡ Going) same going in
-    let kept = lone_forms_keep_meaning 31 true (run_nest n) w (arcs_of g.edges) (shapes_of n 0 ps) y (marked_layout n) (formed n g.edges holds) s
+    let ok = facts_suffice (bits_of width) (run_nest n) w facts in
+    let runs = subst (λ c. (does (sequential (bits_of width)) None c s).way ≡ Going) same going in
+    let kept = lone_forms_keep_meaning (bits_of width) true (run_nest n) w (arcs_of g.edges) (shapes_of n 0 ps) y (marked_layout n) (formed n g.edges holds) s
     (omega arith) ok (graph_has_edges n g plain facts.text ready graph)
     (emitted_shapes n g holds ps plain once ready graph emitted)
-    (forms_are_lone n g holds w plain ready regular graph all facts written_facts guarded (run_names_cells 31 (run_nest n) w y s ok held runs)) held runs in
-    let block = subst (λ b. GoesOnNear (run_nest n) (does (sequential 31) None (nest_statement (run_nest n) y [] (shape_of 0 n.body)) s) (does_all (dialect 31 true) None b s))
+    (forms_are_lone width n g holds w plain ready regular graph all facts written_facts guarded (run_names_cells (bits_of width) (run_nest n) w y s ok held runs)) held runs in
+    let block = subst (λ b. GoesOnNear (run_nest n) (does (sequential (bits_of width)) None (nest_statement (run_nest n) y [] (shape_of 0 n.body)) s) (does_all (dialect (bits_of width) true) None b s))
     (pieces_are_written n g holds ps plain ready graph emitted) kept in
-    subst (λ c. GoesOnNear (run_nest n) (does (sequential 31) None c s) (does_all (dialect 31 true) None (block_of_pieces n 1 ps) s)) (sym same) block
+    subst (λ c. GoesOnNear (run_nest n) (does (sequential (bits_of width)) None c s) (does_all (dialect (bits_of width) true) None (block_of_pieces n 1 ps) s)) (sym same) block

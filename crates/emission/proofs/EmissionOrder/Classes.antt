@@ -1,7 +1,7 @@
 -- The components of a relation of places are classes of recursive emission.
 use Rattle.std.proofs.Common.{◌≡◌, refl, sym, ap, subst, inl, inr, ℕ, nat_le, Bool, true, false, cond, List, [], ◌∷◌, slice_index, arith}
 use Rattle.std.specs.List.{concat}
-use Rattle.components.specs.Emission.{WalkWithin, ReachesWithin, ArePlaces, statements_of}
+use Rattle.components.specs.Emission.{WalkWithin, ReachesWithin, ArePlaces, statements_of_classes}
 use Rattle.components.specs.Emission as given
 use Rattle.components.specs.Lists as lists
 use Rattle.components.specs.Orders.{NoneBack}
@@ -13,12 +13,12 @@ use Rattle.emission.specs.emission_order.Components.{OrderIsComponents}
 
 -- ---- the words on lists are the same in both crates
 
-to_in : {X : Type 0} (x : X) (xs : List X) → lists.In x xs → In x xs
+to_in : {X : Type 0} (x : X) (xs : List X) → lists.IsMember x xs → In x xs
 to_in x [] i = i
 to_in x (y ∷ xs) (inl e) = inl e
 to_in x (y ∷ xs) (inr i) = inr (to_in x xs i)
 
-from_in : {X : Type 0} (x : X) (xs : List X) → In x xs → lists.In x xs
+from_in : {X : Type 0} (x : X) (xs : List X) → In x xs → lists.IsMember x xs
 from_in x [] i = i
 from_in x (y ∷ xs) (inl e) = inl e
 from_in x (y ∷ xs) (inr i) = inr (from_in x xs i)
@@ -63,27 +63,27 @@ module _ (d : ℕ) where
   further : (e : Edge) (es : List Edge) (s r : ℕ) → Leap es d s r → Leap (e ∷ es) d s r
   further e es s r h = (h.0, inr h.1, h.2, h.3, h.4)
 
-  leap_of : (es : List Edge) (s r : ℕ) → lists.In (s, r) (leaps_of es) → Leap es d s r
+  leap_of : (es : List Edge) (s r : ℕ) → lists.IsMember (s, r) (leaps_of es) → Leap es d s r
   leap_of [] s r i = absurd i
   leap_of (e ∷ es) s r i = by (remains d e.level) refl i (leap_of es s r)
     where
-      by : (b : Bool) → remains d e.level ≡ b → lists.In (s, r) (cond b ((e.from, e.to) ∷ leaps_of es) (leaps_of es)) → (lists.In (s, r) (leaps_of es) → Leap es d s r) → Leap (e ∷ es) d s r
+      by : (b : Bool) → remains d e.level ≡ b → lists.IsMember (s, r) (cond b ((e.from, e.to) ∷ leaps_of es) (leaps_of es)) → (lists.IsMember (s, r) (leaps_of es) → Leap es d s r) → Leap (e ∷ es) d s r
       by true f (inl g) more = (e, inl refl, ap (λ (p : ℕ × ℕ). p.0) (sym g), ap (λ (p : ℕ × ℕ). p.1) (sym g), remains_so d e.level f)
       by true f (inr j) more = further e es s r (more j)
       by false f j more = further e es s r (more j)
 
-  leap_in : (es : List Edge) (e : Edge) → In e es → Remains d e.level → lists.In (e.from, e.to) (leaps_of es)
+  leap_in : (es : List Edge) (e : Edge) → In e es → Remains d e.level → lists.IsMember (e.from, e.to) (leaps_of es)
   leap_in [] e i h = absurd i
-  leap_in (f ∷ es) e (inl g) h = subst (λ b. lists.In (e.from, e.to) (cond b ((f.from, f.to) ∷ leaps_of es) (leaps_of es))) (sym (subst (λ (z : Edge). remains d z.level ≡ true) g (so_remains d e.level h)))
+  leap_in (f ∷ es) e (inl g) h = subst (λ b. lists.IsMember (e.from, e.to) (cond b ((f.from, f.to) ∷ leaps_of es) (leaps_of es))) (sym (subst (λ (z : Edge). remains d z.level ≡ true) g (so_remains d e.level h)))
       (inl (subst (λ (z : Edge). ◌≡◌ {A = ℕ × ℕ} (e.from, e.to) (z.from, z.to)) g refl))
   leap_in (f ∷ es) e (inr i) h = by (remains d f.level) (leap_in es e i h)
     where
-      by : (b : Bool) → lists.In (e.from, e.to) (leaps_of es) → lists.In (e.from, e.to) (cond b ((f.from, f.to) ∷ leaps_of es) (leaps_of es))
+      by : (b : Bool) → lists.IsMember (e.from, e.to) (leaps_of es) → lists.IsMember (e.from, e.to) (cond b ((f.from, f.to) ∷ leaps_of es) (leaps_of es))
       by true j = inr j
       by false j = j
 
-  in_leaps : (es : List Edge) (s r : ℕ) → Leap es d s r → lists.In (s, r) (leaps_of es)
-  in_leaps es s r h = subst (λ z. lists.In (s, z) (leaps_of es)) h.3 (subst (λ z. lists.In (z, h.0.to) (leaps_of es)) h.2 (leap_in es h.0 h.1 h.4))
+  in_leaps : (es : List Edge) (s r : ℕ) → Leap es d s r → lists.IsMember (s, r) (leaps_of es)
+  in_leaps es s r h = subst (λ z. lists.IsMember (s, z) (leaps_of es)) h.3 (subst (λ z. lists.IsMember (z, h.0.to) (leaps_of es)) h.2 (leap_in es h.0 h.1 h.4))
 
   -- ---- classes
 
@@ -98,14 +98,14 @@ module _ (d : ℕ) where
   classes_of es part cs h = record {
     same = λ s. ((λ i. to_in s (concat cs) ((h.same s).0 (from_in s part i))), (λ i. to_in s part ((h.same s).1 (from_in s (concat cs) i))));
     once = to_pairwise (λ x y. ¬ (x ≡ y)) (λ x y. ¬ (x ≡ y)) (concat cs) (λ x y f. f) h.once;
-    reachable = to_each (λ c. (s r : ℕ) → lists.In s c → lists.In r c → ReachesWithin part (leaps_of es) s r) (λ c. (s r : ℕ) → In s c → In r c → Leads es d part s r) cs
+    reachable = to_each (λ c. (s r : ℕ) → lists.IsMember s c → lists.IsMember r c → ReachesWithin part (leaps_of es) s r) (λ c. (s r : ℕ) → In s c → In r c → Leads es d part s r) cs
         (λ c f s r i j. (let a = f s r (from_in s c i) (from_in r c j) in (a.0, walk_of es part a.0 s r a.1))) h.reachable;
     filled = to_each (λ c. ¬ (c ≡ [])) (λ c. ¬ (c ≡ [])) cs (λ c f. f) h.filled;
     forward = to_pairwise (NoneBack (leaps_of es)) (NoneFrom es d) cs (none_from es) h.forward;
   }
 
 pub order_is_components : OrderIsComponents
-order_is_components edges d part pairs order once are is = classes_of d edges part (statements_of part order)
+order_is_components edges d part pairs order once are is = classes_of d edges part (statements_of_classes part order)
     (order_has_components part (leaps_of d edges) pairs order (from_pairwise (λ x y. ¬ (x ≡ y)) part once) places is)
   where
     places : ArePlaces part (leaps_of d edges) pairs

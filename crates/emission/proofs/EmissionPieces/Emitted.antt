@@ -26,12 +26,12 @@ use Rattle.emission.specs.emission_pieces.Shapes.{edge_of, edges_of, level_of, n
 
 -- ---- words on lists
 
-pub to_in : {X : Type 0} (x : X) (xs : List X) → lists.In x xs → In x xs
+pub to_in : {X : Type 0} (x : X) (xs : List X) → lists.IsMember x xs → In x xs
 to_in x [] i = i
 to_in x (y ∷ xs) (inl e) = inl e
 to_in x (y ∷ xs) (inr i) = inr (to_in x xs i)
 
-pub from_in : {X : Type 0} (x : X) (xs : List X) → In x xs → lists.In x xs
+pub from_in : {X : Type 0} (x : X) (xs : List X) → In x xs → lists.IsMember x xs
 from_in x [] i = i
 from_in x (y ∷ xs) (inl e) = inl e
 from_in x (y ∷ xs) (inr i) = inr (from_in x xs i)

@@ -3,11 +3,11 @@ use Rattle.std.proofs.Common.{◌≡◌, ◌⊎◌, ℕ, zero, suc, ◌-◌, ◌
 use mathlib.Core.Path.{ap₂}
 use Rattle.std.specs.Prelude.{All, slice_get}
 use Rattle.subscripts.specs.declared.affine.Dir.{Dir}
-use Rattle.components.specs.Lists.{In}
+use Rattle.components.specs.Lists.{IsMember}
 use Rattle.dependence_graph.specs.declared.graphs.Edge.{Edge}
 use Rattle.dependence_graph.specs.declared.graphs.Place.{Place}
-use Rattle.dependence_graph.specs.nest_graph.Arcs.{Answer, Assumed, Couple, Met, Never, Verdict, edge_of, edges_of, in_places}
-use Rattle.dependence_graph.specs.nest_graph.Arcs.{level_of, with_some}
+use Rattle.dependence_graph.specs.nest_graph.Arcs.{VectorVerdict, Assumed, Couple, Met, Never, Verdict, edge_of, edges_of, in_places}
+use Rattle.dependence_graph.specs.nest_graph.Arcs.{vector_level, with_some}
 use Rattle.dependence_graph.specs.nest_graph.Graph.{IsCouple, all_edges, candidate_of}
 use Rattle.dependence_graph.specs.nest_graph.Pair.{IsCandidate}
 use Rattle.dependence_graph.specs.nest_graph.Tested as tested
@@ -24,17 +24,17 @@ use Rattle.emission.proofs.GraphEdges.Vectors.{level_within}
 
 -- ---- lists
 
-all_in : {X : Type 0} (P : X → Type 0) (xs : List X) (x : X) → In x xs → All P xs → P x
+all_in : {X : Type 0} (P : X → Type 0) (xs : List X) (x : X) → IsMember x xs → All P xs → P x
 all_in P [] x i h = absurd i
 all_in P (y ∷ xs) x (inl e) h = subst P (sym e) (h 0 y (omega arith))
 all_in P (y ∷ xs) x (inr i) h = all_in P xs x i (λ k d g. h (suc k) d (omega arith))
 
-element : {X : Type 0} (xs : List X) (k : ℕ) (d : X) → k < length xs → In (get_or xs k d) xs
+element : {X : Type 0} (xs : List X) (k : ℕ) (d : X) → k < length xs → IsMember (get_or xs k d) xs
 element [] k d g = absurd (omega arith)
 element (x ∷ xs) zero d g = inl refl
 element (x ∷ xs) (suc k) d g = inr (element xs k d (omega arith))
 
-in_either : {X : Type 0} (x : X) (xs ys : List X) → In x (xs ++ ys) → In x xs ⊎ In x ys
+in_either : {X : Type 0} (x : X) (xs ys : List X) → IsMember x (xs ++ ys) → IsMember x xs ⊎ IsMember x ys
 in_either {X} x [] ys h = inr h
 in_either {X} x (z ∷ xs) ys h = elim h [ inl e ↦ inl (inl e) | inr r ↦ elim (in_either {X = X} x xs ys r) [ inl a ↦ inl (inr a) | inr b ↦ inr b ] ]
 
@@ -51,14 +51,14 @@ got (y ∷ xs) (suc k) x d h = got xs k x d h
 -- ---- where an edge comes from
 
 abbrev Made : Couple → List Dir → Edge → Type 0
-Made c d e = (e.from ≡ c.from) × (e.to ≡ c.to) × (e.level ≡ level_of (in_places d))
+Made c d e = (e.from ≡ c.from) × (e.to ≡ c.to) × (e.level ≡ vector_level (in_places d))
 
-first : (c : Couple) (d : List Dir) (v : Verdict) (e : Edge) (es : List Edge) → In e (with_some (edge_of c d v) es) → Made c d e ⊎ In e es
+first : (c : Couple) (d : List Dir) (v : Verdict) (e : Edge) (es : List Edge) → IsMember e (with_some (edge_of c d v) es) → Made c d e ⊎ IsMember e es
 first c d (Never w) e es h = inr h
 first c d (Met x y w) e es h = elim h [ inl f ↦ inl (ap (λ (z : Edge). z.from) f, ap (λ (z : Edge). z.to) f, ap (λ (z : Edge). z.level) f) | inr r ↦ inr r ]
 first c d (Assumed w) e es h = elim h [ inl f ↦ inl (ap (λ (z : Edge). z.from) f, ap (λ (z : Edge). z.to) f, ap (λ (z : Edge). z.level) f) | inr r ↦ inr r ]
 
-made : (c : Couple) (as' : List Answer) (e : Edge) → In e (edges_of c as') → (a : Answer) × In a as' × Made c a.0 e
+made : (c : Couple) (as' : List VectorVerdict) (e : Edge) → IsMember e (edges_of c as') → (a : VectorVerdict) × IsMember a as' × Made c a.0 e
 made c [] e h = absurd h
 made c (a ∷ as') e h =
     elim (first c a.0 a.1 e (edges_of c as') h) [
@@ -66,7 +66,7 @@ made c (a ∷ as') e h =
       | inr r ↦ (let k = made c as' e r in (k.0, inr k.1, k.2))
     ]
 
-among : (cs : List Couple) (e : Edge) → In e (all_edges cs) → (c : Couple) × In c cs × In e (edges_of c c.answers)
+among : (cs : List Couple) (e : Edge) → IsMember e (all_edges cs) → (c : Couple) × IsMember c cs × IsMember e (edges_of c c.answers)
 among [] e h = absurd h
 among (c ∷ cs) e h =
     elim (in_either e (edges_of c c.answers) (all_edges cs) h) [
@@ -102,14 +102,14 @@ module _ (n : Nest) (c : Couple) (shallow : IsShallow n) (h : IsCouple n c) wher
   common_is : tested.common_of h.refs.first.loops h.refs.second.loops ≡ common_of (loops_at n c.from.stmt) (loops_at n c.to.stmt)
   common_is = same_common h.refs.first.loops h.refs.second.loops ∙ ap₂ common_of (sym from_loops) (sym to_loops)
 
-  abbrev CoversCandidates : Answer → Type 0
+  abbrev CoversCandidates : VectorVerdict → Type 0
   CoversCandidates a = (v : List Dir) → StandsFor a.0 v → IsCandidate n (candidate_of c v)
 
   same_first : (x y : Standing) (k : ℕ) → slice_get (nest_statements n) k ≡ Some x → slice_get (nest_statements n) k ≡ Some y → x ≡ y
   same_first x y k e f = let g : Some x ≡ Some y = sym e ∙ f in cc
 
-  right : (a : Answer) → CoversCandidates a
-      → (level_of (in_places a.0) ≤ common_of (loops_at n c.from.stmt) (loops_at n c.to.stmt)) × (level_of (in_places a.0) ≡ 0 → c.from.stmt < c.to.stmt)
+  right : (a : VectorVerdict) → CoversCandidates a
+      → (vector_level (in_places a.0) ≤ common_of (loops_at n c.from.stmt) (loops_at n c.to.stmt)) × (vector_level (in_places a.0) ≡ 0 → c.from.stmt < c.to.stmt)
   right a candidates =
       let is = candidates (filled a.0) (filled_stands a.0) in
       let first = same_first is.refs.first h.refs.first c.from.stmt is.refs.first_is.statement h.refs.first_is.statement in
@@ -121,14 +121,14 @@ module _ (n : Nest) (c : Couple) (shallow : IsShallow n) (h : IsCouple n c) wher
       let low = level.0 in
       (omega arith, level.1)
 
-  leads : (e : Edge) → In e (edges_of c c.answers) → IsEdgeOf n e
+  leads : (e : Edge) → IsMember e (edges_of c c.answers) → IsEdgeOf n e
   leads e i =
       let k = made c c.answers e i in
       let d = k.0.0 in
       let is = right k.0 (all_in CoversCandidates c.answers k.0 k.1 h.candidates) in
       let from : e.from.stmt ≡ c.from.stmt = ap (λ (p : Place). p.stmt) k.2.0 in
       let to : e.to.stmt ≡ c.to.stmt = ap (λ (p : Place). p.stmt) k.2.1 in
-      let level : e.level ≡ level_of (in_places d) = k.2.2 in
+      let level : e.level ≡ vector_level (in_places d) = k.2.2 in
       let first_within = within (nest_statements n) c.from.stmt h.refs.first h.refs.first_is.statement in
       let second_within = within (nest_statements n) c.to.stmt h.refs.second h.refs.second_is.statement in
       let same : common_of (loops_at n e.from.stmt) (loops_at n e.to.stmt) ≡ common_of (loops_at n c.from.stmt) (loops_at n c.to.stmt)
@@ -144,7 +144,7 @@ module _ (n : Nest) (c : Couple) (shallow : IsShallow n) (h : IsCouple n c) wher
 pub edges_lead : EdgesLeadInNest
 edges_lead n g shallow h k d i =
     let e = get_or g.edges k d in
-    let r = among h.couples e (subst (λ (es : List Edge). In e es) h.edges (element g.edges k d i)) in
+    let r = among h.couples e (subst (λ (es : List Edge). IsMember e es) h.edges (element g.edges k d i)) in
     leads n r.0 shallow (all_in (IsCouple n) h.couples r.0 r.1 h.each) e r.2
 
 pub graph_emission : GraphEmissionKeepsOrder

@@ -20,7 +20,7 @@ use Rattle.dependence_graph.specs.nest_graph.Pair as graph
 use Rattle.dependence_graph.specs.nest_graph.Pair.{kind_between}
 use Rattle.dependence_graph.specs.nest_graph.Ready.{IsReady}
 use Rattle.dependence_graph.specs.nest_graph.References as graph_references
-use Rattle.dependence_graph.specs.nest_graph.Tested.{AreReferences, IsReference, common_of}
+use Rattle.dependence_graph.specs.nest_graph.Tested.{AreReferences, IsReferenceAt, common_of}
 use Rattle.dependence_graph.specs.nest_graph.Touched as touched
 use Rattle.dependence_graph.proofs.nest_graph.Completing.{complete}
 use Rattle.nest_order.specs.orders.Graphs.{Arc, Candidate, Covers, HasLevel, StandsFor}
@@ -49,12 +49,12 @@ use Rattle.emission.proofs.GraphOrders.Vectors.{are_plain, are_related, comes_fi
 
 -- ---- lists of arcs
 
-arc_in : (es : List Edge) (e : Edge) → components.In e es → In (arc_of e) (arcs_of es)
+arc_in : (es : List Edge) (e : Edge) → components.IsMember e es → In (arc_of e) (arcs_of es)
 arc_in [] e i = absurd i
 arc_in (f ∷ es) e (inl h) = inl (ap arc_of h)
 arc_in (f ∷ es) e (inr i) = inr (arc_in es e i)
 
-of_edge : (es : List Edge) (a : Arc) → In a (arcs_of es) → (e : Edge) × components.In e es × (a ≡ arc_of e)
+of_edge : (es : List Edge) (a : Arc) → In a (arcs_of es) → (e : Edge) × components.IsMember e es × (a ≡ arc_of e)
 of_edge [] a i = absurd i
 of_edge (f ∷ es) a (inl h) = (f, inl refl, h)
 of_edge (f ∷ es) a (inr i) = let r = of_edge es a i in (r.0, inr r.1, r.2)
@@ -81,7 +81,7 @@ place_in p = record { stmt = p.statement; at = p.reference }
 pub record End (n : Nest) (values : ℕ → ℤ) (k q : ℕ) (is : List ℕ) (c : Cell) : Type 0 where
   pub standing : Standing
   pub reference : Reference
-  pub is_reference : IsReference n (record { stmt = k; at = q }) standing reference
+  pub is_reference : IsReferenceAt n (record { stmt = k; at = q }) standing reference
   pub instance : IsInstance n values k (map pos is)
   pub touches : touched.Touches (graph_references.variables_round standing) n.symbols values (map pos is) reference c
 
@@ -233,7 +233,7 @@ module _ (n : Nest) (plain : IsPlain n.body) (text : IsNestText (run_nest n)) (r
     begins (inl led) = begins_led (common_in n e s) e.dirs.at s.couple.from.stmt s.couple.to.stmt led
     begins (inr equal) = begins_equal (common_in n e s) e.dirs.at s.couple.from.stmt s.couple.to.stmt equal.0 equal.1
 
-    is_place : (p : Place) (x : Standing) (r : Reference) → IsReference n p x r
+    is_place : (p : Place) (x : Standing) (r : Reference) → IsReferenceAt n p x r
         → In p.stmt (statements (shape_of 0 n.body)) × (p.at < length (references_of (run_nest n) p.stmt))
     is_place p x r h = (
       number_there n plain p.stmt x h.statement,

@@ -7,11 +7,11 @@ use Rattle.std.proofs.lemmas.List.{get_or_past}
 use Rattle.subscripts.specs.declared.affine.Dir.{Dir}
 use Rattle.subscripts.specs.declared.affine.Dir.TheVariants.{Lt, Eq, Gt, Any}
 use Rattle.subscripts.specs.declared.affine.Dirs.{Dirs}
-use Rattle.components.specs.Lists.{In}
+use Rattle.components.specs.Lists.{IsMember}
 use Rattle.dependence_graph.specs.declared.graphs.Edge.{Edge}
 use Rattle.dependence_graph.specs.declared.graphs.Graph.{Graph}
-use Rattle.dependence_graph.specs.nest_graph.Arcs.{Answer, Assumed, Couple, Met, Never, Verdict, edge_of, edges_of, in_places}
-use Rattle.dependence_graph.specs.nest_graph.Arcs.{level_of, with_some}
+use Rattle.dependence_graph.specs.nest_graph.Arcs.{VectorVerdict, Assumed, Couple, Met, Never, Verdict, edge_of, edges_of, in_places}
+use Rattle.dependence_graph.specs.nest_graph.Arcs.{vector_level, with_some}
 use Rattle.dependence_graph.specs.nest_graph.Graph.{IsCouple, IsGraphOf, all_edges, candidate_of}
 use Rattle.dependence_graph.specs.nest_graph.Pair.{IsCandidate}
 use Rattle.dependence_graph.specs.nest_graph.Ready.{IsReady, IsReadyStatement}
@@ -33,12 +33,12 @@ use Rattle.emission.proofs.GraphOrders.Signs.{IsEqual, IsLed, level_equal, level
 
 -- ---- lists
 
-all_in : {X : Type 0} (P : X → Type 0) (xs : List X) (x : X) → In x xs → All P xs → P x
+all_in : {X : Type 0} (P : X → Type 0) (xs : List X) (x : X) → IsMember x xs → All P xs → P x
 all_in P [] x i h = absurd i
 all_in P (y ∷ xs) x (inl e) h = subst P (sym e) (h 0 y (omega arith))
 all_in P (y ∷ xs) x (inr i) h = all_in P xs x i (λ k d g. h (suc k) d (omega arith))
 
-in_either : {X : Type 0} (x : X) (xs ys : List X) → In x (xs ++ ys) → In x xs ⊎ In x ys
+in_either : {X : Type 0} (x : X) (xs ys : List X) → IsMember x (xs ++ ys) → IsMember x xs ⊎ IsMember x ys
 in_either {X} x [] ys h = inr h
 in_either {X} x (z ∷ xs) ys h =
     elim h [
@@ -49,18 +49,18 @@ in_either {X} x (z ∷ xs) ys h =
 -- ---- where an edge comes from
 
 abbrev Made : Couple → List Dir → Edge → Type 0
-Made c d e = (e.from ≡ c.from) × (e.to ≡ c.to) × (e.dirs ≡ in_places d) × (e.level ≡ level_of (in_places d))
+Made c d e = (e.from ≡ c.from) × (e.to ≡ c.to) × (e.dirs ≡ in_places d) × (e.level ≡ vector_level (in_places d))
 
 made_so : (c : Couple) (d : List Dir) (e f : Edge) → e ≡ f → Made c d f → Made c d e
 made_so c d e f h m = subst (Made c d) (sym h) m
 
-first : (c : Couple) (d : List Dir) (v : Verdict) (e : Edge) (es : List Edge) → In e (with_some (edge_of c d v) es)
-    → Made c d e ⊎ In e es
+first : (c : Couple) (d : List Dir) (v : Verdict) (e : Edge) (es : List Edge) → IsMember e (with_some (edge_of c d v) es)
+    → Made c d e ⊎ IsMember e es
 first c d (Never w) e es h = inr h
 first c d (Met x y w) e es h = elim h [ inl f ↦ inl (made_so c d e _ f (refl, refl, refl, refl)) | inr r ↦ inr r ]
 first c d (Assumed w) e es h = elim h [ inl f ↦ inl (made_so c d e _ f (refl, refl, refl, refl)) | inr r ↦ inr r ]
 
-made : (c : Couple) (as' : List Answer) (e : Edge) → In e (edges_of c as') → (a : Answer) × In a as' × Made c a.0 e
+made : (c : Couple) (as' : List VectorVerdict) (e : Edge) → IsMember e (edges_of c as') → (a : VectorVerdict) × IsMember a as' × Made c a.0 e
 made c [] e h = absurd h
 made c (a ∷ as') e h =
     elim (first c a.0 a.1 e (edges_of c as') h) [
@@ -68,7 +68,7 @@ made c (a ∷ as') e h =
       | inr r ↦ (let k = made c as' e r in (k.0, inr k.1, k.2))
     ]
 
-among : (cs : List Couple) (e : Edge) → In e (all_edges cs) → (c : Couple) × In c cs × In e (edges_of c c.answers)
+among : (cs : List Couple) (e : Edge) → IsMember e (all_edges cs) → (c : Couple) × IsMember c cs × IsMember e (edges_of c c.answers)
 among [] e h = absurd h
 among (c ∷ cs) e h =
     elim (in_either e (edges_of c c.answers) (all_edges cs) h) [
@@ -81,29 +81,29 @@ pub record Source (n : Nest) (e : Edge) : Type 0 where
   pub is : IsCouple n couple
   pub from : e.from ≡ couple.from
   pub to : e.to ≡ couple.to
-  pub level : e.level ≡ level_of e.dirs
+  pub level : e.level ≡ vector_level e.dirs
   pub directions : List Dir
   pub dirs : e.dirs ≡ in_places directions
   pub candidates : (v : List Dir) → StandsFor directions v → IsCandidate n (candidate_of couple v)
 
-abbrev CoversCandidates : Nest → Couple → Answer → Type 0
+abbrev CoversCandidates : Nest → Couple → VectorVerdict → Type 0
 CoversCandidates n c a = (v : List Dir) → StandsFor a.0 v → IsCandidate n (candidate_of c v)
 
-source_by : (n : Nest) (c : Couple) (a : Answer) (e : Edge) → IsCouple n c → In a c.answers → Made c a.0 e → Source n e
+source_by : (n : Nest) (c : Couple) (a : VectorVerdict) (e : Edge) → IsCouple n c → IsMember a c.answers → Made c a.0 e → Source n e
 source_by n c a e h i m = record {
   couple = c;
   is = h;
   from = m.0;
   to = m.1;
-  level = m.3 ∙ ap level_of (sym m.2);
+  level = m.3 ∙ ap vector_level (sym m.2);
   directions = a.0;
   dirs = m.2;
   candidates = all_in (CoversCandidates n c) c.answers a i h.candidates;
 }
 
-pub source : (n : Nest) (g : Graph) (e : Edge) → IsGraphOf n g → In e g.edges → Source n e
+pub source : (n : Nest) (g : Graph) (e : Edge) → IsGraphOf n g → IsMember e g.edges → Source n e
 source n g e h i =
-    let r = among h.couples e (subst (λ (es : List Edge). In e es) h.edges i) in
+    let r = among h.couples e (subst (λ (es : List Edge). IsMember e es) h.edges i) in
     let m = made r.0 r.0.answers e r.2 in
     source_by n r.0 m.0 e (all_in (IsCouple n) h.couples r.0 r.1 h.each) m.1 m.2
 
@@ -208,7 +208,7 @@ arc_is n e s ready =
     ap (λ (l : Level). record { from = e.from.stmt; to = e.to.stmt; level = l })
     (ap (λ c. level_after 0 (signs c e.dirs.at)) (vector n e s ready).len ∙ level_by n e s ready (forward n e s))
 
-each_same : (es : List Edge) → ((e : Edge) → In e es → orders.edge_of (arc_of e) ≡ pieces.edge_of e)
+each_same : (es : List Edge) → ((e : Edge) → IsMember e es → orders.edge_of (arc_of e) ≡ pieces.edge_of e)
     → map orders.edge_of (arcs_of es) ≡ pieces.edges_of es
 each_same [] h = refl
 each_same (e ∷ es) h = ap₂ (λ x xs. x ∷ xs) (h e (inl refl)) (each_same es (λ f i. h f (inr i)))

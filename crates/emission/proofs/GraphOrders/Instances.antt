@@ -9,7 +9,7 @@ use Rattle.meaning.specs.Store.{Cell}
 use Rattle.linear_forms.specs.Linear.{Form, form_of, number_at}
 use Rattle.nest_order.specs.facts.Facts as facts
 use Rattle.nest_order.specs.facts.Facts.{counted, number_by}
-use Rattle.dependence_graph.specs.nest_graph.Instances.{AreTurns, IsTurn, turns_at}
+use Rattle.dependence_graph.specs.nest_graph.Instances.{AreTurns, IsWithinTrip, turns_at}
 use Rattle.dependence_graph.specs.nest_graph.Touched as graph
 use Rattle.nest_order.specs.orders.Lists.{In}
 use Rattle.nest_order.specs.orders.Shapes.{Within}
@@ -32,7 +32,7 @@ below_counted i (pos k) low high = by (leb k 2147483646) high
     by false h = absurd (omega arith)
 
 one_turn : (t : Option Trip) (values : ℕ → ℤ) (before : List ℕ) (i : ℕ) → 1 ≤ i → i ≤ turns_of_trip t values before
-    → IsTurn t values (map pos before) (pos i)
+    → IsWithinTrip t values (map pos before) (pos i)
 one_turn None values before i low high = absurd (omega arith)
 one_turn (Some t) values before i low high =
     ((let e : pos 1 ≤ℤ pos i = omega (arith, ints) in e), below_counted i (turns_at t values (map pos before)) low high)
@@ -52,14 +52,14 @@ turns_are n values before (i ∷ is) (l ∷ ls) known w = (
 
 -- ---- cells
 
-same_values : (values : ℕ → ℤ) (k : ℕ) (xs : List (List ℕ)) → facts.values_from values k xs ≡ graph.values_from values k xs
+same_values : (values : ℕ → ℤ) (k : ℕ) (xs : List (List ℕ)) → facts.values_from values k xs ≡ graph.symbol_values_from values k xs
 same_values values k [] = refl
 same_values values k (x ∷ xs) = ap (λ zs. values k ∷ zs) (same_values values (suc k) xs)
 
-module _ (r : runs.Nest) (k : ℕ) (vars symbols : List (List ℕ)) (values : ℕ → ℤ) (is : List ℕ)
+module _ (r : runs.RunNest) (k : ℕ) (vars symbols : List (List ℕ)) (values : ℕ → ℤ) (is : List ℕ)
     (linear : (e : Expression) → r.linear k e ≡ number_by symbols (form_of vars symbols e)) where
   one_number : (o : Option Form) (z : ℤ) → MayHave r values is (number_by symbols o) z
-      → MatchOption o ⊤ (λ (f : Form). z ≡ number_at f (map pos is ++ graph.values_from values 0 symbols))
+      → MatchOption o ⊤ (λ (f : Form). z ≡ number_at f (map pos is ++ graph.symbol_values_from values 0 symbols))
   one_number None z h = tt
   one_number (Some f) z h = h ∙ ap (λ zs. number_at f (map pos is ++ zs)) (same_values values 0 symbols)
 

@@ -5,8 +5,8 @@ use Rattle.std.proofs.Common.{◌≡◌, ◌⊎◌, inl, inr, refl, sym, ap, sub
 use Rattle.std.specs.Prelude.{All, nat_le, slice_index}
 use Rattle.std.proofs.lemmas.Bool.{leb-true}
 use Rattle.std.proofs.lemmas.Bool.Decides.{Decides-eqb}
-use Rattle.components.specs.Emission.{statements_of}
-use Rattle.components.specs.Lists.{In, Each, Distinct}
+use Rattle.components.specs.Emission.{statements_of_classes}
+use Rattle.components.specs.Lists.{IsMember, Each, Distinct}
 use Rattle.components.specs.Orders.{IsComponent, IsOrder}
 use Rattle.components.specs.Reachability.{AreMutual, Reaches, Walk}
 use Rattle.dependence_graph.specs.declared.graphs.Edge.{Edge}
@@ -52,7 +52,7 @@ module _ (n : Nest) (edges : List Edge) (legal : AreEdgesOf n edges) (k : ℕ) (
   abbrev Deep : ℕ → Type 0
   Deep i = k ≤ length (loops_at n (at i))
 
-  step : (i j : ℕ) → In (i, j) pairs → (at i < at j) ⊎ Deep i
+  step : (i j : ℕ) → IsMember (i, j) pairs → (at i < at j) ⊎ Deep i
   step i j m =
       let g = (paired i j).0 m in
       let w = any_in (joins k (at i) (at j)) edges g.2 in
@@ -103,30 +103,30 @@ module _ (n : Nest) (edges : List Edge) (legal : AreEdgesOf n edges) (k : ℕ) (
       let m = deep_member i j once.0.0 ((whole i j (inl refl)).0 (inr (inl refl))) in
       inr (at m.0, in_map at (i ∷ j ∷ rest) m.0 ((whole i m.0 (inl refl)).1 m.1), m.2)
 
-  distinct_at : (c : List ℕ) → ((i : ℕ) → In i c → i < length part) → Distinct part → Distinct c → Distinct (map at c)
+  distinct_at : (c : List ℕ) → ((i : ℕ) → IsMember i c → i < length part) → Distinct part → Distinct c → Distinct (map at c)
   distinct_at [] below once d = tt
   distinct_at (i ∷ c) below once d = (each c (λ j m. below j (inr m)) d.0, distinct_at c (λ j m. below j (inr m)) once d.1)
     where
-      each : (c : List ℕ) → ((j : ℕ) → In j c → j < length part) → Each (λ y. ¬ (i ≡ y)) c → Each (λ y. ¬ (at i ≡ y)) (map at c)
+      each : (c : List ℕ) → ((j : ℕ) → IsMember j c → j < length part) → Each (λ y. ¬ (i ≡ y)) c → Each (λ y. ¬ (at i ≡ y)) (map at c)
       each [] b g = tt
       each (j ∷ c) b g = ((λ e. g.0 (same_place part once i j (below i (inl refl)) (b j (inl refl)) e)), each c (λ x m. b x (inr m)) g.1)
 
-  of_places : (places : List (List ℕ)) → IsOrder (length part) pairs places → Distinct part → AreInside n part → (c : List ℕ) → In c places → IsClass n k (map at c)
+  of_places : (places : List (List ℕ)) → IsOrder (length part) pairs places → Distinct part → AreInside n part → (c : List ℕ) → IsMember c places → IsClass n k (map at c)
   of_places places order once inside c i = record {
     once = distinct_at c (λ j m. (order.members j).0 (In-concat j c places i m)) once (distinct_class c places i order.once);
     inside = all_in (λ s. s < length (nest_statements n)) (map at c) (λ s m. there s (map_in at c s m));
     loop = loop_of_class c (Each-In (λ c. ¬ (c ≡ [])) places order.filled c i) (distinct_class c places i order.once) (Each-In (IsComponent pairs) places order.components c i);
   }
     where
-      there : (s : ℕ) → (j : ℕ) × In j c × (s ≡ at j) → s < length (nest_statements n)
+      there : (s : ℕ) → (j : ℕ) × IsMember j c × (s ≡ at j) → s < length (nest_statements n)
       there s m = subst (λ z. z < length (nest_statements n)) (sym m.2)
           (in_all (λ z. z < length (nest_statements n)) part inside (at m.0) (get_in part m.0 0 ((order.members m.0).0 (In-concat m.0 c places i m.1))))
 
 pub classes_are : (n : Nest) (edges : List Edge) (k : ℕ) (part : List ℕ) (classes : List (List ℕ)) → AreEdgesOf n edges → Distinct part → AreInside n part
     → AreComponents edges k part classes → All (IsClass n k) classes
-classes_are n edges k part classes legal once inside h = subst (All (IsClass n k)) (sym h.statements) (all_in (IsClass n k) (statements_of part h.places) is_class)
+classes_are n edges k part classes legal once inside h = subst (All (IsClass n k)) (sym h.statements) (all_in (IsClass n k) (statements_of_classes part h.places) is_class)
   where
-    is_class : (c : List ℕ) → In c (statements_of part h.places) → IsClass n k c
+    is_class : (c : List ℕ) → IsMember c (statements_of_classes part h.places) → IsClass n k c
     is_class c i =
         let m = map_in (map (slice_index part)) h.places c i in
         subst (IsClass n k) (sym m.2) (of_places n edges legal k part h.pairs h.paired h.places h.order once inside m.0 m.1)

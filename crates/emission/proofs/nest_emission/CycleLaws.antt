@@ -7,17 +7,17 @@ use Rattle.std.proofs.lemmas.Bool.{and_parts, or_left, or_right}
 use Rattle.std.proofs.lemmas.Bool.Decides.{Decides-eqb}
 use Rattle.std.proofs.lemmas.List.{length-map, map-append, take_all, take_more}
 use Rattle.std.proofs.lemmas.List.Elements.{filter-append}
-use Rattle.closed_walks.specs.Cycles.{AreCycles, AreCyclesOf as AreWalksOf, IsCycle}
+use Rattle.closed_walks.specs.Cycles.{AreCycles, AreLeastWalksOf as AreWalksOf, IsCycle}
 use Rattle.closed_walks.specs.Walks.{IsClosedWalk}
-use Rattle.components.specs.Emission.{statements_of}
-use Rattle.components.specs.Lists.{In, Each, Distinct, Rises}
+use Rattle.components.specs.Emission.{statements_of_classes}
+use Rattle.components.specs.Lists.{IsMember, Each, Distinct, Rises}
 use Rattle.components.specs.Reachability.{AreBelow, Walk}
 use Rattle.components.proofs.ClassLaws.{concat-In, In-concat, Rises-same}
 use Rattle.components.proofs.ListLaws.{Each-In, Each-from, filter-In, In-append, In-filter, In-left, In-right, Pairwise-filter}
 use Rattle.dependence_graph.specs.declared.graphs.Cycle.{Cycle}
 use Rattle.dependence_graph.specs.declared.graphs.Edge.{Edge}
 use Rattle.dependence_graph.specs.declared.graphs.Hold.{Hold}
-use Rattle.emission.specs.emission_pieces.Cycles.{AreCyclesAmong, AreCyclesIn, AreCyclesOf, cycle_at, is_own_anti, is_step, stands_among, stands_in, steps_of}
+use Rattle.emission.specs.emission_pieces.Cycles.{AreCyclesAmong, AreCyclesIn, AreCyclesOf, cycle_at, is_own_anti, is_step, stands_among, stands_in_piece, steps_of}
 use Rattle.emission.specs.emission_pieces.Emission.{AreEmitted, AreEmittedFor, HasToTurn, IsEmittedFor, IsLoopOf}
 use Rattle.emission.specs.emission_pieces.Levels.{AreComponents, is_at_work}
 use Rattle.emission.specs.emission_pieces.Nests.{loops_at}
@@ -25,8 +25,8 @@ use Rattle.emission.specs.emission_pieces.Pieces.{Piece, Kept, Formed, Turning, 
 use Rattle.nest.specs.Bodies.{nest_statements}
 use Rattle.nest.specs.Plain.{Loop, Nest}
 use Rattle.emission.specs.nest_emission.Cycles.{AddCycles, AreCyclesFor, AreCyclesForAll, AreCyclesInLoop, AreCyclesOfPart, is_member}
-use Rattle.emission.specs.declared.nest_emission.source.Source.{Source}
-use Rattle.emission.specs.nest_emission.Given.{AreInside, HasLoop, IsSource, nest_in}
+use Rattle.emission.specs.declared.nest_emission.source.ListedNest.{ListedNest}
+use Rattle.emission.specs.nest_emission.Given.{AreInside, HasLoop, IsListedNest, nest_in}
 use Rattle.nest.specs.statement_loops.Standings.{standing_of}
 use Rattle.emission.proofs.EmissionMarks.Lists as elements
 use Rattle.emission.proofs.EmissionPieces.Emitted.{from_in, to_in}
@@ -42,18 +42,18 @@ at_rises (x ∷ part) r i zero less inside = absurd (omega arith)
 at_rises (x ∷ part) r zero (suc j) less inside = Each-In (λ y. x < y) part r.0 (get_or part j 0) (get_in part j 0 (omega arith))
 at_rises (x ∷ part) r (suc i) (suc j) less inside = at_rises part r.1 i j (omega arith) (omega arith)
 
-rises_at : (part : List ℕ) → Rises part → (c : List ℕ) → ((i : ℕ) → In i c → i < length part) → Rises c → Rises (map (slice_index part) c)
+rises_at : (part : List ℕ) → Rises part → (c : List ℕ) → ((i : ℕ) → IsMember i c → i < length part) → Rises c → Rises (map (slice_index part) c)
 rises_at part r [] below h = tt
 rises_at part r (i ∷ c) below h =
     (Each-from (λ y. get_or part i 0 < y) (map (slice_index part) c) (λ y m. after y (map_in (slice_index part) c y m)), rises_at part r c (λ j m. below j (inr m)) h.1)
   where
-    after : (y : ℕ) → (j : ℕ) × In j c × (y ≡ slice_index part j) → get_or part i 0 < y
+    after : (y : ℕ) → (j : ℕ) × IsMember j c × (y ≡ slice_index part j) → get_or part i 0 < y
     after y m = subst (λ z. get_or part i 0 < z) (sym m.2) (at_rises part r i m.0 (Each-In (λ z. i < z) c h.0 m.0 m.1) (below m.0 (inr m.1)))
 
 pub classes_rise : (edges : List Edge) (k : ℕ) (part : List ℕ) (classes : List (List ℕ)) → Rises part → AreComponents edges k part classes → All Rises classes
-classes_rise edges k part classes r h = subst (All Rises) (sym h.statements) (all_in Rises (statements_of part h.places) (λ c i. rise c (map_in (map (slice_index part)) h.places c i)))
+classes_rise edges k part classes r h = subst (All Rises) (sym h.statements) (all_in Rises (statements_of_classes part h.places) (λ c i. rise c (map_in (map (slice_index part)) h.places c i)))
   where
-    rise : (c : List ℕ) → (d : List ℕ) × In d h.places × (c ≡ map (slice_index part) d) → Rises c
+    rise : (c : List ℕ) → (d : List ℕ) × IsMember d h.places × (c ≡ map (slice_index part) d) → Rises c
     rise c m =
         subst Rises (sym m.2)
         (rises_at part r m.0 (λ i j. (h.order.members i).0 (In-concat i m.0 h.places m.1 j)) (Each-In Rises h.places h.order.rising m.0 m.1))
@@ -62,10 +62,10 @@ pub rises_once : (xs : List ℕ) → Rises xs → Distinct xs
 rises_once [] h = tt
 rises_once (x ∷ xs) h = (Each-from (λ y. ¬ (x ≡ y)) xs (λ y i e. (let less : x < y = Each-In (λ z. x < z) xs h.0 y i in absurd (omega arith))), rises_once xs h.1)
 
-range_within : (a m x : ℕ) → In x (range_with_len a m) → (a ≤ x) × (x < a + m)
+range_within : (a m x : ℕ) → IsMember x (range_with_len a m) → (a ≤ x) × (x < a + m)
 range_within a m x i = elements.range_within a m x (to_in x (range_with_len a m) i)
 
-in_range : (a m x : ℕ) → a ≤ x → x < a + m → In x (range_with_len a m)
+in_range : (a m x : ℕ) → a ≤ x → x < a + m → IsMember x (range_with_len a m)
 in_range a m x h g = from_in x (range_with_len a m) (elements.in_range a m x h g)
 
 pub range_rises : (a m : ℕ) → Rises (range_with_len a m)
@@ -73,14 +73,14 @@ range_rises a zero = tt
 range_rises a (suc m) =
     (Each-from (λ y. a < y) (range_with_len (a + 1) m) (λ y i. (let h : a + 1 ≤ y = (range_within (a + 1) m y i).0 in omega arith)), range_rises (a + 1) m)
 
-pub of_member : (c : List ℕ) (s : ℕ) → is_member c s ≡ true → In s c
-of_member c s h = let w = any_in (λ r. r == s) c h in subst (λ z. In z c) ((Decides-eqb w.0 s).0 w.2) w.1
+pub of_member : (c : List ℕ) (s : ℕ) → is_member c s ≡ true → IsMember s c
+of_member c s h = let w = any_in (λ r. r == s) c h in subst (λ z. IsMember z c) ((Decides-eqb w.0 s).0 w.2) w.1
 
-pub to_member : (c : List ℕ) (s : ℕ) → In s c → is_member c s ≡ true
+pub to_member : (c : List ℕ) (s : ℕ) → IsMember s c → is_member c s ≡ true
 to_member c s i = in_any (λ r. r == s) c s i ((Decides-eqb s s).1 refl)
 
 -- the members of a rising list, in order
-members_are : (count : ℕ) (c : List ℕ) → Rises c → ((s : ℕ) → In s c → s < count) → filter (is_member c) (range_with_len 0 count) ≡ c
+members_are : (count : ℕ) (c : List ℕ) → Rises c → ((s : ℕ) → IsMember s c → s < count) → filter (is_member c) (range_with_len 0 count) ≡ c
 members_are count c rises below =
     Rises-same (filter (is_member c) (range_with_len 0 count)) c (Pairwise-filter (is_member c) (λ x y. x < y) (range_with_len 0 count) (range_rises 0 count)) rises
     (λ s i. of_member c s (filter-In (is_member c) (range_with_len 0 count) s i).1)
@@ -94,66 +94,66 @@ same_test false true f g = g refl
 same_test false false f g = refl
 
 -- a part has the statements of its classes
-in_classes : (edges : List Edge) (k : ℕ) (part : List ℕ) (classes : List (List ℕ)) → AreComponents edges k part classes → (s : ℕ) → In s (concat classes) → In s part
-in_classes edges k part classes h s i = by (concat-In s (statements_of part h.places) (subst (λ cs. In s (concat cs)) h.statements i))
+in_classes : (edges : List Edge) (k : ℕ) (part : List ℕ) (classes : List (List ℕ)) → AreComponents edges k part classes → (s : ℕ) → IsMember s (concat classes) → IsMember s part
+in_classes edges k part classes h s i = by (concat-In s (statements_of_classes part h.places) (subst (λ cs. IsMember s (concat cs)) h.statements i))
   where
-    by : (c : List ℕ) × In c (statements_of part h.places) × In s c → In s part
+    by : (c : List ℕ) × IsMember c (statements_of_classes part h.places) × IsMember s c → IsMember s part
     by m =
         let d = map_in (map (slice_index part)) h.places m.0 m.1 in
-        let j = map_in (slice_index part) d.0 s (subst (In s) d.2 m.2) in
-        subst (λ z. In z part) (sym j.2) (get_in part j.0 0 ((h.order.members j.0).0 (In-concat j.0 d.0 h.places d.1 j.1)))
+        let j = map_in (slice_index part) d.0 s (subst (IsMember s) d.2 m.2) in
+        subst (λ z. IsMember z part) (sym j.2) (get_in part j.0 0 ((h.order.members j.0).0 (In-concat j.0 d.0 h.places d.1 j.1)))
 
-place_in : (xs : List ℕ) (x : ℕ) → In x xs → (i : ℕ) × (i < length xs) × (x ≡ get_or xs i 0)
+place_in : (xs : List ℕ) (x : ℕ) → IsMember x xs → (i : ℕ) × (i < length xs) × (x ≡ get_or xs i 0)
 place_in [] x i = absurd i
 place_in (y ∷ xs) x (inl e) = (0, omega arith, e)
 place_in (y ∷ xs) x (inr i) = let k = place_in xs x i in (suc k.0, (let h : k.0 < length xs = k.1 in omega arith), k.2)
 
-of_classes : (edges : List Edge) (k : ℕ) (part : List ℕ) (classes : List (List ℕ)) → AreComponents edges k part classes → (s : ℕ) → In s part → In s (concat classes)
+of_classes : (edges : List Edge) (k : ℕ) (part : List ℕ) (classes : List (List ℕ)) → AreComponents edges k part classes → (s : ℕ) → IsMember s part → IsMember s (concat classes)
 of_classes edges k part classes h s i =
     let p = place_in part s i in
     let c = concat-In p.0 h.places ((h.order.members p.0).1 p.1) in
-    subst (λ cs. In s (concat cs)) (sym h.statements)
-    (In-concat s (map (slice_index part) c.0) (statements_of part h.places) (in_map (map (slice_index part)) h.places c.0 c.1)
-    (subst (λ z. In z (map (slice_index part) c.0)) (sym p.2) (in_map (slice_index part) c.0 p.0 c.2)))
+    subst (λ cs. IsMember s (concat cs)) (sym h.statements)
+    (In-concat s (map (slice_index part) c.0) (statements_of_classes part h.places) (in_map (map (slice_index part)) h.places c.0 c.1)
+    (subst (λ z. IsMember z (map (slice_index part) c.0)) (sym p.2) (in_map (slice_index part) c.0 p.0 c.2)))
 
-one_number : (r s : ℕ) → In s (r ∷ []) → (r == s) ≡ true
+one_number : (r s : ℕ) → IsMember s (r ∷ []) → (r == s) ≡ true
 one_number r s (inl e) = (Decides-eqb r s).1 (sym e)
 one_number r s (inr none) = absurd none
 
-either_in : (s : ℕ) (c rest : List ℕ) (a b : Bool) → (a ≡ true → In s c) → (b ≡ true → In s rest) → (a || b) ≡ true → In s (c ++ rest)
+either_in : (s : ℕ) (c rest : List ℕ) (a b : Bool) → (a ≡ true → IsMember s c) → (b ≡ true → IsMember s rest) → (a || b) ≡ true → IsMember s (c ++ rest)
 either_in s c rest true b f g e = In-left s c rest (f refl)
 either_in s c rest false b f g e = In-right s c rest (g e)
 
-in_either : (s : ℕ) (c rest : List ℕ) (a b : Bool) → (In s c → a ≡ true) → (In s rest → b ≡ true) → In s c ⊎ In s rest → (a || b) ≡ true
+in_either : (s : ℕ) (c rest : List ℕ) (a b : Bool) → (IsMember s c → a ≡ true) → (IsMember s rest → b ≡ true) → IsMember s c ⊎ IsMember s rest → (a || b) ≡ true
 in_either s c rest a b f g (inl i) = or_left a b (f i)
 in_either s c rest a b f g (inr i) = or_right a b (g i)
 
 module _ (n : Nest) (edges : List Edge) (holds : List Hold) where
   mutual
-    stand_in : (k : ℕ) (c : List ℕ) (p : Piece) → IsEmittedFor n edges holds k c p → (s : ℕ) → stands_in s p ≡ true → In s c
-    stand_in k c (Kept r) h s e = subst (In s) (sym h.0) (inl (sym ((Decides-eqb r s).0 e)))
-    stand_in k c (Formed r) h s e = subst (In s) (sym h.0) (inl (sym ((Decides-eqb r s).0 e)))
+    stand_in : (k : ℕ) (c : List ℕ) (p : Piece) → IsEmittedFor n edges holds k c p → (s : ℕ) → stands_in_piece s p ≡ true → IsMember s c
+    stand_in k c (Kept r) h s e = subst (IsMember s) (sym h.0) (inl (sym ((Decides-eqb r s).0 e)))
+    stand_in k c (Formed r) h s e = subst (IsMember s) (sym h.0) (inl (sym ((Decides-eqb r s).0 e)))
     stand_in k c (Turning l ps) h s e = in_classes edges (suc k) c h.2.0 h.2.1 s (stand_among (suc k) h.2.0 ps h.2.2 s e)
 
-    pub stand_among : (k : ℕ) (cs : List (List ℕ)) (ps : Pieces) → AreEmittedFor n edges holds k cs ps → (s : ℕ) → stands_among s ps ≡ true → In s (concat cs)
+    pub stand_among : (k : ℕ) (cs : List (List ℕ)) (ps : Pieces) → AreEmittedFor n edges holds k cs ps → (s : ℕ) → stands_among s ps ≡ true → IsMember s (concat cs)
     stand_among k [] no_pieces h s e = cc
     stand_among k [] (piece p ps) h s e = absurd h
     stand_among k (c ∷ cs) no_pieces h s e = absurd h
     stand_among k (c ∷ cs) (piece p ps) h s e =
-        either_in s c (concat cs) (stands_in s p) (stands_among s ps) (stand_in k c p h.0 s) (stand_among k cs ps h.1 s) e
+        either_in s c (concat cs) (stands_in_piece s p) (stands_among s ps) (stand_in k c p h.0 s) (stand_among k cs ps h.1 s) e
 
   mutual
-    standing : (k : ℕ) (c : List ℕ) (p : Piece) → IsEmittedFor n edges holds k c p → (s : ℕ) → In s c → stands_in s p ≡ true
-    standing k c (Kept r) h s i = one_number r s (subst (In s) h.0 i)
-    standing k c (Formed r) h s i = one_number r s (subst (In s) h.0 i)
+    standing : (k : ℕ) (c : List ℕ) (p : Piece) → IsEmittedFor n edges holds k c p → (s : ℕ) → IsMember s c → stands_in_piece s p ≡ true
+    standing k c (Kept r) h s i = one_number r s (subst (IsMember s) h.0 i)
+    standing k c (Formed r) h s i = one_number r s (subst (IsMember s) h.0 i)
     standing k c (Turning l ps) h s i = standing_among (suc k) h.2.0 ps h.2.2 s (of_classes edges (suc k) c h.2.0 h.2.1 s i)
 
-    pub standing_among : (k : ℕ) (cs : List (List ℕ)) (ps : Pieces) → AreEmittedFor n edges holds k cs ps → (s : ℕ) → In s (concat cs) → stands_among s ps ≡ true
+    pub standing_among : (k : ℕ) (cs : List (List ℕ)) (ps : Pieces) → AreEmittedFor n edges holds k cs ps → (s : ℕ) → IsMember s (concat cs) → stands_among s ps ≡ true
     standing_among k [] no_pieces h s i = absurd i
     standing_among k [] (piece p ps) h s i = absurd h
     standing_among k (c ∷ cs) no_pieces h s i = absurd h
     standing_among k (c ∷ cs) (piece p ps) h s i =
-        in_either s c (concat cs) (stands_in s p) (stands_among s ps) (standing k c p h.0 s) (standing_among k cs ps h.1 s) (In-append s c (concat cs) i)
+        in_either s c (concat cs) (stands_in_piece s p) (stands_among s ps) (standing k c p h.0 s) (standing_among k cs ps h.1 s) (In-append s c (concat cs) i)
 
   -- just the statements of the part
   pub stands_as : (k : ℕ) (c : List ℕ) (ps : Pieces) → AreEmitted n edges holds k c ps → (λ s. stands_among s ps) ≡ is_member c
@@ -286,11 +286,11 @@ module _ (n : Nest) (edges : List Edge) (holds : List Hold) where
 
 -- ---- steps are below the number of statements, and so are the numbers of walks
 
-pub steps_below : (count : ℕ) (edges : List Edge) (k : ℕ) (c : List ℕ) → ((s : ℕ) → In s c → s < count) → AreBelow count (steps_of (is_member c) edges k)
+pub steps_below : (count : ℕ) (edges : List Edge) (k : ℕ) (c : List ℕ) → ((s : ℕ) → IsMember s c → s < count) → AreBelow count (steps_of (is_member c) edges k)
 steps_below count edges k c below =
     Each-from (λ (p : ℕ × ℕ). (p.0 < count) × (p.1 < count)) (steps_of (is_member c) edges k) (λ p i. by p (map_in (λ (e : Edge). (e.from.stmt, e.to.stmt)) (filter (is_step (is_member c) k) edges) p i))
   where
-    by : (p : ℕ × ℕ) → (e : Edge) × In e (filter (is_step (is_member c) k) edges) × (p ≡ (e.from.stmt, e.to.stmt)) → (p.0 < count) × (p.1 < count)
+    by : (p : ℕ × ℕ) → (e : Edge) × IsMember e (filter (is_step (is_member c) k) edges) × (p ≡ (e.from.stmt, e.to.stmt)) → (p.0 < count) × (p.1 < count)
     by p m =
         let e = m.0 in
         let test = (filter-In (is_step (is_member c) k) edges e m.1).1 in
@@ -347,14 +347,14 @@ steps_same has edges i e k old inside is h test =
 
 -- ---- as calls ask for them
 
-module _ (source : Source) (h : IsSource source) (class : List ℕ) (inside : AreInside (nest_in source) class) where
+module _ (source : ListedNest) (h : IsListedNest source) (class : List ℕ) (inside : AreInside (nest_in source) class) where
   abbrev size : ℕ
   size = length (nest_statements (nest_in source))
 
   same_size : length source.statements.now ≡ size
   same_size = sym (length-map source.statements.now standing_of) ∙ ap length h.all
 
-  members_inside : (s : ℕ) → In s class → s < size
+  members_inside : (s : ℕ) → IsMember s class → s < size
   members_inside = in_all (λ s. s < size) class inside
 
   pub steps_given : (level : ℕ) (items given : List (ℕ × ℕ)) → items ≡ steps_of (is_member class) source.edges.now level → given ≡ items

@@ -5,7 +5,7 @@ use Rattle.std.specs.Prelude.{slice_index}
 use Rattle.std.proofs.lemmas.Bool.{and_parts, or_cases, or_left, or_right}
 use Rattle.std.proofs.lemmas.Bool.Decides.{Decides-eqb}
 use Rattle.std.proofs.lemmas.List.Folds.{list_any_more}
-use Rattle.components.specs.Lists.{In, Distinct}
+use Rattle.components.specs.Lists.{IsMember, Distinct}
 use Rattle.components.specs.Reachability.{AreBelow}
 use Rattle.dependence_graph.specs.declared.graphs.Edge.{Edge}
 use Rattle.components.proofs.ListLaws.{Each-from, In-append, In-left, In-right}
@@ -38,11 +38,11 @@ module _ (k : ℕ) (part : List ℕ) (e : Edge) (old : List (ℕ × ℕ)) where
       → new ≡ old ++ (from, to) ∷ [] → AddsPairOf k part e old new
   both_found new from to once w f f-is t t-is n i j = (forth, back)
     where
-      forth : In (i, j) new → In (i, j) old ⊎ ((i < length part) × (j < length part) × (joins k (slice_index part i) (slice_index part j) e ≡ true))
-      forth m = by (In-append (i, j) old ((from, to) ∷ []) (subst (In (i, j)) n m))
+      forth : IsMember (i, j) new → IsMember (i, j) old ⊎ ((i < length part) × (j < length part) × (joins k (slice_index part i) (slice_index part j) e ≡ true))
+      forth m = by (In-append (i, j) old ((from, to) ∷ []) (subst (IsMember (i, j)) n m))
         where
-          by : In (i, j) old ⊎ In {X = ℕ × ℕ} (i, j) ((from, to) ∷ [])
-              → In (i, j) old ⊎ ((i < length part) × (j < length part) × (joins k (slice_index part i) (slice_index part j) e ≡ true))
+          by : IsMember (i, j) old ⊎ IsMember {X = ℕ × ℕ} (i, j) ((from, to) ∷ [])
+              → IsMember (i, j) old ⊎ ((i < length part) × (j < length part) × (joins k (slice_index part i) (slice_index part j) e ≡ true))
           by (inl o) = inl o
           by (inr (inl g)) =
               let i-is : i ≡ from = ap (λ (p : ℕ × ℕ). p.0) g in
@@ -54,13 +54,13 @@ module _ (k : ℕ) (part : List ℕ) (e : Edge) (old : List (ℕ × ℕ)) where
               )
           by (inr (inr g)) = absurd g
 
-      back : In (i, j) old ⊎ ((i < length part) × (j < length part) × (joins k (slice_index part i) (slice_index part j) e ≡ true)) → In (i, j) new
-      back (inl o) = subst (In (i, j)) (sym n) (In-left (i, j) old ((from, to) ∷ []) o)
+      back : IsMember (i, j) old ⊎ ((i < length part) × (j < length part) × (joins k (slice_index part i) (slice_index part j) e ≡ true)) → IsMember (i, j) new
+      back (inl o) = subst (IsMember (i, j)) (sym n) (In-left (i, j) old ((from, to) ∷ []) o)
       back (inr g) =
           let it = joined k (slice_index part i) (slice_index part j) e g.2 in
           let i-is : i ≡ from = same_place part once i from g.0 f (sym it.from ∙ sym f-is) in
           let j-is : j ≡ to = same_place part once j to g.1 t (sym it.to ∙ sym t-is) in
-          subst (In (i, j)) (sym n) (In-right (i, j) old ((from, to) ∷ []) (inl (ap₂ (λ (a b : ℕ). let p : ℕ × ℕ = (a, b) in p) i-is j-is)))
+          subst (IsMember (i, j)) (sym n) (In-right (i, j) old ((from, to) ∷ []) (inl (ap₂ (λ (a b : ℕ). let p : ℕ × ℕ = (a, b) in p) i-is j-is)))
 
 -- ---- all edges
 
@@ -74,7 +74,7 @@ pairs_more edges n e k part old new inside is h adds i j = ((λ m. forth ((adds 
         list_any_more (joins k (slice_index part i) (slice_index part j)) edges n e inside
         ∙ ap (λ (z : Edge). leads (take n edges) k (slice_index part i) (slice_index part j) || joins k (slice_index part i) (slice_index part j) z) (sym is)
 
-    forth : In (i, j) old ⊎ ((i < length part) × (j < length part) × (joins k (slice_index part i) (slice_index part j) e ≡ true))
+    forth : IsMember (i, j) old ⊎ ((i < length part) × (j < length part) × (joins k (slice_index part i) (slice_index part j) e ≡ true))
         → (i < length part) × (j < length part) × (leads (take (n + 1) edges) k (slice_index part i) (slice_index part j) ≡ true)
     forth (inl o) =
         let g = (h i j).0 o in
@@ -82,10 +82,10 @@ pairs_more edges n e k part old new inside is h adds i j = ((λ m. forth ((adds 
     forth (inr g) =
         (g.0, g.1, more ∙ or_right (leads (take n edges) k (slice_index part i) (slice_index part j)) (joins k (slice_index part i) (slice_index part j) e) g.2)
 
-    back : (i < length part) × (j < length part) × (leads (take (n + 1) edges) k (slice_index part i) (slice_index part j) ≡ true) → In (i, j) new
+    back : (i < length part) × (j < length part) × (leads (take (n + 1) edges) k (slice_index part i) (slice_index part j) ≡ true) → IsMember (i, j) new
     back g = by (or_cases (leads (take n edges) k (slice_index part i) (slice_index part j)) (joins k (slice_index part i) (slice_index part j) e) (sym more ∙ g.2))
       where
-        by : (leads (take n edges) k (slice_index part i) (slice_index part j) ≡ true) ⊎ (joins k (slice_index part i) (slice_index part j) e ≡ true) → In (i, j) new
+        by : (leads (take n edges) k (slice_index part i) (slice_index part j) ≡ true) ⊎ (joins k (slice_index part i) (slice_index part j) e ≡ true) → IsMember (i, j) new
         by (inl l) = (adds i j).1 (inl ((h i j).1 (g.0, g.1, l)))
         by (inr l) = (adds i j).1 (inr (g.0, g.1, l))
 

@@ -3,7 +3,7 @@ use Rattle.std.proofs.Common.{◌≡◌, inl, inr, sym, ap, subst, ◌∙◌, �
 use Rattle.std.specs.Prelude.{slice_get}
 use Rattle.std.specs.Option.{option_map}
 use Rattle.std.proofs.lemmas.Option.{slice_get-map}
-use Rattle.components.specs.Lists.{In}
+use Rattle.components.specs.Lists.{IsMember}
 use Rattle.emission.specs.emission_pieces.Emission.{IsLoopOf}
 use Rattle.emission.specs.emission_pieces.Nests.{loops_at, standing_at}
 use Rattle.nest.specs.Bodies as bodies
@@ -14,11 +14,11 @@ use Rattle.nest.specs.declared.parts.Loop.{Loop as Loop'}
 use Rattle.array_form.specs.holds.Statements.{no_statement}
 use Rattle.nest.specs.statement_loops.Standings.{standing_of}
 use Rattle.nest.specs.declared.statement_loops.standings.Standing.{Standing}
-use Rattle.emission.specs.nest_emission.Given.{HasLoop, HasLoopForms, IsSource, nest_in}
-use Rattle.emission.specs.declared.nest_emission.source.Source.{Source}
+use Rattle.emission.specs.nest_emission.Given.{HasLoop, HasLoopForms, IsListedNest, nest_in}
+use Rattle.emission.specs.declared.nest_emission.source.ListedNest.{ListedNest}
 use Rattle.emission.proofs.nest_emission.Lists.{get_in}
 
-module _ (source : Source) (h : IsSource source) where
+module _ (source : ListedNest) (h : IsListedNest source) where
   pub forms_at : (s : ℕ) → s < length (nest_statements (nest_in source)) → HasLoopForms (standing_at (nest_in source) s)
   forms_at s inside = h.forms s no_statement inside
 
@@ -26,13 +26,13 @@ module _ (source : Source) (h : IsSource source) where
       → Some turns ≡ slice_get x.loops (k - 1) → IsLoopOf (nest_in source) source.edges.now source.holds.now k c (loop_of turns)
   loop_is k c i s x turns inside is e f = record {
     statement = s;
-    among = subst (λ z. In z c) (sym is) (get_in c i 0 inside);
+    among = subst (λ z. IsMember z c) (sym is) (get_in c i 0 inside);
     loop =
         ap (λ (y : bodies.Standing). slice_get y.loops (k - 1)) (sym e)
         ∙ (slice_get-map loop_of x.loops (k - 1) ∙ ap (option_map loop_of) (sym f));
   }
 
-in_place : (xs : List ℕ) (x : ℕ) → In x xs → (i : ℕ) × (i < length xs) × (x ≡ get_or xs i 0)
+in_place : (xs : List ℕ) (x : ℕ) → IsMember x xs → (i : ℕ) × (i < length xs) × (x ≡ get_or xs i 0)
 in_place [] x i = absurd i
 in_place (y ∷ xs) x (inl e) = (0, omega arith, e)
 in_place (y ∷ xs) x (inr i) = let k = in_place xs x i in (suc k.0, (let h : k.0 < length xs = k.1 in omega arith), k.2)

@@ -25,7 +25,7 @@ use Rattle.nest.specs.Blocks.{under_guard}
 use Rattle.nest.specs.Bodies as bodies
 use Rattle.nest.specs.Plain.{Loop, Nest}
 use Rattle.nest.specs.View.{loop_of}
-use Rattle.array_form.specs.holds.Surroundings.{counted, known_trip, surroundings_of}
+use Rattle.array_form.specs.holds.Surroundings.{counted_loop, known_trip, surroundings_of}
 use Rattle.array_form.specs.holds.View.{surroundings_view}
 use Rattle.array_form.specs.declared.holds.loops.Surroundings.{Surroundings}
 use Rattle.nest.specs.statement_loops.Standings.{standing_of}
@@ -63,7 +63,7 @@ module _ (n : Nest) (s : ℕ) (x : Standing) (same : standing_of x ≡ standing_
   loops_same : map loop_of x.loops ≡ loops_at n s
   loops_same = ap (λ (y : bodies.Standing). y.loops) same
 
-  module _ (a : Surroundings) (view : surroundings_view a ≡ surroundings_of n (map loop_of x.loops)) (own : a.loops ≡ map counted (map loop_of x.loops)) where
+  module _ (a : Surroundings) (view : surroundings_view a ≡ surroundings_of n (map loop_of x.loops)) (own : a.loops ≡ map counted_loop (map loop_of x.loops)) where
     pub places_of : HasLoopForms (standing_at n s) → length n.symbols < 2 ^ 16 → HasPlaces a
     places_of h symbols = has_places a n (map loop_of x.loops) view own (subst (λ (ls : List Loop). length ls ≤ 7) (sym loops_same) h.few) symbols
 
@@ -74,7 +74,7 @@ module _ (n : Nest) (s : ℕ) (x : Standing) (same : standing_of x ≡ standing_
 
     pub from_within : (k : ℕ) → k ≤ length (loops_at n s) → k - 1 ≤ length a.loops
     from_within k within =
-        let size : length a.loops ≡ length (loops_at n s) = ap length own ∙ (length-map (map loop_of x.loops) counted ∙ ap length loops_same) in
+        let size : length a.loops ≡ length (loops_at n s) = ap length own ∙ (length-map (map loop_of x.loops) counted_loop ∙ ap length loops_same) in
         omega arith
 
     pub formed_is : (k : ℕ) (mark : Mark) (b : Block) → 1 ≤ k → mark ≡ mark_of n s k
@@ -82,7 +82,7 @@ module _ (n : Nest) (s : ℕ) (x : Standing) (same : standing_of x ≡ standing_
         → b ≡ formed_block n k s
     formed_is k mark b one m e =
         let level : (k - 1) + 1 ≡ k = omega arith in
-        e ∙ (ap (λ (w : forms.Surroundings). array_form_of w ((k - 1) + 1) x.stmt.line (Some mark) (option_map expression_of x.stmt.guard) (reference_of x.stmt.left) (expression_of x.stmt.right)) view
+        e ∙ (ap (λ (w : forms.FormSurroundings). array_form_of w ((k - 1) + 1) x.stmt.line (Some mark) (option_map expression_of x.stmt.guard) (reference_of x.stmt.left) (expression_of x.stmt.right)) view
         ∙ (ap (λ j. array_form_of (surroundings_of n (map loop_of x.loops)) j x.stmt.line (Some mark) (option_map expression_of x.stmt.guard) (reference_of x.stmt.left) (expression_of x.stmt.right)) level
         ∙ (ap (λ (q : Mark). array_form_of (surroundings_of n (map loop_of x.loops)) k x.stmt.line (Some q) (option_map expression_of x.stmt.guard) (reference_of x.stmt.left) (expression_of x.stmt.right)) m
         ∙ ap (λ (y : bodies.Standing). array_form_of (surroundings_of n y.loops) k y.statement.line (Some (mark_of n s k)) y.statement.guard y.statement.left y.statement.right) same)))

@@ -10,7 +10,7 @@ use Rattle.tree.specs.declared.lists.Seq.{Seq}
 use Rattle.tree.specs.declared.stmts.Stmt.{Stmt}
 use Rattle.tree.specs.declared.stmts.Stmt.TheVariants as stmts
 use Rattle.tree.proofs.Equations.{statement_of-allocate, statement_of-deallocate}
-use Rattle.components.specs.Lists.{In, Distinct}
+use Rattle.components.specs.Lists.{IsMember, Distinct}
 use Rattle.components.proofs.ListLaws.{Each-from}
 use Rattle.nest.specs.Allocations.{allocation_then, allocations_then, block_then, deallocation_then, deallocations}
 use Rattle.nest.specs.Bodies.{nest_statements}
@@ -87,7 +87,7 @@ range_more n =
     sym (map-id (range_with_len 0 (n + 1)))
     ∙ (map-range_with_len_more (λ (x : ℕ). x) 0 n n (omega arith) ∙ ap (λ xs. xs ++ n ∷ []) (map-id (range_with_len 0 n)))
 
-range_within : (a m x : ℕ) → In x (range_with_len a m) → (a ≤ x) × (x < a + m)
+range_within : (a m x : ℕ) → IsMember x (range_with_len a m) → (a ≤ x) × (x < a + m)
 range_within a zero x i = absurd i
 range_within a (suc m) x (inl e) = (omega arith, omega arith)
 range_within a (suc m) x (inr i) =

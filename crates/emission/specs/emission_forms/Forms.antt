@@ -5,9 +5,9 @@ use Rattle.std.specs.Str.{bytes_eq}
 use Rattle.tree.specs.Plain.{Statement, Block, no_statements, statement}
 use Rattle.array_form.specs.forms.Following.{are_moved, is_regular}
 use Rattle.array_form.specs.forms.Guarded.{is_regular_guard}
-use Rattle.array_form.specs.forms.Loops.{Surroundings}
+use Rattle.array_form.specs.forms.Loops.{FormSurroundings}
 use Rattle.array_form.specs.forms.Statements.{loops_assigned}
-use Rattle.array_form.specs.forms.Statements.{Hold as HoldThere}
+use Rattle.array_form.specs.forms.Statements.{HoldCause as HoldThere}
 use Rattle.dependence_graph.specs.declared.graphs.Edge.{Edge}
 use Rattle.dependence_graph.specs.declared.graphs.Hold.{Hold}
 use Rattle.emission.specs.emission_pieces.Levels.{is_held, may_be_formed}
@@ -44,7 +44,7 @@ abbrev mutual
 
 -- ---- what the statements of a nest have to be
 
-abbrev pub surroundings_at : Nest → ℕ → Surroundings
+abbrev pub surroundings_at : Nest → ℕ → FormSurroundings
 surroundings_at n s = surroundings_of n (loops_at n s)
 
 -- what forbids the array form of a statement at a level

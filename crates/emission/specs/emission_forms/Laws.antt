@@ -20,6 +20,8 @@ use Rattle.nest.specs.Bodies.{nest_statements}
 use Rattle.nest.specs.Plain.{Nest}
 use Rattle.emission.specs.emission_forms.Forms.{AreAllHolds, AreRegular, formed, marked_layout}
 use Rattle.emission.specs.emission_forms.Written.{HasFormFacts, HaveGuardedNames}
+use Rattle.tree.specs.Widths.{bits_of}
+use Rattle.tree.specs.declared.width.Width.{Width}
 
 -- What is emitted for a nest of loops and statements alone
 abbrev pub PiecesAreWritten : Type 0
@@ -29,8 +31,9 @@ PiecesAreWritten = (n : Nest) (g : Graph) (holds : List Hold) (ps : Pieces)
     → written_in (run_nest n) (marked_layout n) (formed n g.edges holds) [] (shapes_of n 0 ps) ≡ block_of_pieces n 1 ps
 
 -- The forms in it, where the instances of statements without a guard name cells
-abbrev pub FormsAreLone : Type 0
-FormsAreLone = (n : Nest) (g : Graph) (holds : List Hold) (w : Setting)
+abbrev pub FormsAreLone : (width : Width) → Type 0
+FormsAreLone width = (n : Nest) (g : Graph) (holds : List Hold) (w : Setting)
     → IsPlain n.body → IsReady n → AreRegular n → IsGraphOf n g → AreAllHolds n holds
-    → HasFacts 31 (run_nest n) w → HasFormFacts n w → HaveGuardedNames n w → UnguardedNameCells (run_nest n) w
-    → AreLoneForms 31 true (run_nest n) w (arcs_of g.edges) (formed n g.edges holds)
+    → HasFacts (bits_of width) (run_nest n) w → HasFormFacts n w → HaveGuardedNames n w
+    → UnguardedNameCells (run_nest n) w
+    → AreLoneForms (bits_of width) true (run_nest n) w (arcs_of g.edges) (formed n g.edges holds)

@@ -12,7 +12,7 @@ use Rattle.emission.specs.graph_orders.Nests.{run_nest}
 use Rattle.linear_forms.specs.Linear.{Form, form_of}
 use Rattle.linear_forms.specs.Affines.{IsAffineOf}
 use Rattle.nest_order.specs.orders.Lists.{In}
-use Rattle.nest_order.specs.orders.Shapes.{loops}
+use Rattle.nest_order.specs.orders.Shapes.{loops_of_shape}
 use Rattle.nest_order.specs.runs.Stores.{Setting}
 use Rattle.nest.specs.declared.parts.Trip.{Trip}
 use Rattle.nest.specs.Bodies.{nest_statements}
@@ -42,7 +42,7 @@ HaveTripTexts symbols round (l ∷ ls) =
 pub record HasFormFacts (n : Nest) (w : Setting) : Type 0 where
   pub symbols : AreDistinct n.symbols
   pub trips : (s : ℕ) → s < length (nest_statements n) → HaveTripTexts n.symbols [] (loops_at n s)
-  pub variables : (l : ℕ) → In l (loops (run_nest n).shape)
+  pub variables : (l : ℕ) → In l (loops_of_shape (run_nest n).shape)
       → (d : Declaration) × (declared w.program.declarations ((run_nest n).variable_at l) ≡ Some d) × (d.kind ≡ Integer)
 
 -- ---- guards

@@ -13,14 +13,14 @@ module _ (edges : List Edge) where
   IsWalk k Has s [] r = s ≡ r
   IsWalk k Has s (q ∷ qs) r = (leads edges k s q ≡ true) × Has q × IsWalk k Has q qs r
 
-  abbrev pub Reaches : ℕ → (ℕ → Type 0) → ℕ → ℕ → Type 0
-  Reaches k Has s r = (qs : List ℕ) × IsWalk k Has s qs r
+  abbrev pub ReachesInLevel : ℕ → (ℕ → Type 0) → ℕ → ℕ → Type 0
+  ReachesInLevel k Has s r = (qs : List ℕ) × IsWalk k Has s qs r
 
   -- r stands in the component of s at the level k: at the level 1 with all statements that lead to it and to which it
   -- leads, at each further level with those of its component before that still do
   abbrev pub IsWith : ℕ → ℕ → ℕ → Type 0
   IsWith zero s r = ⊤
-  IsWith (suc k) s r = Reaches (suc k) (IsWith k s) s r × Reaches (suc k) (IsWith k s) r s
+  IsWith (suc k) s r = ReachesInLevel (suc k) (IsWith k s) s r × ReachesInLevel (suc k) (IsWith k s) r s
 
 module _ (n : Nest) (edges : List Edge) (holds : List Hold) where
   -- its component at the level k is itself, no flow or output dependence on itself is at work there, and no hold of it

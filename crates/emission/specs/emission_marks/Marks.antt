@@ -5,9 +5,9 @@ use Rattle.std.specs.List.{flat_map}
 use Rattle.tree.specs.Plain.{Expression, Number, Statement, Assignment, Where, If, Do, Label, GoTo, Stop, Read}
 use Rattle.tree.specs.Plain.{Print, Allocate, Deallocate, Arms, no_arms, arm, Block, no_statements, statement}
 use Rattle.tree.specs.declared.stmts.Mark.{Mark}
-use Rattle.array_form.specs.forms.Loops.{names_of}
+use Rattle.array_form.specs.forms.Loops.{form_names_of}
 use Rattle.array_form.specs.forms.Statements.{and_all, array_assignment, guarded_form, loops_assigned, loops_from}
-use Rattle.array_form.specs.forms.Statements.{stand_in_guard, tests_of}
+use Rattle.array_form.specs.forms.Statements.{stand_in_guard, form_tests_of}
 use Rattle.nest.specs.Plain.{Loop, Nest}
 use Rattle.nest.specs.Bodies.{statement_number}
 use Rattle.array_form.specs.holds.Surroundings.{surroundings_of}
@@ -100,9 +100,9 @@ abbrev pub turning_of : Loop → Round
 turning_of l = Turning l.variable (Number (pos 1)) l.last (Number (pos 1))
 
 -- its guard, where it has one
-abbrev pub under : Option Expression → List Round
-under None = []
-under (Some e) = Under e ∷ []
+abbrev pub guard_round : Option Expression → List Round
+guard_round None = []
+guard_round (Some e) = Under e ∷ []
 
 -- the condition that the trips are at least 1, where they aren't known to be
 abbrev pub conditions_of : List Expression → List Round
@@ -117,7 +117,8 @@ module _ (n : Nest) where
   -- what stands round it in array form, over its loops from the level k on
   abbrev pub outside_form : ℕ → ℕ → List Round
   outside_form s k =
-      let a = surroundings_of n (loops_at n s) in round_at s k ++ conditions_of (tests_of (names_of a) (loops_from a k))
+      let a = surroundings_of n (loops_at n s) in round_at s k
+      ++ conditions_of (form_tests_of (form_names_of a) (loops_from a k))
 
   -- a WHERE with its guard
   abbrev pub masked_at : ℕ → ℕ → Marked
@@ -136,7 +137,7 @@ module _ (n : Nest) where
       let a = surroundings_of n (loops_at n s) in
       let x = (standing_at n s).statement in
       record {
-        round = outside_form s k ++ under x.guard;
+        round = outside_form s k ++ guard_round x.guard;
         mark = mark_of n s k;
         statement = array_assignment a k x.line (Some (mark_of n s k)) x.left x.right;
       }
@@ -151,7 +152,7 @@ module _ (n : Nest) where
   -- as it is listed, in all its loops
   abbrev pub kept_at : ℕ → Marked
   kept_at s = record {
-    round = round_at s (length (loops_at n s) + 1) ++ under (standing_at n s).statement.guard;
+    round = round_at s (length (loops_at n s) + 1) ++ guard_round (standing_at n s).statement.guard;
     mark = mark_of n s (length (loops_at n s) + 1);
     statement = kept_assignment n s;
   }

@@ -19,17 +19,20 @@ use Rattle.nest_order.specs.shapes.Shapes.{IsPlain}
 use Rattle.nest.specs.Blocks.{statement_of_part}
 use Rattle.nest.specs.Bodies.{nest_statements}
 use Rattle.nest.specs.Plain.{Nest}
+use Rattle.tree.specs.Widths.{bits_of}
+use Rattle.tree.specs.declared.width.Width.{Width}
 
 -- Let a nest of loops and statements alone, with subscripts as array forms have them, stand in a setting with its
 -- facts, and let made arrays be as large as guarded statements ask. Where its sequential run goes on, what is emitted
 -- for it by its dependence graph and all its holds goes on as well with arrays as values, and leaves the same store but
 -- for the loop variables
-abbrev pub EmissionKeepsMeaning : Type 0
-EmissionKeepsMeaning = (n : Nest) (g : Graph) (holds : List Hold) (ps : Pieces) (w : Setting) (s : State)
-    → IsPlain n.body → IsReady n → AreRegular n → HasFacts 31 (run_nest n) w → HasFormFacts n w → HaveGuardedNames n w
+abbrev pub EmissionKeepsMeaning : (width : Width) → Type 0
+EmissionKeepsMeaning width = (n : Nest) (g : Graph) (holds : List Hold) (ps : Pieces) (w : Setting) (s : State)
+    → IsPlain n.body → IsReady n → AreRegular n → HasFacts (bits_of width) (run_nest n) w → HasFormFacts n w
+    → HaveGuardedNames n w
     → IsGraphOf n g → AreAllHolds n holds
     → AreEmitted n g.edges holds 1 (range_with_len 0 (length (nest_statements n))) ps
-    → HoldsNest 31 (run_nest n) w s.store
-    → (does (sequential 31) None (statement_of_part n.line n.body) s).way ≡ Going
-    → GoesOnNear (run_nest n) (does (sequential 31) None (statement_of_part n.line n.body) s)
-    (does_all (dialect 31 true) None (block_of_pieces n 1 ps) s)
+    → HoldsNest (bits_of width) (run_nest n) w s.store
+    → (does (sequential (bits_of width)) None (statement_of_part n.line n.body) s).way ≡ Going
+    → GoesOnNear (run_nest n) (does (sequential (bits_of width)) None (statement_of_part n.line n.body) s)
+    (does_all (dialect (bits_of width) true) None (block_of_pieces n 1 ps) s)

@@ -2,8 +2,8 @@
 -- (Allen and Kennedy, "Optimizing Compilers for Modern Architectures", section 2.4; Tarjan, "Depth-first search and
 -- linear graph algorithms", 1972).
 use Rattle.std.specs.Prelude.{◌↔◌, ◌<◌, ℕ, List, length, slice_index}
-use Rattle.components.specs.Emission.{statements_of}
-use Rattle.components.specs.Lists.{In}
+use Rattle.components.specs.Emission.{statements_of_classes}
+use Rattle.components.specs.Lists.{IsMember}
 use Rattle.components.specs.Orders.{IsOrder}
 use Rattle.nest_order.specs.orders.Emission.{Leap, Components}
 use Rattle.nest_order.specs.orders.Lists.{Distinct}
@@ -14,7 +14,7 @@ use Rattle.nest_order.specs.orders.Nests.{Edge}
 abbrev pub ArePairsOf : List Edge → ℕ → List ℕ → List (ℕ × ℕ) → Type 0
 ArePairsOf edges d part pairs =
     (i j : ℕ)
-    → In (i, j) pairs
+    → IsMember (i, j) pairs
     ↔ ((i < length part) × (j < length part) × Leap edges d (slice_index part i) (slice_index part j))
 
 -- the components of these pairs, in topological order, are classes as recursive emission asks for
@@ -22,4 +22,4 @@ abbrev pub OrderIsComponents : Type 0
 OrderIsComponents =
     (edges : List Edge) (d : ℕ) (part : List ℕ) (pairs : List (ℕ × ℕ)) (order : List (List ℕ))
     → Distinct part → ArePairsOf edges d part pairs → IsOrder (length part) pairs order
-    → Components edges d part (statements_of part order)
+    → Components edges d part (statements_of_classes part order)

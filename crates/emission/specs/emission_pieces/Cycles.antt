@@ -16,14 +16,14 @@ use Rattle.emission.specs.emission_pieces.Pieces.{Piece, Kept, Formed, Turning, 
 -- ---- the statements of a loop
 
 abbrev mutual
-  pub stands_in : ℕ → Piece → Bool
-  stands_in s (Kept r) = r == s
-  stands_in s (Formed r) = r == s
-  stands_in s (Turning l ps) = stands_among s ps
+  pub stands_in_piece : ℕ → Piece → Bool
+  stands_in_piece s (Kept r) = r == s
+  stands_in_piece s (Formed r) = r == s
+  stands_in_piece s (Turning l ps) = stands_among s ps
 
   pub stands_among : ℕ → Pieces → Bool
   stands_among s no_pieces = false
-  stands_among s (piece p ps) = stands_in s p || stands_among s ps
+  stands_among s (piece p ps) = stands_in_piece s p || stands_among s ps
 
 -- those of the first so many that do, in the order of the text
 abbrev pub statements_among : ℕ → Pieces → List ℕ

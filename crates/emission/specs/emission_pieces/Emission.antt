@@ -4,7 +4,7 @@
 use Rattle.std.specs.Prelude.{◌≡◌, ⊤, ℕ, suc, ◌-◌, ◌≤◌, ◌<◌, Some, true, false, List, [], ◌∷◌, length, slice_get}
 use Rattle.std.specs.List.{range_with_len}
 use Rattle.tree.specs.Plain.{Block}
-use Rattle.components.specs.Lists.{In}
+use Rattle.components.specs.Lists.{IsMember}
 use Rattle.dependence_graph.specs.declared.graphs.Edge.{Edge}
 use Rattle.dependence_graph.specs.declared.graphs.Graph.{Graph}
 use Rattle.dependence_graph.specs.declared.graphs.Hold.{Hold}
@@ -12,14 +12,13 @@ use Rattle.nest.specs.Bodies.{nest_statements}
 use Rattle.nest.specs.Plain.{Loop, Nest}
 use Rattle.emission.specs.emission_pieces.Levels.{AreComponents, may_be_formed}
 use Rattle.emission.specs.emission_pieces.Nests.{loops_at}
-use Rattle.emission.specs.emission_pieces.Pieces.{Piece, Kept, Formed, Turning, Pieces, no_pieces, piece}
-use Rattle.emission.specs.emission_pieces.Pieces.{translation}
+use Rattle.emission.specs.emission_pieces.Pieces.{Piece, Kept, Formed, Turning, Pieces, no_pieces, piece, translation}
 
 module _ (n : Nest) (edges : List Edge) (holds : List Hold) where
   -- the loop of this level round a statement of the class
   pub record IsLoopOf (k : ℕ) (c : List ℕ) (l : Loop) : Type 0 where
     pub statement : ℕ
-    pub among : In statement c
+    pub among : IsMember statement c
     pub loop : slice_get (loops_at n statement) (k - 1) ≡ Some l
 
   -- it isn't one statement that may stand in array form

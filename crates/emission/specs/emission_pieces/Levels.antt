@@ -4,8 +4,8 @@
 use Rattle.std.specs.Prelude.{◌≡◌, ◌↔◌, ◌<◌, ℕ, ◌==◌, nat_le, Bool, true, false, not, ◌&&◌, ◌||◌, List, length}
 use Rattle.std.specs.Prelude.{slice_index}
 use Rattle.std.specs.List.{list_any}
-use Rattle.components.specs.Emission.{statements_of}
-use Rattle.components.specs.Lists.{In}
+use Rattle.components.specs.Emission.{statements_of_classes}
+use Rattle.components.specs.Lists.{IsMember}
 use Rattle.components.specs.Orders.{IsOrder}
 use Rattle.dependence_graph.specs.declared.graphs.Dep.{Dep}
 use Rattle.dependence_graph.specs.declared.graphs.Dep.TheVariants.{Flow, Anti, Output}
@@ -30,7 +30,7 @@ leads edges k s r = list_any (joins k s r) edges
 abbrev pub ArePairsAt : List Edge → ℕ → List ℕ → List (ℕ × ℕ) → Type 0
 ArePairsAt edges k part pairs =
     (i j : ℕ)
-    → In (i, j) pairs
+    → IsMember (i, j) pairs
     ↔ ((i < length part) × (j < length part) × (leads edges k (slice_index part i) (slice_index part j) ≡ true))
 
 -- the components of the part by such edges, in topological order; of several that may come next the one with the least
@@ -40,7 +40,7 @@ pub record AreComponents (edges : List Edge) (k : ℕ) (part : List ℕ) (classe
   pub paired : ArePairsAt edges k part pairs
   pub places : List (List ℕ)
   pub order : IsOrder (length part) pairs places
-  pub statements : classes ≡ statements_of part places
+  pub statements : classes ≡ statements_of_classes part places
 
 -- ---- a statement by itself
 

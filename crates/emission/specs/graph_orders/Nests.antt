@@ -29,11 +29,11 @@ module _ (n : Nest) where
   -- ---- the values of linear expressions
 
   -- without forms and turns
-  abbrev pub bare_nest : runs.Nest
+  abbrev pub bare_nest : runs.RunNest
   bare_nest = nest_of n.body n.symbols (λ s e. None) (λ values l before. 0)
 
   abbrev pub linear_in : ℕ → Expression → Option ((ℕ → ℤ) → List ℕ → ℤ)
   linear_in s e = number_by n.symbols (form_of (runs.variables_round bare_nest s) n.symbols e)
 
-  abbrev pub run_nest : runs.Nest
+  abbrev pub run_nest : runs.RunNest
   run_nest = nest_of n.body n.symbols linear_in turns_in

@@ -4,8 +4,7 @@ use Rattle.tree.specs.Plain.{Block}
 use Rattle.dependence_graph.specs.declared.graphs.Edge.{Edge}
 use Rattle.dependence_graph.specs.declared.graphs.Hold.{Hold}
 use Rattle.emission.specs.emission_pieces.Emission.{AreEmitted, AreEmittedFor, IsEmittedFor, IsLoopOf}
-use Rattle.emission.specs.emission_pieces.Pieces.{Piece, Pieces, block_of_piece, block_of_pieces}
-use Rattle.emission.specs.emission_pieces.Pieces.{turning_statement}
+use Rattle.emission.specs.emission_pieces.Pieces.{Piece, Pieces, block_of_piece, block_of_pieces, turning_statement}
 use Rattle.nest.specs.Plain.{Loop, Nest}
 use Rattle.array_form.specs.Statement.{block_of_one}
 

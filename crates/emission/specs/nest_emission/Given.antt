@@ -1,6 +1,6 @@
 -- What is emitted from: a nest, the edges of its graph, and its holds.
 use Rattle.std.specs.Prelude.{◌≡◌, ◌⊎◌, ℕ, ◌≤◌, ◌<◌, ◌^◌, All, List, [], ◌∷◌, length, map}
-use Rattle.components.specs.Lists.{In, Distinct}
+use Rattle.components.specs.Lists.{IsMember, Distinct}
 use Rattle.dependence_graph.specs.declared.graphs.Edge.{Edge}
 use Rattle.dependence_graph.specs.declared.graphs.Graph.{Graph}
 use Rattle.dependence_graph.specs.declared.graphs.Hold.{Hold}
@@ -14,9 +14,9 @@ use Rattle.nest.specs.View.{nest_of}
 use Rattle.array_form.specs.holds.Surroundings.{known_trip}
 use Rattle.nest.specs.statement_loops.Standings.{standing_of}
 use Rattle.subscripts.specs.Shapes.{IsForm}
-use Rattle.emission.specs.declared.nest_emission.source.Source.{Source}
-use Rattle.emission.specs.declared.nest_emission.source.Way.{Way}
-use Rattle.emission.specs.declared.nest_emission.source.Way.TheVariants.{Kept, Formed, Turning}
+use Rattle.emission.specs.declared.nest_emission.source.ListedNest.{ListedNest}
+use Rattle.emission.specs.declared.nest_emission.source.ClassForm.{ClassForm}
+use Rattle.emission.specs.declared.nest_emission.source.ClassForm.TheVariants.{Kept, Formed, Turning}
 
 -- at most seven loops, whose trips are forms under them
 pub record HasLoopForms (s : Standing) : Type 0 where
@@ -30,10 +30,10 @@ pub record MayBeEmitted (n : Nest) (g : Graph) : Type 0 where
   pub count : g.stmts ≡ length (nest_statements n)
   pub edges : AreEdgesOf n g.edges
 
-abbrev pub nest_in : Source → Nest
+abbrev pub nest_in : ListedNest → Nest
 nest_in s = nest_of s.nest.now
 
-pub record IsSource (s : Source) : Type 0 where
+pub record IsListedNest (s : ListedNest) : Type 0 where
   pub all : map standing_of s.statements.now ≡ nest_statements (nest_in s)
   pub symbols : length (nest_in s).symbols < 2 ^ 16
   pub forms : All HasLoopForms (nest_statements (nest_in s))
@@ -48,7 +48,7 @@ AreInside n part = All (λ s. s < length (nest_statements n)) part
 
 -- one of them stands in a loop of this level
 abbrev pub HasLoop : Nest → ℕ → List ℕ → Type 0
-HasLoop n k c = (s : ℕ) × In s c × (k ≤ length (loops_at n s))
+HasLoop n k c = (s : ℕ) × IsMember s c × (k ≤ length (loops_at n s))
 
 -- they are one statement, or one of them stands in a loop of this level
 pub record IsClass (n : Nest) (k : ℕ) (c : List ℕ) : Type 0 where
@@ -57,7 +57,7 @@ pub record IsClass (n : Nest) (k : ℕ) (c : List ℕ) : Type 0 where
   pub loop : ((s : ℕ) × (c ≡ s ∷ [])) ⊎ HasLoop n k c
 
 module _ (n : Nest) (edges : List Edge) (holds : List Hold) where
-  abbrev pub IsWay : ℕ → List ℕ → Way → Type 0
-  IsWay k c (Kept s) = IsEmittedFor n edges holds k c (pieces.Kept s)
-  IsWay k c (Formed s) = IsEmittedFor n edges holds k c (pieces.Formed s)
-  IsWay k c Turning = HasToTurn n edges holds k c × HasLoop n k c
+  abbrev pub IsClassForm : ℕ → List ℕ → ClassForm → Type 0
+  IsClassForm k c (Kept s) = IsEmittedFor n edges holds k c (pieces.Kept s)
+  IsClassForm k c (Formed s) = IsEmittedFor n edges holds k c (pieces.Formed s)
+  IsClassForm k c Turning = HasToTurn n edges holds k c × HasLoop n k c

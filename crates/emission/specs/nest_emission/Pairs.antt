@@ -1,6 +1,6 @@
 -- The pairs that a dependence gives.
 use Rattle.std.specs.Prelude.{◌≡◌, ◌↔◌, ◌⊎◌, ◌<◌, ℕ, true, List, length, slice_index}
-use Rattle.components.specs.Lists.{In}
+use Rattle.components.specs.Lists.{IsMember}
 use Rattle.dependence_graph.specs.declared.graphs.Edge.{Edge}
 use Rattle.emission.specs.emission_pieces.Levels.{joins}
 
@@ -8,6 +8,6 @@ use Rattle.emission.specs.emission_pieces.Levels.{joins}
 abbrev pub AddsPairOf : ℕ → List ℕ → Edge → List (ℕ × ℕ) → List (ℕ × ℕ) → Type 0
 AddsPairOf k part e old new =
     (i j : ℕ)
-    → In (i, j) new
-    ↔ (In (i, j) old
+    → IsMember (i, j) new
+    ↔ (IsMember (i, j) old
     ⊎ ((i < length part) × (j < length part) × (joins k (slice_index part i) (slice_index part j) e ≡ true)))

@@ -11,10 +11,10 @@ ghost use Rattle.nest.specs.Bodies.{nest_statements};
 ghost use Rattle.nest.specs.View.{loop_of};
 ghost use Rattle.array_form.specs.Statement.{block_of_one, under_condition};
 ghost use Rattle.emission.specs.nest_emission.Blocks.{IsBlockFor, IsBlockInLoop, IsBlockOfPart};
-ghost use Rattle.emission.specs.nest_emission.Given.{AreInside, HasLoop, IsClass, IsSource, nest_in};
+ghost use Rattle.emission.specs.nest_emission.Given.{AreInside, HasLoop, IsClass, IsListedNest, nest_in};
 
 use crate::nest_emission::classes::classes_at;
-use crate::nest_emission::source::{Source, Way};
+use crate::nest_emission::source::{ClassForm, ListedNest};
 use array_form::holds::surroundings_of;
 use array_form::statement_form;
 use nest::{Loop, copy_ref};
@@ -60,10 +60,10 @@ pub fn append(stmts: &mut Vec<Stmt>, more: Block) -> Result<(), Memory>
     Ok(())
 }
 
-impl Source<'_> {
+impl ListedNest<'_> {
     // A statement as it is, under its guard.
     fn kept_block(&self, number: usize) -> Result<Block, Memory>
-        requires source { IsSource self.now }
+        requires source { IsListedNest self.now }
         requires number { number < length (nest_statements (nest_in self.now)) }
         ensures { IfOk result (λ b. block_of b ≡ block_of_one (kept_statement (nest_in self.now) number)) }
     {
@@ -83,7 +83,7 @@ impl Source<'_> {
 
     // A statement with its loops from this level on in array form.
     fn formed_block(&self, level: usize, number: usize) -> Result<Block, Memory>
-        requires source { IsSource self.now }
+        requires source { IsListedNest self.now }
         requires number { number < length (nest_statements (nest_in self.now)) }
         requires from_one { 1 ≤ level }
         requires level { level ≤ length (loops_at (nest_in self.now) number) }
@@ -115,7 +115,7 @@ impl Source<'_> {
     // What is emitted for a class at this level in its loop.
     #[cycle(emission)]
     fn turning_block(&self, level: usize, class: &[usize]) -> Result<Block, Memory>
-        requires source { IsSource self.now }
+        requires source { IsListedNest self.now }
         requires from_one { 1 ≤ level }
         requires class { IsClass (nest_in self.now) level class.now }
         requires loop_there { HasLoop (nest_in self.now) level class.now }
@@ -130,23 +130,23 @@ impl Source<'_> {
     // What is emitted for a class at this level.
     #[cycle(emission)]
     fn class_block(&self, level: usize, class: &[usize]) -> Result<Block, Memory>
-        requires source { IsSource self.now }
+        requires source { IsListedNest self.now }
         requires from_one { 1 ≤ level }
         requires class { IsClass (nest_in self.now) level class.now }
         ensures { IfOk result (λ b. IsBlockFor (nest_in self.now) self.now.edges.now self.now.holds.now level class.now
             (block_of b)) }
     {
         match self.way(level, class) {
-            Way::Kept(number) => self.kept_block(number),
-            Way::Formed(number) => self.formed_block(level, number),
-            Way::Turning => self.turning_block(level, class),
+            ClassForm::Kept(number) => self.kept_block(number),
+            ClassForm::Formed(number) => self.formed_block(level, number),
+            ClassForm::Turning => self.turning_block(level, class),
         }
     }
 
     /// What is emitted for a part of the nest at this level.
     #[cycle(emission)]
     pub fn part_block(&self, level: usize, part: &[usize]) -> Result<Block, Memory>
-        requires source { IsSource self.now }
+        requires source { IsListedNest self.now }
         requires from_one { 1 ≤ level }
         requires level { level ≤ 8 }
         requires once { Distinct part.now }

@@ -1,6 +1,6 @@
 //! The classes of a part of a nest at a level.
 ghost use Rattle.std.specs.Prelude.{◌≡◌, ◌<◌, All, IfOk, length, map, slice_index};
-ghost use Rattle.components.specs.Emission.{statements_of};
+ghost use Rattle.components.specs.Emission.{statements_of_classes};
 ghost use Rattle.components.specs.Lists.{Distinct};
 ghost use Rattle.emission.specs.emission_pieces.Levels.{AreComponents};
 
@@ -28,7 +28,7 @@ fn statements_of(
     order: &[Seq<usize>],
 ) -> Result<Seq<Seq<usize>>, Memory>
     requires { All (λ places. All (λ place. place < length part.now) places) order.now }
-    ensures { IfOk result (λ classes. classes ≡ statements_of part.now order.now) }
+    ensures { IfOk result (λ classes. classes ≡ statements_of_classes part.now order.now) }
 {
     let mut classes = Seq::new(alloc);
     for places in order {

@@ -6,12 +6,12 @@ ghost use Rattle.emission.specs.emission_pieces.Cycles.{AreCyclesOf, cycle_at, i
 ghost use Rattle.nest.specs.View.{nest_of};
 ghost use Rattle.emission.specs.nest_emission.Cycles.{AddCycles, AreCyclesFor, AreCyclesInLoop, AreCyclesOfPart};
 ghost use Rattle.emission.specs.nest_emission.Cycles.{is_member};
-ghost use Rattle.emission.specs.nest_emission.Given.{AreInside, HasLoop, IsClass, IsSource, MayBeEmitted, nest_in};
+ghost use Rattle.emission.specs.nest_emission.Given.{AreInside, HasLoop, IsClass, IsListedNest, MayBeEmitted, nest_in};
 
 use crate::nest_emission::alone::is_anti;
 use crate::nest_emission::classes::classes_at;
 use crate::nest_emission::pairs::is_at_work;
-use crate::nest_emission::source::{Source, Way};
+use crate::nest_emission::source::{ClassForm, ListedNest};
 use crate::nest_emission::translation::numbers_below;
 use dependence_graph::graphs::{Cycle, Edge, Graph, Hold};
 use nest::Nest;
@@ -106,11 +106,11 @@ fn one_class(alloc: Global, class: &[usize]) -> Result<Seq<Seq<usize>>, Memory>
 
 // ---- cycles as loops are opened
 
-impl Source<'_> {
+impl ListedNest<'_> {
     // Of each statement of a class from which a closed walk leads in the loop of this level, the least of the shortest
     // ones.
     fn walks_in(&self, level: usize, class: &[usize]) -> Result<Seq<Seq<usize>>, Memory>
-        requires source { IsSource self.now }
+        requires source { IsListedNest self.now }
         requires inside { AreInside (nest_in self.now) class.now }
         ensures { IfOk result (λ walks. AreCycles (steps_of (is_member class.now) self.now.edges.now level) class.now
             walks) }
@@ -133,7 +133,7 @@ impl Source<'_> {
         class: &[usize],
         cycles: &mut Seq<Cycle>,
     ) -> Result<(), Memory>
-        requires source { IsSource self.now }
+        requires source { IsListedNest self.now }
         requires from_one { 1 ≤ level }
         requires class { IsClass (nest_in self.now) level class.now }
         requires rises { Rises class.now }
@@ -154,7 +154,7 @@ impl Source<'_> {
         class: &[usize],
         cycles: &mut Seq<Cycle>,
     ) -> Result<(), Memory>
-        requires source { IsSource self.now }
+        requires source { IsListedNest self.now }
         requires from_one { 1 ≤ level }
         requires class { IsClass (nest_in self.now) level class.now }
         requires rises { Rises class.now }
@@ -162,9 +162,9 @@ impl Source<'_> {
             class.now) cycles.old cycles.new) }
     {
         match self.way(level, class) {
-            Way::Kept(_) => Ok(()),
-            Way::Formed(_) => Ok(()),
-            Way::Turning => self.add_of_loop(level, class, cycles),
+            ClassForm::Kept(_) => Ok(()),
+            ClassForm::Formed(_) => Ok(()),
+            ClassForm::Turning => self.add_of_loop(level, class, cycles),
         }
     }
 
@@ -176,7 +176,7 @@ impl Source<'_> {
         part: &[usize],
         cycles: &mut Seq<Cycle>,
     ) -> Result<(), Memory>
-        requires source { IsSource self.now }
+        requires source { IsListedNest self.now }
         requires from_one { 1 ≤ level }
         requires level { level ≤ 8 }
         requires rises { Rises part.now }
@@ -205,7 +205,7 @@ pub fn cycles(
 {
     let count = graph.stmts;
     let statements = statements_of(alloc, nest)?;
-    let source = Source {
+    let source = ListedNest {
         alloc,
         nest,
         statements: statements.as_slice(),

@@ -6,7 +6,7 @@ ghost use Rattle.emission.specs.emission_pieces.Pieces.{mark_of};
 ghost use Rattle.nest.specs.Bodies.{nest_statements};
 ghost use Rattle.nest.specs.View.{loop_of};
 ghost use Rattle.nest.specs.statement_loops.Standings.{standing_of};
-ghost use Rattle.emission.specs.nest_emission.Given.{AreInside, HasLoop, IsClass, IsSource, IsWay, nest_in};
+ghost use Rattle.emission.specs.nest_emission.Given.{AreInside, HasLoop, IsClass, IsListedNest, IsClassForm, nest_in};
 
 use crate::nest_emission::alone::may_be_formed;
 use dependence_graph::graphs::{Edge, Hold};
@@ -17,7 +17,7 @@ use tree::Mark;
 
 /// A nest with its statements, the edges of its graph and its holds.
 #[derive(Clone, Copy)]
-pub struct Source<'a> {
+pub struct ListedNest<'a> {
     pub alloc: Global,
     pub nest: &'a Nest,
     pub statements: &'a [Standing],
@@ -27,16 +27,16 @@ pub struct Source<'a> {
 
 /// How a class is emitted at a level: its one statement as it is, or in array form, or its statements in their loop.
 #[derive(Clone, Copy)]
-pub enum Way {
+pub enum ClassForm {
     Kept(usize),
     Formed(usize),
     Turning,
 }
 
-impl Source<'_> {
+impl ListedNest<'_> {
     /// The statement with this number, which counts from 0.
     pub fn statement(&self, number: usize) -> &Standing
-        requires source { IsSource self.now }
+        requires source { IsListedNest self.now }
         requires number { number < length (nest_statements (nest_in self.now)) }
         ensures { standing_of result.now ≡ standing_at (nest_in self.now) number }
     {
@@ -45,7 +45,7 @@ impl Source<'_> {
 
     /// The place of a statement at a level in the listing.
     pub fn mark(&self, number: usize, level: usize) -> Mark
-        requires source { IsSource self.now }
+        requires source { IsListedNest self.now }
         requires number { number < length (nest_statements (nest_in self.now)) }
         requires level { level ≤ 8 }
         ensures { result ≡ mark_of (nest_in self.now) number level }
@@ -58,26 +58,26 @@ impl Source<'_> {
     }
 
     /// How the class is emitted at this level.
-    pub fn way(&self, level: usize, class: &[usize]) -> Way
-        requires source { IsSource self.now }
+    pub fn way(&self, level: usize, class: &[usize]) -> ClassForm
+        requires source { IsListedNest self.now }
         requires class { IsClass (nest_in self.now) level class.now }
-        ensures { IsWay (nest_in self.now) self.now.edges.now self.now.holds.now level class.now result }
+        ensures { IsClassForm (nest_in self.now) self.now.edges.now self.now.holds.now level class.now result }
     {
         let [number] = class else {
-            return Way::Turning;
+            return ClassForm::Turning;
         };
         if self.statement(*number).loops.len() < level {
-            return Way::Kept(*number);
+            return ClassForm::Kept(*number);
         }
         if may_be_formed(self.edges, self.holds, level, *number) {
-            return Way::Formed(*number);
+            return ClassForm::Formed(*number);
         }
-        Way::Turning
+        ClassForm::Turning
     }
 
     /// The loop of this level round the class.
     pub fn loop_round(&self, level: usize, class: &[usize]) -> &Loop
-        requires source { IsSource self.now }
+        requires source { IsListedNest self.now }
         requires inside { AreInside (nest_in self.now) class.now }
         requires level { 1 ≤ level }
         requires loop_there { HasLoop (nest_in self.now) level class.now }

@@ -9,7 +9,7 @@ ghost use Rattle.emission.specs.nest_emission.Given.{MayBeEmitted};
 ghost use Rattle.emission.specs.nest_emission.Translations.{allocation, deallocation, translation_of};
 
 use crate::nest_emission::blocks::append;
-use crate::nest_emission::source::Source;
+use crate::nest_emission::source::ListedNest;
 use dependence_graph::graphs::{Graph, Hold};
 use nest::statement_loops::statements_of;
 use nest::{Made, Nest, copy_exprs};
@@ -110,7 +110,7 @@ pub fn emit(alloc: Global, nest: &Nest, graph: &Graph, holds: &Seq<Hold>) -> Res
 {
     let count = graph.stmts;
     let statements = statements_of(alloc, nest)?;
-    let source = Source {
+    let source = ListedNest {
         alloc,
         nest,
         statements: statements.as_slice(),

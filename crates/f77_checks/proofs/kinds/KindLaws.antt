@@ -21,7 +21,7 @@ use Rattle.tree.proofs.Equations.{expression_of-list, expression_of-spread, expr
 use Rattle.tree.specs.Functions.{suits_number}
 use Rattle.meaning.specs.Typed77.{number_of_arguments, number_of_subscripts}
 use Rattle.tree.specs.OperatorTable.{is_unary, result_kind_of, operand_kind}
-use Rattle.f77_grammar.specs.program.Uses.{Use}
+use Rattle.f77_grammar.specs.program.Uses.{Use77}
 use Rattle.f77_grammar.specs.program.Kinds.{same_kind, name_has_kind, has_kind, are_arguments, are_subscripts, is_subscript}
 use Rattle.f77_names.proofs.UseLaws.{number_is}
 
@@ -32,13 +32,13 @@ arguments_counted (e ∷ es) = ap (λ n. 1 + n) (arguments_counted es) ∙ one (
     one : (n : ℕ) → 1 + n ≡ suc n
     one n = omega arith
 
-pub kind-int : (us : List Use) (n : ℤ) (k : Kind) → has_kind us (expression_of (exprs.Int n)) k ≡ same_kind Integer k
+pub kind-int : (us : List Use77) (n : ℤ) (k : Kind) → has_kind us (expression_of (exprs.Int n)) k ≡ same_kind Integer k
 kind-int us n k = ap (λ e. has_kind us e k) (expression_of-int n)
 
-pub kind-truth : (us : List Use) (b : Bool) (k : Kind) → has_kind us (expression_of (exprs.Truth b)) k ≡ same_kind Logical k
+pub kind-truth : (us : List Use77) (b : Bool) (k : Kind) → has_kind us (expression_of (exprs.Truth b)) k ≡ same_kind Logical k
 kind-truth us b k = ap (λ e. has_kind us e k) (expression_of-truth b)
 
-pub kind-item : (us : List Use) (r : Ref) (k : Kind) → has_kind us (expression_of (exprs.Item r)) k
+pub kind-item : (us : List Use77) (r : Ref) (k : Kind) → has_kind us (expression_of (exprs.Item r)) k
     ≡ (name_has_kind us (out-Ref r).name (length (out-Ref r).subs) k && are_subscripts us (subscripts (map subscript_of (out-Ref r).subs)))
 kind-item us r k =
     ap (λ e. has_kind us e k) (expression_of-item r)
@@ -46,41 +46,41 @@ kind-item us r k =
     ∙ ap (λ n. name_has_kind us (out-Ref r).name n k && are_subscripts us (subscripts (map subscript_of (out-Ref r).subs)))
     (number_is (map subscript_of (out-Ref r).subs) ∙ length-map (out-Ref r).subs subscript_of)
 
-pub kind-un : (us : List Use) (o : Op) (a : Box Expr Global) (k : Kind)
+pub kind-un : (us : List Use77) (o : Op) (a : Box Expr Global) (k : Kind)
     → has_kind us (expression_of (exprs.Un o a)) k ≡ (is_unary o && same_kind (result_kind_of o) k && has_kind us (expression_of a.value) (operand_kind o))
 kind-un us o a k = ap (λ e. has_kind us e k) (expression_of-un o a)
 
-pub kind-bin : (us : List Use) (o : Op) (a b : Box Expr Global) (k : Kind)
+pub kind-bin : (us : List Use77) (o : Op) (a b : Box Expr Global) (k : Kind)
     → has_kind us (expression_of (exprs.Bin o a b)) k
     ≡ (not (is_unary o) && same_kind (result_kind_of o) k && has_kind us (expression_of a.value) (operand_kind o) && has_kind us (expression_of b.value) (operand_kind o))
 kind-bin us o a b k = ap (λ e. has_kind us e k) (expression_of-bin o a b)
 
-pub kind-call : (us : List Use) (f : Fun) (es : Seq Expr) (k : Kind)
+pub kind-call : (us : List Use77) (f : Fun) (es : Seq Expr) (k : Kind)
     → has_kind us (expression_of (exprs.Call f es)) k ≡ (suits_number f (length es) && same_kind Integer k && are_arguments us (expressions (map expression_of es)))
 kind-call us f es k =
     ap (λ e. has_kind us e k) (expression_of-call f es)
     ∙ ap (λ n. suits_number f n && same_kind Integer k && are_arguments us (expressions (map expression_of es))) (arguments_counted (map expression_of es) ∙ length-map es expression_of)
 
 -- an expression with arrays, which FORTRAN 77 doesn't have, has no kind
-pub kind-list : (us : List Use) (es : Seq Expr) (ls : Seq Turn) (k : Kind) → has_kind us (expression_of (exprs.List es ls)) k ≡ false
+pub kind-list : (us : List Use77) (es : Seq Expr) (ls : Seq Turn) (k : Kind) → has_kind us (expression_of (exprs.List es ls)) k ≡ false
 kind-list us es ls k = ap (λ e. has_kind us e k) (expression_of-list es ls)
 
-pub kind-spread : (us : List Use) (a : Box Expr Global) (d : ℕ) (n : Box Expr Global) (k : Kind) → has_kind us (expression_of (exprs.Spread a d n)) k ≡ false
+pub kind-spread : (us : List Use77) (a : Box Expr Global) (d : ℕ) (n : Box Expr Global) (k : Kind) → has_kind us (expression_of (exprs.Spread a d n)) k ≡ false
 kind-spread us a d n k = ap (λ e. has_kind us e k) (expression_of-spread a d n)
 
-pub kind-transpose : (us : List Use) (a : Box Expr Global) (k : Kind) → has_kind us (expression_of (exprs.Transpose a)) k ≡ false
+pub kind-transpose : (us : List Use77) (a : Box Expr Global) (k : Kind) → has_kind us (expression_of (exprs.Transpose a)) k ≡ false
 kind-transpose us a k = ap (λ e. has_kind us e k) (expression_of-transpose a)
 
-pub kind-reshape : (us : List Use) (a : Box Expr Global) (es : Seq Expr) (k : Kind) → has_kind us (expression_of (exprs.Reshape a es)) k ≡ false
+pub kind-reshape : (us : List Use77) (a : Box Expr Global) (es : Seq Expr) (k : Kind) → has_kind us (expression_of (exprs.Reshape a es)) k ≡ false
 kind-reshape us a es k = ap (λ e. has_kind us e k) (expression_of-reshape a es)
 
-pub kind-reduce : (us : List Use) (r : Red) (a : Box Expr Global) (k : Kind) → has_kind us (expression_of (exprs.Reduce r a)) k ≡ false
+pub kind-reduce : (us : List Use77) (r : Red) (a : Box Expr Global) (k : Kind) → has_kind us (expression_of (exprs.Reduce r a)) k ≡ false
 kind-reduce us r a k = ap (λ e. has_kind us e k) (expression_of-reduce r a)
 
-pub subscript-one : (us : List Use) (e : Expr) → is_subscript us (subscript_of (subs.One e)) ≡ has_kind us (expression_of e) Integer
+pub subscript-one : (us : List Use77) (e : Expr) → is_subscript us (subscript_of (subs.One e)) ≡ has_kind us (expression_of e) Integer
 subscript-one us e = ap (is_subscript us) (subscript_of-one e)
 
-pub subscript-part : (us : List Use) (a b c : Expr) → is_subscript us (subscript_of (subs.Part a b c)) ≡ false
+pub subscript-part : (us : List Use77) (a b c : Expr) → is_subscript us (subscript_of (subs.Part a b c)) ≡ false
 subscript-part us a b c = ap (is_subscript us) (subscript_of-part a b c)
 
 -- ---- a test and then more, as the code goes through them
@@ -104,10 +104,10 @@ then_fails v true y e f = let z : ⊥ = cc in absurd z
 then_fails v false y e f = e
 
 -- a kind by an expression that was told apart, of an operand that was read through its box
-pub same_operand : (us : List Use) (e f : Expr) (k j : Kind) (r : Bool) → r ≡ has_kind us (expression_of e) k → e ≡ f → k ≡ j → r ≡ has_kind us (expression_of f) j
+pub same_operand : (us : List Use77) (e f : Expr) (k j : Kind) (r : Bool) → r ≡ has_kind us (expression_of e) k → e ≡ f → k ≡ j → r ≡ has_kind us (expression_of f) j
 same_operand us e f k j r h i l = h ∙ ap (λ x. has_kind us (expression_of x) k) i ∙ ap (has_kind us (expression_of f)) l
 
-pub told : (us : List Use) (e f : Expr) (k : Kind) (r q : Bool) → r ≡ q → e ≡ f → has_kind us (expression_of f) k ≡ q → r ≡ has_kind us (expression_of e) k
+pub told : (us : List Use77) (e f : Expr) (k : Kind) (r q : Bool) → r ≡ q → e ≡ f → has_kind us (expression_of f) k ≡ q → r ≡ has_kind us (expression_of e) k
 told us e f k r q h i l = h ∙ sym (ap (λ x. has_kind us (expression_of x) k) i ∙ l)
 
 pub ruleset kind_laws = (kind-int, kind-truth, kind-item, kind-un, kind-bin, kind-call, subscript-one)

@@ -15,7 +15,7 @@ use tree::{Expr, Kind, Name, Ref, Seq, Sub};
 impl KindCheck<'_> {
     // An element of an array of this kind.
     fn is_element(&self, name: Name, kind: Kind) -> bool
-        ensures { result ≡ (plain.is_array (known_uses self.now) name
+        ensures { result ≡ (plain.is_array_name (known_uses self.now) name
             && kinds.same_kind (plain.kind_of_name (known_uses self.now) name) kind) }
     {
         self.is_array(name) && same_kind(self.kind(name), kind)

@@ -23,7 +23,7 @@ impl KindCheck<'_> {
 
     /// The name is an array.
     pub fn is_array(&self, name: Name) -> bool
-        ensures { result ≡ plain.is_array (known_uses self.now) name }
+        ensures { result ≡ plain.is_array_name (known_uses self.now) name }
     {
         self.names.is_array(name)
     }

@@ -18,7 +18,7 @@ impl KindCheck<'_> {
     // The statement calls a function that is hidden.
     fn calls_hidden_in(&self, alloc: Global, statement: &Stmt77) -> Result<bool, Memory>
         ensures { IfOk result (λ hidden. hidden ≡ list_any (kinds.calls_hidden (known_uses self.now))
-            (plain.uses_of (statement_of statement.now))) }
+            (plain.uses77_of (statement_of statement.now))) }
     {
         let uses = uses_of(alloc, statement)?;
         Ok(self.call_hidden(uses.as_slice()))
@@ -28,7 +28,7 @@ impl KindCheck<'_> {
     fn is_unsuited(&self, alloc: Global, statement: &Stmt77) -> Result<bool, Memory>
         ensures { IfOk result (λ unsuited. unsuited
             ≡ (not (kinds.suits (known_uses self.now) (statement_of statement.now))
-            || list_any (kinds.calls_hidden (known_uses self.now)) (plain.uses_of (statement_of statement.now)))) }
+            || list_any (kinds.calls_hidden (known_uses self.now)) (plain.uses77_of (statement_of statement.now)))) }
     {
         if !self.suits(statement) {
             return Ok(true);

@@ -4,6 +4,7 @@ use lib.Chars.{codes}
 use Rattle.tree.specs.Plain.{Binary}
 use Rattle.tree.specs.declared.ops.Op.TheVariants.{Add, Eq}
 use Rattle.meaning.specs.Dialect.{fortran77}
+use Rattle.tree.specs.declared.width.Width.TheVariants.{Plain}
 use Rattle.tree.specs.Causes.{refusal_at}
 use Rattle.tree.specs.declared.refusals.Cause.TheVariants as causes
 use Rattle.f77_grammar.specs.Statement77.{Labelled, Assign, Go, Test, If, Else, EndIf, Do, EndDo, Continue, End}
@@ -25,7 +26,7 @@ plain_loop =
     ∷ s 4 (End)
     ∷ []
 
-plain_loop_read : findings fortran77 (with_loop_labels plain_loop) ≡ []
+plain_loop_read : findings (fortran77 Plain) (with_loop_labels plain_loop) ≡ []
 plain_loop_read = refl
 
 --       DO 10 I = 1, 3
@@ -40,7 +41,7 @@ labelled_loop =
     ∷ s 4 (End)
     ∷ []
 
-labelled_loop_read : findings fortran77 (with_loop_labels labelled_loop) ≡ []
+labelled_loop_read : findings (fortran77 Plain) (with_loop_labels labelled_loop) ≡ []
 labelled_loop_read = refl
 
 --       DO I = 1, 3
@@ -57,7 +58,7 @@ labelled_in_plain =
     ∷ s 5 (End)
     ∷ []
 
-labelled_in_plain_read : findings fortran77 (with_loop_labels labelled_in_plain) ≡ []
+labelled_in_plain_read : findings (fortran77 Plain) (with_loop_labels labelled_in_plain) ≡ []
 labelled_in_plain_read = refl
 
 --       DO 10 I = 1, 3
@@ -74,7 +75,7 @@ plain_in_labelled =
     ∷ s 5 (End)
     ∷ []
 
-plain_in_labelled_read : findings fortran77 (with_loop_labels plain_in_labelled) ≡ []
+plain_in_labelled_read : findings (fortran77 Plain) (with_loop_labels plain_in_labelled) ≡ []
 plain_in_labelled_read = refl
 
 --       DO I = 1, 2
@@ -91,7 +92,7 @@ given_label_free =
     ∷ s 5 (End)
     ∷ []
 
-given_label_free_read : findings fortran77 (with_loop_labels given_label_free) ≡ []
+given_label_free_read : findings (fortran77 Plain) (with_loop_labels given_label_free) ≡ []
 given_label_free_read = refl
 
 --       DO 10 I = 1, 3
@@ -106,7 +107,7 @@ two_loops_one_end =
     ∷ s 4 (End)
     ∷ []
 
-two_loops_one_end_refused : least (findings fortran77 (with_loop_labels two_loops_one_end)) ≡ Some (refusal_at causes.Nesting 3)
+two_loops_one_end_refused : least (findings (fortran77 Plain) (with_loop_labels two_loops_one_end)) ≡ Some (refusal_at causes.Nesting 3)
 two_loops_one_end_refused = refl
 
 --       DO 10 I = 1, 3
@@ -121,7 +122,7 @@ outer_label =
     ∷ s 4 (End)
     ∷ []
 
-outer_label_refused : least (findings fortran77 (with_loop_labels outer_label)) ≡ Some (refusal_at causes.Nesting 3)
+outer_label_refused : least (findings (fortran77 Plain) (with_loop_labels outer_label)) ≡ Some (refusal_at causes.Nesting 3)
 outer_label_refused = refl
 
 --       DO 10 I = 1, 3
@@ -138,7 +139,7 @@ outer_label_end =
     ∷ s 5 (End)
     ∷ []
 
-outer_label_end_refused : least (findings fortran77 (with_loop_labels outer_label_end)) ≡ Some (refusal_at causes.Nesting 3)
+outer_label_end_refused : least (findings (fortran77 Plain) (with_loop_labels outer_label_end)) ≡ Some (refusal_at causes.Nesting 3)
 outer_label_end_refused = refl
 
 --       DO 10 I = 1, 3
@@ -153,7 +154,7 @@ unlabelled_end =
     ∷ s 4 (End)
     ∷ []
 
-unlabelled_end_refused : least (findings fortran77 (with_loop_labels unlabelled_end)) ≡ Some (refusal_at causes.Nesting 2)
+unlabelled_end_refused : least (findings (fortran77 Plain) (with_loop_labels unlabelled_end)) ≡ Some (refusal_at causes.Nesting 2)
 unlabelled_end_refused = refl
 
 --       DO I = 1, 3
@@ -170,7 +171,7 @@ unlabelled_end_inside =
     ∷ s 5 (End)
     ∷ []
 
-unlabelled_end_inside_refused : least (findings fortran77 (with_loop_labels unlabelled_end_inside)) ≡ Some (refusal_at causes.Nesting 3)
+unlabelled_end_inside_refused : least (findings (fortran77 Plain) (with_loop_labels unlabelled_end_inside)) ≡ Some (refusal_at causes.Nesting 3)
 unlabelled_end_inside_refused = refl
 
 --       DO I = 1, 3
@@ -187,7 +188,7 @@ end_do_in_if =
     ∷ s 5 (End)
     ∷ []
 
-end_do_in_if_refused : least (findings fortran77 (with_loop_labels end_do_in_if)) ≡ Some (refusal_at causes.Nesting 3)
+end_do_in_if_refused : least (findings (fortran77 Plain) (with_loop_labels end_do_in_if)) ≡ Some (refusal_at causes.Nesting 3)
 end_do_in_if_refused = refl
 
 --       IF (K .EQ. 0) THEN
@@ -204,7 +205,7 @@ end_if_in_loop =
     ∷ s 5 (End)
     ∷ []
 
-end_if_in_loop_refused : least (findings fortran77 (with_loop_labels end_if_in_loop)) ≡ Some (refusal_at causes.Nesting 3)
+end_if_in_loop_refused : least (findings (fortran77 Plain) (with_loop_labels end_if_in_loop)) ≡ Some (refusal_at causes.Nesting 3)
 end_if_in_loop_refused = refl
 
 --       IF (K .EQ. 0) THEN
@@ -223,7 +224,7 @@ else_in_loop =
     ∷ s 6 (End)
     ∷ []
 
-else_in_loop_refused : least (findings fortran77 (with_loop_labels else_in_loop)) ≡ Some (refusal_at causes.Nesting 3)
+else_in_loop_refused : least (findings (fortran77 Plain) (with_loop_labels else_in_loop)) ≡ Some (refusal_at causes.Nesting 3)
 else_in_loop_refused = refl
 
 --       DO 10 I = 1, 3
@@ -242,7 +243,7 @@ nearest_that_may =
     ∷ s 6 (End)
     ∷ []
 
-nearest_that_may_refused : least (findings fortran77 (with_loop_labels nearest_that_may)) ≡ Some (refusal_at causes.Nesting 4)
+nearest_that_may_refused : least (findings (fortran77 Plain) (with_loop_labels nearest_that_may)) ≡ Some (refusal_at causes.Nesting 4)
 nearest_that_may_refused = refl
 
 --       DO I = 1, 3
@@ -257,7 +258,7 @@ open_loop =
     ∷ s 4 (End)
     ∷ []
 
-open_loop_refused : least (findings fortran77 (with_loop_labels open_loop)) ≡ Some (refusal_at causes.Nesting 1)
+open_loop_refused : least (findings (fortran77 Plain) (with_loop_labels open_loop)) ≡ Some (refusal_at causes.Nesting 1)
 open_loop_refused = refl
 
 --       I = 1
@@ -270,7 +271,7 @@ end_do_alone =
     ∷ s 3 (End)
     ∷ []
 
-end_do_alone_refused : least (findings fortran77 (with_loop_labels end_do_alone)) ≡ Some (refusal_at causes.Nesting 2)
+end_do_alone_refused : least (findings (fortran77 Plain) (with_loop_labels end_do_alone)) ≡ Some (refusal_at causes.Nesting 2)
 end_do_alone_refused = refl
 
 --       DO 10 I = 1, 3
@@ -287,7 +288,7 @@ label_behind =
     ∷ s 5 (End)
     ∷ []
 
-label_behind_refused : least (findings fortran77 (with_loop_labels label_behind)) ≡ Some (refusal_at causes.Nesting 3)
+label_behind_refused : least (findings (fortran77 Plain) (with_loop_labels label_behind)) ≡ Some (refusal_at causes.Nesting 3)
 label_behind_refused = refl
 
 --       DO I = 1, 3
@@ -304,7 +305,7 @@ jump_within =
     ∷ s 5 (End)
     ∷ []
 
-jump_within_read : findings fortran77 (with_loop_labels jump_within) ≡ []
+jump_within_read : findings (fortran77 Plain) (with_loop_labels jump_within) ≡ []
 jump_within_read = refl
 
 --       GO TO 10
@@ -319,7 +320,7 @@ jump_in =
     ∷ s 4 (End)
     ∷ []
 
-jump_in_refused : least (findings fortran77 (with_loop_labels jump_in)) ≡ Some (refusal_at causes.Jump 1)
+jump_in_refused : least (findings (fortran77 Plain) (with_loop_labels jump_in)) ≡ Some (refusal_at causes.Jump 1)
 jump_in_refused = refl
 
 --       DO I = 1, 3
@@ -334,5 +335,5 @@ inner_variable =
     ∷ s 4 (End)
     ∷ []
 
-inner_variable_refused : least (findings fortran77 (with_loop_labels inner_variable)) ≡ Some (refusal_at causes.DoVariable 2)
+inner_variable_refused : least (findings (fortran77 Plain) (with_loop_labels inner_variable)) ≡ Some (refusal_at causes.DoVariable 2)
 inner_variable_refused = refl

@@ -4,6 +4,7 @@ use lib.Chars.{codes}
 use Rattle.tree.specs.Plain.{Logic}
 use Rattle.tree.specs.declared.ops.Kind.TheVariants.{Integer}
 use Rattle.meaning.specs.Dialect.{fortran77}
+use Rattle.tree.specs.declared.width.Width.TheVariants.{Plain}
 use Rattle.tree.specs.Causes.{refusal_at}
 use Rattle.tree.specs.declared.refusals.Cause.TheVariants as causes
 use Rattle.f77_grammar.specs.Statement77.{Labelled, Program, ImplicitNone, Declare, Dimension, Constants, Assign, Do, EndDo, End}
@@ -29,7 +30,7 @@ all_typed =
     ∷ s 6 (End)
     ∷ []
 
-all_typed_read : findings fortran77 (with_loop_labels all_typed) ≡ []
+all_typed_read : findings (fortran77 Plain) (with_loop_labels all_typed) ≡ []
 all_typed_read = refl
 
 --       IMPLICIT NONE
@@ -42,7 +43,7 @@ untyped_variable =
     ∷ s 3 (End)
     ∷ []
 
-untyped_variable_refused : least (findings fortran77 (with_loop_labels untyped_variable)) ≡ Some (refusal_at causes.Untyped 2)
+untyped_variable_refused : least (findings (fortran77 Plain) (with_loop_labels untyped_variable)) ≡ Some (refusal_at causes.Untyped 2)
 untyped_variable_refused = refl
 
 --       IMPLICIT NONE
@@ -59,7 +60,7 @@ untyped_constant =
     ∷ s 5 (End)
     ∷ []
 
-untyped_constant_refused : least (findings fortran77 (with_loop_labels untyped_constant)) ≡ Some (refusal_at causes.Untyped 2)
+untyped_constant_refused : least (findings (fortran77 Plain) (with_loop_labels untyped_constant)) ≡ Some (refusal_at causes.Untyped 2)
 untyped_constant_refused = refl
 
 --       IMPLICIT NONE
@@ -72,7 +73,7 @@ untyped_array =
     ∷ s 3 (End)
     ∷ []
 
-untyped_array_refused : least (findings fortran77 (with_loop_labels untyped_array)) ≡ Some (refusal_at causes.Untyped 2)
+untyped_array_refused : least (findings (fortran77 Plain) (with_loop_labels untyped_array)) ≡ Some (refusal_at causes.Untyped 2)
 untyped_array_refused = refl
 
 --       IMPLICIT NONE
@@ -87,7 +88,7 @@ untyped_do_variable =
     ∷ s 4 (End)
     ∷ []
 
-untyped_do_variable_refused : least (findings fortran77 (with_loop_labels untyped_do_variable)) ≡ Some (refusal_at causes.Untyped 2)
+untyped_do_variable_refused : least (findings (fortran77 Plain) (with_loop_labels untyped_do_variable)) ≡ Some (refusal_at causes.Untyped 2)
 untyped_do_variable_refused = refl
 
 --       IMPLICIT NONE
@@ -100,7 +101,7 @@ no_type_is_integer =
     ∷ s 3 (End)
     ∷ []
 
-no_type_is_integer_refused : least (findings fortran77 (with_loop_labels no_type_is_integer)) ≡ Some (refusal_at causes.TypeClash 2)
+no_type_is_integer_refused : least (findings (fortran77 Plain) (with_loop_labels no_type_is_integer)) ≡ Some (refusal_at causes.TypeClash 2)
 no_type_is_integer_refused = refl
 
 --       INTEGER I
@@ -113,7 +114,7 @@ real_name =
     ∷ s 3 (End)
     ∷ []
 
-real_name_refused : least (findings fortran77 (with_loop_labels real_name)) ≡ Some (refusal_at causes.RealName 2)
+real_name_refused : least (findings (fortran77 Plain) (with_loop_labels real_name)) ≡ Some (refusal_at causes.RealName 2)
 real_name_refused = refl
 
 --       IMPLICIT NONE
@@ -126,7 +127,7 @@ twice =
     ∷ s 3 (End)
     ∷ []
 
-twice_refused : least (findings fortran77 (with_loop_labels twice)) ≡ Some (refusal_at causes.Nesting 2)
+twice_refused : least (findings (fortran77 Plain) (with_loop_labels twice)) ≡ Some (refusal_at causes.Nesting 2)
 twice_refused = refl
 
 --       INTEGER I
@@ -139,7 +140,7 @@ late =
     ∷ s 3 (End)
     ∷ []
 
-late_refused : least (findings fortran77 (with_loop_labels late)) ≡ Some (refusal_at causes.Nesting 2)
+late_refused : least (findings (fortran77 Plain) (with_loop_labels late)) ≡ Some (refusal_at causes.Nesting 2)
 late_refused = refl
 
 --       IMPLICIT NONE
@@ -152,7 +153,7 @@ before_program =
     ∷ s 3 (End)
     ∷ []
 
-before_program_refused : least (findings fortran77 (with_loop_labels before_program)) ≡ Some (refusal_at causes.Nesting 2)
+before_program_refused : least (findings (fortran77 Plain) (with_loop_labels before_program)) ≡ Some (refusal_at causes.Nesting 2)
 before_program_refused = refl
 
 --       DO 10 I = 1, 3
@@ -165,5 +166,5 @@ loop_end =
     ∷ s 3 (End)
     ∷ []
 
-loop_end_refused : least (findings fortran77 (with_loop_labels loop_end)) ≡ Some (refusal_at causes.Nesting 2)
+loop_end_refused : least (findings (fortran77 Plain) (with_loop_labels loop_end)) ≡ Some (refusal_at causes.Nesting 2)
 loop_end_refused = refl

@@ -5,6 +5,7 @@ use Rattle.tree.specs.Plain.{Binary, Single, ImpliedDo, items}
 use Rattle.tree.specs.declared.ops.Op.TheVariants.{Add, Eq}
 use Rattle.tree.specs.declared.ops.Kind.TheVariants.{Integer, Logical}
 use Rattle.meaning.specs.Dialect.{fortran77}
+use Rattle.tree.specs.declared.width.Width.TheVariants.{Plain}
 use Rattle.tree.specs.Causes.{refusal_at}
 use Rattle.tree.specs.declared.refusals.Cause.TheVariants as causes
 use Rattle.f77_grammar.specs.Statement77.{Labelled, Declare, Constants, Assign, Go, Test, If, Else, EndIf, Do, Continue, Read, Print, End}
@@ -23,7 +24,7 @@ jump_back =
     ∷ s 3 (End)
     ∷ []
 
-jump_back_refused : least (findings fortran77 jump_back) ≡ Some (refusal_at causes.Jump 2)
+jump_back_refused : least (findings (fortran77 Plain) jump_back) ≡ Some (refusal_at causes.Jump 2)
 jump_back_refused = refl
 
 --       I = 1
@@ -36,7 +37,7 @@ jump_to_itself =
     ∷ s 3 (End)
     ∷ []
 
-jump_to_itself_refused : least (findings fortran77 jump_to_itself) ≡ Some (refusal_at causes.Jump 2)
+jump_to_itself_refused : least (findings (fortran77 Plain) jump_to_itself) ≡ Some (refusal_at causes.Jump 2)
 jump_to_itself_refused = refl
 
 --       GO TO 10
@@ -49,7 +50,7 @@ jump_on =
     ∷ s 3 (End)
     ∷ []
 
-jump_on_read : findings fortran77 jump_on ≡ []
+jump_on_read : findings (fortran77 Plain) jump_on ≡ []
 jump_on_read = refl
 
 --       GO TO 10
@@ -66,7 +67,7 @@ jump_into_loop =
     ∷ s 5 (End)
     ∷ []
 
-jump_into_loop_refused : least (findings fortran77 jump_into_loop) ≡ Some (refusal_at causes.Jump 1)
+jump_into_loop_refused : least (findings (fortran77 Plain) jump_into_loop) ≡ Some (refusal_at causes.Jump 1)
 jump_into_loop_refused = refl
 
 --       GO TO 10
@@ -83,7 +84,7 @@ jump_over_loop =
     ∷ s 5 (End)
     ∷ []
 
-jump_over_loop_read : findings fortran77 jump_over_loop ≡ []
+jump_over_loop_read : findings (fortran77 Plain) jump_over_loop ≡ []
 jump_over_loop_read = refl
 
 --       GO TO 10
@@ -98,7 +99,7 @@ jump_to_do =
     ∷ s 4 (End)
     ∷ []
 
-jump_to_do_read : findings fortran77 jump_to_do ≡ []
+jump_to_do_read : findings (fortran77 Plain) jump_to_do ≡ []
 jump_to_do_read = refl
 
 --       DO 20 I = 1, 3
@@ -115,7 +116,7 @@ jump_out_of_loop =
     ∷ s 5 (End)
     ∷ []
 
-jump_out_of_loop_read : findings fortran77 jump_out_of_loop ≡ []
+jump_out_of_loop_read : findings (fortran77 Plain) jump_out_of_loop ≡ []
 jump_out_of_loop_read = refl
 
 --       DO 20 I = 1, 3
@@ -132,7 +133,7 @@ jump_to_end_of_loop =
     ∷ s 5 (End)
     ∷ []
 
-jump_to_end_of_loop_read : findings fortran77 jump_to_end_of_loop ≡ []
+jump_to_end_of_loop_read : findings (fortran77 Plain) jump_to_end_of_loop ≡ []
 jump_to_end_of_loop_read = refl
 
 --       DO 20 I = 1, 3
@@ -149,7 +150,7 @@ jump_to_shared_end =
     ∷ s 5 (End)
     ∷ []
 
-jump_to_shared_end_refused : least (findings fortran77 jump_to_shared_end) ≡ Some (refusal_at causes.Jump 2)
+jump_to_shared_end_refused : least (findings (fortran77 Plain) jump_to_shared_end) ≡ Some (refusal_at causes.Jump 2)
 jump_to_shared_end_refused = refl
 
 --       GO TO 10
@@ -166,7 +167,7 @@ jump_into_arm =
     ∷ s 5 (End)
     ∷ []
 
-jump_into_arm_refused : least (findings fortran77 jump_into_arm) ≡ Some (refusal_at causes.Jump 1)
+jump_into_arm_refused : least (findings (fortran77 Plain) jump_into_arm) ≡ Some (refusal_at causes.Jump 1)
 jump_into_arm_refused = refl
 
 --       IF (I .EQ. 2) THEN
@@ -185,7 +186,7 @@ jump_into_other_arm =
     ∷ s 6 (End)
     ∷ []
 
-jump_into_other_arm_refused : least (findings fortran77 jump_into_other_arm) ≡ Some (refusal_at causes.Jump 2)
+jump_into_other_arm_refused : least (findings (fortran77 Plain) jump_into_other_arm) ≡ Some (refusal_at causes.Jump 2)
 jump_into_other_arm_refused = refl
 
 --       IF (I .EQ. 2) THEN
@@ -206,7 +207,7 @@ jump_out_of_arm =
     ∷ s 7 (End)
     ∷ []
 
-jump_out_of_arm_read : findings fortran77 jump_out_of_arm ≡ []
+jump_out_of_arm_read : findings (fortran77 Plain) jump_out_of_arm ≡ []
 jump_out_of_arm_read = refl
 
 --       IF (I .EQ. 2) THEN
@@ -233,7 +234,7 @@ jump_over_inner_else =
     ∷ s 10 (End)
     ∷ []
 
-jump_over_inner_else_read : findings fortran77 jump_over_inner_else ≡ []
+jump_over_inner_else_read : findings (fortran77 Plain) jump_over_inner_else ≡ []
 jump_over_inner_else_read = refl
 
 --       IF (I .EQ. 2) THEN
@@ -248,7 +249,7 @@ jump_to_end_if =
     ∷ s 4 (End)
     ∷ []
 
-jump_to_end_if_refused : least (findings fortran77 jump_to_end_if) ≡ Some (refusal_at causes.Jump 2)
+jump_to_end_if_refused : least (findings (fortran77 Plain) jump_to_end_if) ≡ Some (refusal_at causes.Jump 2)
 jump_to_end_if_refused = refl
 
 --       DO 10 I = 1, 3
@@ -263,7 +264,7 @@ do_variable_assigned =
     ∷ s 4 (End)
     ∷ []
 
-do_variable_assigned_refused : least (findings fortran77 do_variable_assigned) ≡ Some (refusal_at causes.DoVariable 2)
+do_variable_assigned_refused : least (findings (fortran77 Plain) do_variable_assigned) ≡ Some (refusal_at causes.DoVariable 2)
 do_variable_assigned_refused = refl
 
 --       DO 10 I = 1, 3
@@ -276,7 +277,7 @@ do_variable_assigned_last =
     ∷ s 3 (End)
     ∷ []
 
-do_variable_assigned_last_refused : least (findings fortran77 do_variable_assigned_last) ≡ Some (refusal_at causes.DoVariable 2)
+do_variable_assigned_last_refused : least (findings (fortran77 Plain) do_variable_assigned_last) ≡ Some (refusal_at causes.DoVariable 2)
 do_variable_assigned_last_refused = refl
 
 --       DO 10 I = 1, 3
@@ -291,7 +292,7 @@ do_variable_assigned_after =
     ∷ s 4 (End)
     ∷ []
 
-do_variable_assigned_after_read : findings fortran77 do_variable_assigned_after ≡ []
+do_variable_assigned_after_read : findings (fortran77 Plain) do_variable_assigned_after ≡ []
 do_variable_assigned_after_read = refl
 
 --       DO 10 I = 1, 3
@@ -304,7 +305,7 @@ do_variable_read =
     ∷ s 3 (End)
     ∷ []
 
-do_variable_read_refused : least (findings fortran77 do_variable_read) ≡ Some (refusal_at causes.DoVariable 2)
+do_variable_read_refused : least (findings (fortran77 Plain) do_variable_read) ≡ Some (refusal_at causes.DoVariable 2)
 do_variable_read_refused = refl
 
 --       DO 10 I = 1, 3
@@ -319,7 +320,7 @@ do_variable_twice =
     ∷ s 4 (End)
     ∷ []
 
-do_variable_twice_refused : least (findings fortran77 do_variable_twice) ≡ Some (refusal_at causes.DoVariable 2)
+do_variable_twice_refused : least (findings (fortran77 Plain) do_variable_twice) ≡ Some (refusal_at causes.DoVariable 2)
 do_variable_twice_refused = refl
 
 --       LOGICAL L
@@ -334,7 +335,7 @@ do_variable_logical =
     ∷ s 4 (End)
     ∷ []
 
-do_variable_logical_refused : least (findings fortran77 do_variable_logical) ≡ Some (refusal_at causes.DoVariable 2)
+do_variable_logical_refused : least (findings (fortran77 Plain) do_variable_logical) ≡ Some (refusal_at causes.DoVariable 2)
 do_variable_logical_refused = refl
 
 --       INTEGER L(3)
@@ -349,7 +350,7 @@ do_variable_array =
     ∷ s 4 (End)
     ∷ []
 
-do_variable_array_refused : least (findings fortran77 do_variable_array) ≡ Some (refusal_at causes.DoVariable 2)
+do_variable_array_refused : least (findings (fortran77 Plain) do_variable_array) ≡ Some (refusal_at causes.DoVariable 2)
 do_variable_array_refused = refl
 
 --       PARAMETER (L = 1)
@@ -364,7 +365,7 @@ do_variable_constant =
     ∷ s 4 (End)
     ∷ []
 
-do_variable_constant_refused : least (findings fortran77 do_variable_constant) ≡ Some (refusal_at causes.DoVariable 2)
+do_variable_constant_refused : least (findings (fortran77 Plain) do_variable_constant) ≡ Some (refusal_at causes.DoVariable 2)
 do_variable_constant_refused = refl
 
 --       DO 10 I = 1, 3
@@ -377,7 +378,7 @@ implied_do_variable_of_loop =
     ∷ s 3 (End)
     ∷ []
 
-implied_do_variable_of_loop_refused : least (findings fortran77 implied_do_variable_of_loop) ≡ Some (refusal_at causes.DoVariable 2)
+implied_do_variable_of_loop_refused : least (findings (fortran77 Plain) implied_do_variable_of_loop) ≡ Some (refusal_at causes.DoVariable 2)
 implied_do_variable_of_loop_refused = refl
 
 --       DO 10 I = 1, 3
@@ -390,7 +391,7 @@ implied_do_variable_free =
     ∷ s 3 (End)
     ∷ []
 
-implied_do_variable_free_read : findings fortran77 implied_do_variable_free ≡ []
+implied_do_variable_free_read : findings (fortran77 Plain) implied_do_variable_free ≡ []
 implied_do_variable_free_read = refl
 
 --       READ *, (I, I = 1, 2)
@@ -401,7 +402,7 @@ implied_do_variable_read_in_list =
     ∷ s 2 (End)
     ∷ []
 
-implied_do_variable_read_in_list_refused : least (findings fortran77 implied_do_variable_read_in_list) ≡ Some (refusal_at causes.DoVariable 1)
+implied_do_variable_read_in_list_refused : least (findings (fortran77 Plain) implied_do_variable_read_in_list) ≡ Some (refusal_at causes.DoVariable 1)
 implied_do_variable_read_in_list_refused = refl
 
 --       PRINT *, (J, I = 1, I)
@@ -412,5 +413,5 @@ implied_do_variable_in_bounds =
     ∷ s 2 (End)
     ∷ []
 
-implied_do_variable_in_bounds_read : findings fortran77 implied_do_variable_in_bounds ≡ []
+implied_do_variable_in_bounds_read : findings (fortran77 Plain) implied_do_variable_in_bounds ≡ []
 implied_do_variable_in_bounds_read = refl

@@ -5,6 +5,7 @@ use Rattle.tree.specs.Plain.{Logic, Binary, Single, items}
 use Rattle.tree.specs.declared.ops.Op.TheVariants.{Add, Lt}
 use Rattle.tree.specs.declared.ops.Kind.TheVariants.{Integer, Logical}
 use Rattle.meaning.specs.Dialect.{fortran77}
+use Rattle.tree.specs.declared.width.Width.TheVariants.{Plain}
 use Rattle.tree.specs.Causes.{refusal_at}
 use Rattle.tree.specs.declared.refusals.Cause.TheVariants as causes
 use Rattle.f77_grammar.specs.Statement77.{Labelled, Declare, Constants, Assign, Test, Do, Continue, Read, Print, End}
@@ -23,7 +24,7 @@ sum_with_logical =
     ∷ s 3 (End)
     ∷ []
 
-sum_with_logical_refused : least (findings fortran77 sum_with_logical) ≡ Some (refusal_at causes.TypeClash 2)
+sum_with_logical_refused : least (findings (fortran77 Plain) sum_with_logical) ≡ Some (refusal_at causes.TypeClash 2)
 sum_with_logical_refused = refl
 
 --       INTEGER L
@@ -36,7 +37,7 @@ sum_with_integer =
     ∷ s 3 (End)
     ∷ []
 
-sum_with_integer_read : findings fortran77 sum_with_integer ≡ []
+sum_with_integer_read : findings (fortran77 Plain) sum_with_integer ≡ []
 sum_with_integer_read = refl
 
 --       I = 1 .LT. 2
@@ -47,7 +48,7 @@ relation_assigned =
     ∷ s 2 (End)
     ∷ []
 
-relation_assigned_refused : least (findings fortran77 relation_assigned) ≡ Some (refusal_at causes.TypeClash 1)
+relation_assigned_refused : least (findings (fortran77 Plain) relation_assigned) ≡ Some (refusal_at causes.TypeClash 1)
 relation_assigned_refused = refl
 
 --       LOGICAL L
@@ -60,7 +61,7 @@ relation_to_logical =
     ∷ s 3 (End)
     ∷ []
 
-relation_to_logical_read : findings fortran77 relation_to_logical ≡ []
+relation_to_logical_read : findings (fortran77 Plain) relation_to_logical ≡ []
 relation_to_logical_read = refl
 
 --       I = MAX(1)
@@ -71,7 +72,7 @@ max_of_one =
     ∷ s 2 (End)
     ∷ []
 
-max_of_one_refused : least (findings fortran77 max_of_one) ≡ Some (refusal_at causes.TypeClash 1)
+max_of_one_refused : least (findings (fortran77 Plain) max_of_one) ≡ Some (refusal_at causes.TypeClash 1)
 max_of_one_refused = refl
 
 --       I = MAX(1, 2)
@@ -82,7 +83,7 @@ max_of_two =
     ∷ s 2 (End)
     ∷ []
 
-max_of_two_read : findings fortran77 max_of_two ≡ []
+max_of_two_read : findings (fortran77 Plain) max_of_two ≡ []
 max_of_two_read = refl
 
 --       I = ABS(1, 2)
@@ -93,7 +94,7 @@ abs_of_two =
     ∷ s 2 (End)
     ∷ []
 
-abs_of_two_refused : least (findings fortran77 abs_of_two) ≡ Some (refusal_at causes.TypeClash 1)
+abs_of_two_refused : least (findings (fortran77 Plain) abs_of_two) ≡ Some (refusal_at causes.TypeClash 1)
 abs_of_two_refused = refl
 
 --       INTEGER K(3)
@@ -106,7 +107,7 @@ logical_subscript =
     ∷ s 3 (End)
     ∷ []
 
-logical_subscript_refused : least (findings fortran77 logical_subscript) ≡ Some (refusal_at causes.TypeClash 2)
+logical_subscript_refused : least (findings (fortran77 Plain) logical_subscript) ≡ Some (refusal_at causes.TypeClash 2)
 logical_subscript_refused = refl
 
 --       IF (1) I = 2
@@ -117,7 +118,7 @@ integer_condition =
     ∷ s 2 (End)
     ∷ []
 
-integer_condition_refused : least (findings fortran77 integer_condition) ≡ Some (refusal_at causes.TypeClash 1)
+integer_condition_refused : least (findings (fortran77 Plain) integer_condition) ≡ Some (refusal_at causes.TypeClash 1)
 integer_condition_refused = refl
 
 --       IF (.TRUE.) I = 2
@@ -128,7 +129,7 @@ logical_condition =
     ∷ s 2 (End)
     ∷ []
 
-logical_condition_read : findings fortran77 logical_condition ≡ []
+logical_condition_read : findings (fortran77 Plain) logical_condition ≡ []
 logical_condition_read = refl
 
 --       INTEGER K(3)
@@ -141,7 +142,7 @@ whole_array_in_sum =
     ∷ s 3 (End)
     ∷ []
 
-whole_array_in_sum_refused : least (findings fortran77 whole_array_in_sum) ≡ Some (refusal_at causes.TypeClash 2)
+whole_array_in_sum_refused : least (findings (fortran77 Plain) whole_array_in_sum) ≡ Some (refusal_at causes.TypeClash 2)
 whole_array_in_sum_refused = refl
 
 --       INTEGER K(3)
@@ -154,7 +155,7 @@ whole_array_assigned =
     ∷ s 3 (End)
     ∷ []
 
-whole_array_assigned_refused : least (findings fortran77 whole_array_assigned) ≡ Some (refusal_at causes.TypeClash 2)
+whole_array_assigned_refused : least (findings (fortran77 Plain) whole_array_assigned) ≡ Some (refusal_at causes.TypeClash 2)
 whole_array_assigned_refused = refl
 
 --       INTEGER K(3)
@@ -167,7 +168,7 @@ whole_array_printed =
     ∷ s 3 (End)
     ∷ []
 
-whole_array_printed_read : findings fortran77 whole_array_printed ≡ []
+whole_array_printed_read : findings (fortran77 Plain) whole_array_printed ≡ []
 whole_array_printed_read = refl
 
 --       MAX(1, 2) = 3
@@ -178,7 +179,7 @@ call_assigned =
     ∷ s 2 (End)
     ∷ []
 
-call_assigned_refused : least (findings fortran77 call_assigned) ≡ Some (refusal_at causes.TypeClash 1)
+call_assigned_refused : least (findings (fortran77 Plain) call_assigned) ≡ Some (refusal_at causes.TypeClash 1)
 call_assigned_refused = refl
 
 --       DO 10 I = 1, .TRUE.
@@ -191,7 +192,7 @@ logical_loop_bound =
     ∷ s 3 (End)
     ∷ []
 
-logical_loop_bound_refused : least (findings fortran77 logical_loop_bound) ≡ Some (refusal_at causes.TypeClash 1)
+logical_loop_bound_refused : least (findings (fortran77 Plain) logical_loop_bound) ≡ Some (refusal_at causes.TypeClash 1)
 logical_loop_bound_refused = refl
 
 --       PARAMETER (N = .TRUE.)
@@ -202,7 +203,7 @@ logical_constant_of_integer_name =
     ∷ s 2 (End)
     ∷ []
 
-logical_constant_of_integer_name_refused : least (findings fortran77 logical_constant_of_integer_name) ≡ Some (refusal_at causes.TypeClash 1)
+logical_constant_of_integer_name_refused : least (findings (fortran77 Plain) logical_constant_of_integer_name) ≡ Some (refusal_at causes.TypeClash 1)
 logical_constant_of_integer_name_refused = refl
 
 --       LOGICAL N
@@ -215,7 +216,7 @@ logical_constant =
     ∷ s 3 (End)
     ∷ []
 
-logical_constant_read : findings fortran77 logical_constant ≡ []
+logical_constant_read : findings (fortran77 Plain) logical_constant ≡ []
 logical_constant_read = refl
 
 --       INTEGER MAX
@@ -228,7 +229,7 @@ list_after_hiding_scalar =
     ∷ s 3 (End)
     ∷ []
 
-list_after_hiding_scalar_refused : least (findings fortran77 list_after_hiding_scalar) ≡ Some (refusal_at causes.TypeClash 2)
+list_after_hiding_scalar_refused : least (findings (fortran77 Plain) list_after_hiding_scalar) ≡ Some (refusal_at causes.TypeClash 2)
 list_after_hiding_scalar_refused = refl
 
 --       INTEGER ABS
@@ -243,7 +244,7 @@ variable_abs_beside_iabs =
     ∷ s 4 (End)
     ∷ []
 
-variable_abs_beside_iabs_refused : least (findings fortran77 variable_abs_beside_iabs) ≡ Some (refusal_at causes.TypeClash 3)
+variable_abs_beside_iabs_refused : least (findings (fortran77 Plain) variable_abs_beside_iabs) ≡ Some (refusal_at causes.TypeClash 3)
 variable_abs_beside_iabs_refused = refl
 
 --       INTEGER ABS
@@ -258,7 +259,7 @@ variable_abs_beside_nothing =
     ∷ s 4 (End)
     ∷ []
 
-variable_abs_beside_nothing_read : findings fortran77 variable_abs_beside_nothing ≡ []
+variable_abs_beside_nothing_read : findings (fortran77 Plain) variable_abs_beside_nothing ≡ []
 variable_abs_beside_nothing_read = refl
 
 --       INTEGER ABS
@@ -273,7 +274,7 @@ constant_abs_beside_iabs =
     ∷ s 4 (End)
     ∷ []
 
-constant_abs_beside_iabs_read : findings fortran77 constant_abs_beside_iabs ≡ []
+constant_abs_beside_iabs_read : findings (fortran77 Plain) constant_abs_beside_iabs ≡ []
 constant_abs_beside_iabs_read = refl
 
 --       READ *, MAX(1, 2)
@@ -284,5 +285,5 @@ read_into_call =
     ∷ s 2 (End)
     ∷ []
 
-read_into_call_refused : least (findings fortran77 read_into_call) ≡ Some (refusal_at causes.TypeClash 1)
+read_into_call_refused : least (findings (fortran77 Plain) read_into_call) ≡ Some (refusal_at causes.TypeClash 1)
 read_into_call_refused = refl

@@ -4,6 +4,7 @@ use lib.Chars.{codes}
 use Rattle.tree.specs.Plain.{Binary}
 use Rattle.tree.specs.declared.ops.Op.TheVariants.{Eq}
 use Rattle.meaning.specs.Dialect.{fortran77}
+use Rattle.tree.specs.declared.width.Width.TheVariants.{Plain}
 use Rattle.tree.specs.Causes.{refusal_at}
 use Rattle.tree.specs.declared.refusals.Cause.TheVariants as causes
 use Rattle.f77_grammar.specs.Statement77.{Labelled, Assign, Go, Test, Do, Continue, End}
@@ -20,7 +21,7 @@ label_zero =
     ∷ s 2 (End)
     ∷ []
 
-label_zero_refused : least (findings fortran77 label_zero) ≡ Some (refusal_at causes.Label 1)
+label_zero_refused : least (findings (fortran77 Plain) label_zero) ≡ Some (refusal_at causes.Label 1)
 label_zero_refused = refl
 
 --     1 CONTINUE
@@ -31,7 +32,7 @@ label_one =
     ∷ s 2 (End)
     ∷ []
 
-label_one_read : findings fortran77 label_one ≡ []
+label_one_read : findings (fortran77 Plain) label_one ≡ []
 label_one_read = refl
 
 --    10 CONTINUE
@@ -46,7 +47,7 @@ label_twice =
     ∷ s 4 (End)
     ∷ []
 
-label_twice_refused : least (findings fortran77 label_twice) ≡ Some (refusal_at causes.Label 3)
+label_twice_refused : least (findings (fortran77 Plain) label_twice) ≡ Some (refusal_at causes.Label 3)
 label_twice_refused = refl
 
 --    10 CONTINUE
@@ -61,7 +62,7 @@ labels_differ =
     ∷ s 4 (End)
     ∷ []
 
-labels_differ_read : findings fortran77 labels_differ ≡ []
+labels_differ_read : findings (fortran77 Plain) labels_differ ≡ []
 labels_differ_read = refl
 
 --       I = 1
@@ -74,7 +75,7 @@ go_to_nowhere =
     ∷ s 3 (End)
     ∷ []
 
-go_to_nowhere_refused : least (findings fortran77 go_to_nowhere) ≡ Some (refusal_at causes.Label 2)
+go_to_nowhere_refused : least (findings (fortran77 Plain) go_to_nowhere) ≡ Some (refusal_at causes.Label 2)
 go_to_nowhere_refused = refl
 
 --       I = 1
@@ -87,7 +88,7 @@ go_to_end =
     ∷ l 10 3 (End)
     ∷ []
 
-go_to_end_read : findings fortran77 go_to_end ≡ []
+go_to_end_read : findings (fortran77 Plain) go_to_end ≡ []
 go_to_end_read = refl
 
 --       IF (I .EQ. 1) GO TO 10
@@ -98,7 +99,7 @@ inner_go_to_nowhere =
     ∷ l 20 2 (End)
     ∷ []
 
-inner_go_to_nowhere_refused : least (findings fortran77 inner_go_to_nowhere) ≡ Some (refusal_at causes.Label 1)
+inner_go_to_nowhere_refused : least (findings (fortran77 Plain) inner_go_to_nowhere) ≡ Some (refusal_at causes.Label 1)
 inner_go_to_nowhere_refused = refl
 
 --       GO TO 0
@@ -109,7 +110,7 @@ go_to_zero =
     ∷ s 2 (End)
     ∷ []
 
-go_to_zero_refused : least (findings fortran77 go_to_zero) ≡ Some (refusal_at causes.Label 1)
+go_to_zero_refused : least (findings (fortran77 Plain) go_to_zero) ≡ Some (refusal_at causes.Label 1)
 go_to_zero_refused = refl
 
 --       DO 10 I = 1, 3
@@ -122,5 +123,5 @@ do_label_nowhere =
     ∷ s 3 (End)
     ∷ []
 
-do_label_nowhere_refused : least (findings fortran77 do_label_nowhere) ≡ Some (refusal_at causes.Label 1)
+do_label_nowhere_refused : least (findings (fortran77 Plain) do_label_nowhere) ≡ Some (refusal_at causes.Label 1)
 do_label_nowhere_refused = refl

@@ -3,7 +3,7 @@ use Rattle.std.proofs.Common.{◌≡◌, ◌⊎◌, inl, inr, ◌<◌, Bool, tru
 use Rattle.std.specs.List.{Contains, AllByRecursion}
 use Rattle.std.proofs.lemmas.List.Elements.{All-from_recursion, All-contains, Contains-append_left, Contains-append_right, Contains-append_cases, Contains-get_or}
 use Rattle.tree.specs.declared.refusals.Refusal.{Refusal}
-use Rattle.f77_grammar.specs.Answered.{comes_before, IsAnswered}
+use Rattle.reading.specs.refusal_order.Answered.{comes_before, IsAnswered}
 use Rattle.f77_grammar.proofs.Answered.{not_before_itself, not_before_sooner}
 
 abbrev pub earlier : Bool → Refusal → Refusal → Refusal

@@ -4,6 +4,7 @@ use Rattle.tree.specs.Plain.{Unary, Binary}
 use Rattle.tree.specs.declared.ops.Op.TheVariants.{Div, Neg}
 use Rattle.tree.specs.declared.ops.Kind.TheVariants.{Integer}
 use Rattle.meaning.specs.Dialect.{fortran77}
+use Rattle.tree.specs.declared.width.Width.TheVariants.{Plain}
 use Rattle.tree.specs.Causes.{refusal_at}
 use Rattle.tree.specs.declared.refusals.Cause.TheVariants as causes
 use Rattle.f77_grammar.specs.Statement77.{Labelled, Declare, Constants, End}
@@ -20,7 +21,7 @@ bounds_turned =
     ∷ s 2 (End)
     ∷ []
 
-bounds_turned_refused : least (findings fortran77 bounds_turned) ≡ Some (refusal_at causes.ReversedBounds 1)
+bounds_turned_refused : least (findings (fortran77 Plain) bounds_turned) ≡ Some (refusal_at causes.ReversedBounds 1)
 bounds_turned_refused = refl
 
 --       INTEGER A(2:2)
@@ -31,7 +32,7 @@ bounds_equal =
     ∷ s 2 (End)
     ∷ []
 
-bounds_equal_read : findings fortran77 bounds_equal ≡ []
+bounds_equal_read : findings (fortran77 Plain) bounds_equal ≡ []
 bounds_equal_read = refl
 
 --       INTEGER A(2048,2048)
@@ -44,7 +45,7 @@ many_elements =
     ∷ s 3 (End)
     ∷ []
 
-many_elements_refused : least (findings fortran77 many_elements) ≡ Some (refusal_at causes.ManyElements 2)
+many_elements_refused : least (findings (fortran77 Plain) many_elements) ≡ Some (refusal_at causes.ManyElements 2)
 many_elements_refused = refl
 
 --       INTEGER A(2048,2048)
@@ -55,7 +56,7 @@ as_many_elements =
     ∷ s 2 (End)
     ∷ []
 
-as_many_elements_read : findings fortran77 as_many_elements ≡ []
+as_many_elements_read : findings (fortran77 Plain) as_many_elements ≡ []
 as_many_elements_read = refl
 
 --       PARAMETER (N = 1 / 0)
@@ -66,7 +67,7 @@ constant_divided_by_zero =
     ∷ s 2 (End)
     ∷ []
 
-constant_divided_by_zero_refused : least (findings fortran77 constant_divided_by_zero) ≡ Some (refusal_at causes.BadConstant 1)
+constant_divided_by_zero_refused : least (findings (fortran77 Plain) constant_divided_by_zero) ≡ Some (refusal_at causes.BadConstant 1)
 constant_divided_by_zero_refused = refl
 
 --       PARAMETER (N = 2147483648)
@@ -77,7 +78,7 @@ constant_past_range =
     ∷ s 2 (End)
     ∷ []
 
-constant_past_range_refused : least (findings fortran77 constant_past_range) ≡ Some (refusal_at causes.BadConstant 1)
+constant_past_range_refused : least (findings (fortran77 Plain) constant_past_range) ≡ Some (refusal_at causes.BadConstant 1)
 constant_past_range_refused = refl
 
 --       PARAMETER (N = 2147483647)
@@ -88,7 +89,7 @@ constant_at_range =
     ∷ s 2 (End)
     ∷ []
 
-constant_at_range_read : findings fortran77 constant_at_range ≡ []
+constant_at_range_read : findings (fortran77 Plain) constant_at_range ≡ []
 constant_at_range_read = refl
 
 --       INTEGER A(2147483648:2147483648)
@@ -99,7 +100,7 @@ bound_past_range =
     ∷ s 2 (End)
     ∷ []
 
-bound_past_range_refused : least (findings fortran77 bound_past_range) ≡ Some (refusal_at causes.BadConstant 1)
+bound_past_range_refused : least (findings (fortran77 Plain) bound_past_range) ≡ Some (refusal_at causes.BadConstant 1)
 bound_past_range_refused = refl
 
 --       INTEGER A(-2147483649:1)
@@ -110,5 +111,5 @@ bound_below_range =
     ∷ s 2 (End)
     ∷ []
 
-bound_below_range_refused : least (findings fortran77 bound_below_range) ≡ Some (refusal_at causes.ManyElements 1)
+bound_below_range_refused : least (findings (fortran77 Plain) bound_below_range) ≡ Some (refusal_at causes.ManyElements 1)
 bound_below_range_refused = refl

@@ -5,6 +5,7 @@ use Rattle.tree.specs.Plain.{Binary, Single, items}
 use Rattle.tree.specs.declared.ops.Op.TheVariants.{Add}
 use Rattle.tree.specs.declared.ops.Kind.TheVariants.{Integer, Logical}
 use Rattle.meaning.specs.Dialect.{fortran77}
+use Rattle.tree.specs.declared.width.Width.TheVariants.{Plain}
 use Rattle.tree.specs.Causes.{refusal_at}
 use Rattle.tree.specs.declared.refusals.Cause.TheVariants as causes
 use Rattle.f77_grammar.specs.Statement77.{Labelled, Program, Declare, Dimension, Constants, Assign, Do, Read, Print, End}
@@ -23,7 +24,7 @@ two_types =
     ∷ s 3 (End)
     ∷ []
 
-two_types_refused : least (findings fortran77 two_types) ≡ Some (refusal_at causes.Declared 2)
+two_types_refused : least (findings (fortran77 Plain) two_types) ≡ Some (refusal_at causes.Declared 2)
 two_types_refused = refl
 
 --       INTEGER I
@@ -36,7 +37,7 @@ two_equal_types =
     ∷ s 3 (End)
     ∷ []
 
-two_equal_types_refused : least (findings fortran77 two_equal_types) ≡ Some (refusal_at causes.Declared 2)
+two_equal_types_refused : least (findings (fortran77 Plain) two_equal_types) ≡ Some (refusal_at causes.Declared 2)
 two_equal_types_refused = refl
 
 --       INTEGER A
@@ -49,7 +50,7 @@ one_type =
     ∷ s 3 (End)
     ∷ []
 
-one_type_read : findings fortran77 one_type ≡ []
+one_type_read : findings (fortran77 Plain) one_type ≡ []
 one_type_read = refl
 
 --       INTEGER A, A
@@ -60,7 +61,7 @@ two_types_in_one =
     ∷ s 2 (End)
     ∷ []
 
-two_types_in_one_refused : least (findings fortran77 two_types_in_one) ≡ Some (refusal_at causes.Declared 1)
+two_types_in_one_refused : least (findings (fortran77 Plain) two_types_in_one) ≡ Some (refusal_at causes.Declared 1)
 two_types_in_one_refused = refl
 
 --       INTEGER A(3)
@@ -73,7 +74,7 @@ two_lists_of_bounds =
     ∷ s 3 (End)
     ∷ []
 
-two_lists_of_bounds_refused : least (findings fortran77 two_lists_of_bounds) ≡ Some (refusal_at causes.Declared 2)
+two_lists_of_bounds_refused : least (findings (fortran77 Plain) two_lists_of_bounds) ≡ Some (refusal_at causes.Declared 2)
 two_lists_of_bounds_refused = refl
 
 --       INTEGER A
@@ -86,7 +87,7 @@ type_and_bounds =
     ∷ s 3 (End)
     ∷ []
 
-type_and_bounds_read : findings fortran77 type_and_bounds ≡ []
+type_and_bounds_read : findings (fortran77 Plain) type_and_bounds ≡ []
 type_and_bounds_read = refl
 
 --       PARAMETER (N = 1)
@@ -99,7 +100,7 @@ two_constants =
     ∷ s 3 (End)
     ∷ []
 
-two_constants_refused : least (findings fortran77 two_constants) ≡ Some (refusal_at causes.Declared 2)
+two_constants_refused : least (findings (fortran77 Plain) two_constants) ≡ Some (refusal_at causes.Declared 2)
 two_constants_refused = refl
 
 --       PARAMETER (N = 1)
@@ -112,7 +113,7 @@ constant_with_bounds =
     ∷ s 3 (End)
     ∷ []
 
-constant_with_bounds_refused : least (findings fortran77 constant_with_bounds) ≡ Some (refusal_at causes.Declared 2)
+constant_with_bounds_refused : least (findings (fortran77 Plain) constant_with_bounds) ≡ Some (refusal_at causes.Declared 2)
 constant_with_bounds_refused = refl
 
 --       PARAMETER (N = 1)
@@ -125,7 +126,7 @@ type_after_constant =
     ∷ s 3 (End)
     ∷ []
 
-type_after_constant_read : findings fortran77 type_after_constant ≡ []
+type_after_constant_read : findings (fortran77 Plain) type_after_constant ≡ []
 type_after_constant_read = refl
 
 --       PROGRAM P
@@ -138,7 +139,7 @@ program_name_used =
     ∷ s 3 (End)
     ∷ []
 
-program_name_used_refused : least (findings fortran77 program_name_used) ≡ Some (refusal_at causes.Declared 2)
+program_name_used_refused : least (findings (fortran77 Plain) program_name_used) ≡ Some (refusal_at causes.Declared 2)
 program_name_used_refused = refl
 
 --       PROGRAM P
@@ -151,7 +152,7 @@ program_name_unused =
     ∷ s 3 (End)
     ∷ []
 
-program_name_unused_read : findings fortran77 program_name_unused ≡ []
+program_name_unused_read : findings (fortran77 Plain) program_name_unused ≡ []
 program_name_unused_read = refl
 
 --       PROGRAM MAX
@@ -164,7 +165,7 @@ program_max_calls_max =
     ∷ s 3 (End)
     ∷ []
 
-program_max_calls_max_refused : least (findings fortran77 program_max_calls_max) ≡ Some (refusal_at causes.Declared 2)
+program_max_calls_max_refused : least (findings (fortran77 Plain) program_max_calls_max) ≡ Some (refusal_at causes.Declared 2)
 program_max_calls_max_refused = refl
 
 --       PROGRAM MAX
@@ -177,7 +178,7 @@ program_max_calls_min =
     ∷ s 3 (End)
     ∷ []
 
-program_max_calls_min_read : findings fortran77 program_max_calls_min ≡ []
+program_max_calls_min_read : findings (fortran77 Plain) program_max_calls_min ≡ []
 program_max_calls_min_read = refl
 
 --       PROGRAM MAX0
@@ -190,7 +191,7 @@ program_max0_beside_max =
     ∷ s 3 (End)
     ∷ []
 
-program_max0_beside_max_read : findings fortran77 program_max0_beside_max ≡ []
+program_max0_beside_max_read : findings (fortran77 Plain) program_max0_beside_max ≡ []
 program_max0_beside_max_read = refl
 
 --       PROGRAM MAX
@@ -203,7 +204,7 @@ program_max_calls_max0 =
     ∷ s 3 (End)
     ∷ []
 
-program_max_calls_max0_refused : least (findings fortran77 program_max_calls_max0) ≡ Some (refusal_at causes.Declared 2)
+program_max_calls_max0_refused : least (findings (fortran77 Plain) program_max_calls_max0) ≡ Some (refusal_at causes.Declared 2)
 program_max_calls_max0_refused = refl
 
 --       PROGRAM MAX0
@@ -216,7 +217,7 @@ program_max0_calls_max0 =
     ∷ s 3 (End)
     ∷ []
 
-program_max0_calls_max0_refused : least (findings fortran77 program_max0_calls_max0) ≡ Some (refusal_at causes.Declared 2)
+program_max0_calls_max0_refused : least (findings (fortran77 Plain) program_max0_calls_max0) ≡ Some (refusal_at causes.Declared 2)
 program_max0_calls_max0_refused = refl
 
 --       PROGRAM MAX0
@@ -229,7 +230,7 @@ program_max0_calls_max =
     ∷ s 3 (End)
     ∷ []
 
-program_max0_calls_max_read : findings fortran77 program_max0_calls_max ≡ []
+program_max0_calls_max_read : findings (fortran77 Plain) program_max0_calls_max ≡ []
 program_max0_calls_max_read = refl
 
 --       INTEGER A(N)
@@ -240,7 +241,7 @@ bound_from_variable =
     ∷ s 2 (End)
     ∷ []
 
-bound_from_variable_refused : least (findings fortran77 bound_from_variable) ≡ Some (refusal_at causes.Declared 1)
+bound_from_variable_refused : least (findings (fortran77 Plain) bound_from_variable) ≡ Some (refusal_at causes.Declared 1)
 bound_from_variable_refused = refl
 
 --       INTEGER A(N)
@@ -253,7 +254,7 @@ bound_from_later_constant =
     ∷ s 3 (End)
     ∷ []
 
-bound_from_later_constant_refused : least (findings fortran77 bound_from_later_constant) ≡ Some (refusal_at causes.Declared 1)
+bound_from_later_constant_refused : least (findings (fortran77 Plain) bound_from_later_constant) ≡ Some (refusal_at causes.Declared 1)
 bound_from_later_constant_refused = refl
 
 --       PARAMETER (N = 2)
@@ -266,7 +267,7 @@ bound_from_constant =
     ∷ s 3 (End)
     ∷ []
 
-bound_from_constant_read : findings fortran77 bound_from_constant ≡ []
+bound_from_constant_read : findings (fortran77 Plain) bound_from_constant ≡ []
 bound_from_constant_read = refl
 
 --       PARAMETER (N = 2, M = N + 1)
@@ -277,7 +278,7 @@ constant_from_one_beside_it =
     ∷ s 2 (End)
     ∷ []
 
-constant_from_one_beside_it_read : findings fortran77 constant_from_one_beside_it ≡ []
+constant_from_one_beside_it_read : findings (fortran77 Plain) constant_from_one_beside_it ≡ []
 constant_from_one_beside_it_read = refl
 
 --       PARAMETER (N = N)
@@ -288,7 +289,7 @@ constant_from_itself =
     ∷ s 2 (End)
     ∷ []
 
-constant_from_itself_refused : least (findings fortran77 constant_from_itself) ≡ Some (refusal_at causes.Declared 1)
+constant_from_itself_refused : least (findings (fortran77 Plain) constant_from_itself) ≡ Some (refusal_at causes.Declared 1)
 constant_from_itself_refused = refl
 
 --       PARAMETER (N = MAX(1, 2))
@@ -299,7 +300,7 @@ call_in_constant =
     ∷ s 2 (End)
     ∷ []
 
-call_in_constant_refused : least (findings fortran77 call_in_constant) ≡ Some (refusal_at causes.Declared 1)
+call_in_constant_refused : least (findings (fortran77 Plain) call_in_constant) ≡ Some (refusal_at causes.Declared 1)
 call_in_constant_refused = refl
 
 --       I = K(1)
@@ -310,7 +311,7 @@ list_after_scalar =
     ∷ s 2 (End)
     ∷ []
 
-list_after_scalar_refused : least (findings fortran77 list_after_scalar) ≡ Some (refusal_at causes.Declared 1)
+list_after_scalar_refused : least (findings (fortran77 Plain) list_after_scalar) ≡ Some (refusal_at causes.Declared 1)
 list_after_scalar_refused = refl
 
 --       INTEGER K(1)
@@ -323,7 +324,7 @@ list_after_array =
     ∷ s 3 (End)
     ∷ []
 
-list_after_array_read : findings fortran77 list_after_array ≡ []
+list_after_array_read : findings (fortran77 Plain) list_after_array ≡ []
 list_after_array_read = refl
 
 --       INTEGER K(1)
@@ -336,7 +337,7 @@ two_subscripts_for_one =
     ∷ s 3 (End)
     ∷ []
 
-two_subscripts_for_one_refused : least (findings fortran77 two_subscripts_for_one) ≡ Some (refusal_at causes.Declared 2)
+two_subscripts_for_one_refused : least (findings (fortran77 Plain) two_subscripts_for_one) ≡ Some (refusal_at causes.Declared 2)
 two_subscripts_for_one_refused = refl
 
 --       PARAMETER (N = 1)
@@ -349,7 +350,7 @@ constant_assigned =
     ∷ s 3 (End)
     ∷ []
 
-constant_assigned_refused : least (findings fortran77 constant_assigned) ≡ Some (refusal_at causes.Declared 2)
+constant_assigned_refused : least (findings (fortran77 Plain) constant_assigned) ≡ Some (refusal_at causes.Declared 2)
 constant_assigned_refused = refl
 
 --       PARAMETER (N = 1)
@@ -362,7 +363,7 @@ constant_read_into =
     ∷ s 3 (End)
     ∷ []
 
-constant_read_into_refused : least (findings fortran77 constant_read_into) ≡ Some (refusal_at causes.Declared 2)
+constant_read_into_refused : least (findings (fortran77 Plain) constant_read_into) ≡ Some (refusal_at causes.Declared 2)
 constant_read_into_refused = refl
 
 --       PARAMETER (N = 1)
@@ -375,7 +376,7 @@ constant_printed =
     ∷ s 3 (End)
     ∷ []
 
-constant_printed_read : findings fortran77 constant_printed ≡ []
+constant_printed_read : findings (fortran77 Plain) constant_printed ≡ []
 constant_printed_read = refl
 
 --       I = 1
@@ -388,7 +389,7 @@ real_name =
     ∷ s 3 (End)
     ∷ []
 
-real_name_refused : least (findings fortran77 real_name) ≡ Some (refusal_at causes.RealName 2)
+real_name_refused : least (findings (fortran77 Plain) real_name) ≡ Some (refusal_at causes.RealName 2)
 real_name_refused = refl
 
 --       I = 1
@@ -401,7 +402,7 @@ name_up_to_n =
     ∷ s 3 (End)
     ∷ []
 
-name_up_to_n_read : findings fortran77 name_up_to_n ≡ []
+name_up_to_n_read : findings (fortran77 Plain) name_up_to_n ≡ []
 name_up_to_n_read = refl
 
 --       I = 1
@@ -414,7 +415,7 @@ name_from_o =
     ∷ s 3 (End)
     ∷ []
 
-name_from_o_refused : least (findings fortran77 name_from_o) ≡ Some (refusal_at causes.RealName 2)
+name_from_o_refused : least (findings (fortran77 Plain) name_from_o) ≡ Some (refusal_at causes.RealName 2)
 name_from_o_refused = refl
 
 --       PARAMETER (A = 1)
@@ -425,7 +426,7 @@ real_constant =
     ∷ s 2 (End)
     ∷ []
 
-real_constant_refused : least (findings fortran77 real_constant) ≡ Some (refusal_at causes.RealName 1)
+real_constant_refused : least (findings (fortran77 Plain) real_constant) ≡ Some (refusal_at causes.RealName 1)
 real_constant_refused = refl
 
 --       PARAMETER (A = 1)
@@ -438,7 +439,7 @@ typed_constant =
     ∷ s 3 (End)
     ∷ []
 
-typed_constant_read : findings fortran77 typed_constant ≡ []
+typed_constant_read : findings (fortran77 Plain) typed_constant ≡ []
 typed_constant_read = refl
 
 --       INTEGER DO10I
@@ -457,7 +458,7 @@ blanks_have_no_meaning =
     ∷ s 6 (End)
     ∷ []
 
-blanks_have_no_meaning_read : findings fortran77 blanks_have_no_meaning ≡ []
+blanks_have_no_meaning_read : findings (fortran77 Plain) blanks_have_no_meaning ≡ []
 blanks_have_no_meaning_read = refl
 
 --       DO10I=1
@@ -474,5 +475,5 @@ blanks_have_no_meaning_undeclared =
     ∷ s 5 (End)
     ∷ []
 
-blanks_have_no_meaning_undeclared_refused : least (findings fortran77 blanks_have_no_meaning_undeclared) ≡ Some (refusal_at causes.RealName 1)
+blanks_have_no_meaning_undeclared_refused : least (findings (fortran77 Plain) blanks_have_no_meaning_undeclared) ≡ Some (refusal_at causes.RealName 1)
 blanks_have_no_meaning_undeclared_refused = refl

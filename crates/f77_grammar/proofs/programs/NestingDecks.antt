@@ -5,6 +5,7 @@ use Rattle.tree.specs.Plain.{Binary, Single, items}
 use Rattle.tree.specs.declared.ops.Op.TheVariants.{Add, Eq}
 use Rattle.tree.specs.declared.ops.Kind.TheVariants.{Integer}
 use Rattle.meaning.specs.Dialect.{fortran77}
+use Rattle.tree.specs.declared.width.Width.TheVariants.{Plain}
 use Rattle.tree.specs.Causes.{refusal_at}
 use Rattle.tree.specs.declared.refusals.Cause.TheVariants as causes
 use Rattle.f77_grammar.specs.Statement77.{Labelled, Program, Declare, Assign, Go, Test, If, ElseIf, Else, EndIf, Do, Continue, Stop, Print, End}
@@ -23,7 +24,7 @@ program_second =
     ∷ s 3 (End)
     ∷ []
 
-program_second_refused : least (findings fortran77 program_second) ≡ Some (refusal_at causes.Nesting 2)
+program_second_refused : least (findings (fortran77 Plain) program_second) ≡ Some (refusal_at causes.Nesting 2)
 program_second_refused = refl
 
 --       PROGRAM P
@@ -36,7 +37,7 @@ program_first =
     ∷ s 3 (End)
     ∷ []
 
-program_first_read : findings fortran77 program_first ≡ []
+program_first_read : findings (fortran77 Plain) program_first ≡ []
 program_first_read = refl
 
 --       I = 1
@@ -49,7 +50,7 @@ declaration_late =
     ∷ s 3 (End)
     ∷ []
 
-declaration_late_refused : least (findings fortran77 declaration_late) ≡ Some (refusal_at causes.Nesting 2)
+declaration_late_refused : least (findings (fortran77 Plain) declaration_late) ≡ Some (refusal_at causes.Nesting 2)
 declaration_late_refused = refl
 
 --       INTEGER J
@@ -62,7 +63,7 @@ declaration_early =
     ∷ s 3 (End)
     ∷ []
 
-declaration_early_read : findings fortran77 declaration_early ≡ []
+declaration_early_read : findings (fortran77 Plain) declaration_early ≡ []
 declaration_early_read = refl
 
 --       I = 1
@@ -77,7 +78,7 @@ declaration_after_early_end =
     ∷ s 4 (End)
     ∷ []
 
-declaration_after_early_end_refused : least (findings fortran77 declaration_after_early_end) ≡ Some (refusal_at causes.Nesting 3)
+declaration_after_early_end_refused : least (findings (fortran77 Plain) declaration_after_early_end) ≡ Some (refusal_at causes.Nesting 3)
 declaration_after_early_end_refused = refl
 
 --       I = 1
@@ -92,7 +93,7 @@ if_left_open =
     ∷ s 4 (End)
     ∷ []
 
-if_left_open_refused : least (findings fortran77 if_left_open) ≡ Some (refusal_at causes.Nesting 2)
+if_left_open_refused : least (findings (fortran77 Plain) if_left_open) ≡ Some (refusal_at causes.Nesting 2)
 if_left_open_refused = refl
 
 --       I = 1
@@ -109,7 +110,7 @@ if_ended =
     ∷ s 5 (End)
     ∷ []
 
-if_ended_read : findings fortran77 if_ended ≡ []
+if_ended_read : findings (fortran77 Plain) if_ended ≡ []
 if_ended_read = refl
 
 --       I = 1
@@ -122,7 +123,7 @@ end_if_without_if =
     ∷ s 3 (End)
     ∷ []
 
-end_if_without_if_refused : least (findings fortran77 end_if_without_if) ≡ Some (refusal_at causes.Nesting 2)
+end_if_without_if_refused : least (findings (fortran77 Plain) end_if_without_if) ≡ Some (refusal_at causes.Nesting 2)
 end_if_without_if_refused = refl
 
 --    10 CONTINUE
@@ -135,7 +136,7 @@ do_label_before =
     ∷ s 3 (End)
     ∷ []
 
-do_label_before_refused : least (findings fortran77 do_label_before) ≡ Some (refusal_at causes.Nesting 2)
+do_label_before_refused : least (findings (fortran77 Plain) do_label_before) ≡ Some (refusal_at causes.Nesting 2)
 do_label_before_refused = refl
 
 --       DO 10 I = 1, 3
@@ -152,7 +153,7 @@ crossed_loops =
     ∷ s 5 (End)
     ∷ []
 
-crossed_loops_refused : least (findings fortran77 crossed_loops) ≡ Some (refusal_at causes.Nesting 3)
+crossed_loops_refused : least (findings (fortran77 Plain) crossed_loops) ≡ Some (refusal_at causes.Nesting 3)
 crossed_loops_refused = refl
 
 --       DO 10 I = 1, 3
@@ -169,7 +170,7 @@ loops_in_each_other =
     ∷ s 5 (End)
     ∷ []
 
-loops_in_each_other_read : findings fortran77 loops_in_each_other ≡ []
+loops_in_each_other_read : findings (fortran77 Plain) loops_in_each_other ≡ []
 loops_in_each_other_read = refl
 
 --       DO 10 I = 1, 3
@@ -184,7 +185,7 @@ loops_with_one_end =
     ∷ s 4 (End)
     ∷ []
 
-loops_with_one_end_read : findings fortran77 loops_with_one_end ≡ []
+loops_with_one_end_read : findings (fortran77 Plain) loops_with_one_end ≡ []
 loops_with_one_end_read = refl
 
 --       IF (I .EQ. 1) THEN
@@ -201,7 +202,7 @@ loop_over_end_if =
     ∷ s 5 (End)
     ∷ []
 
-loop_over_end_if_refused : least (findings fortran77 loop_over_end_if) ≡ Some (refusal_at causes.Nesting 3)
+loop_over_end_if_refused : least (findings (fortran77 Plain) loop_over_end_if) ≡ Some (refusal_at causes.Nesting 3)
 loop_over_end_if_refused = refl
 
 --       DO 10 J = 1, 3
@@ -218,7 +219,7 @@ if_over_loop_end =
     ∷ s 5 (End)
     ∷ []
 
-if_over_loop_end_refused : least (findings fortran77 if_over_loop_end) ≡ Some (refusal_at causes.Nesting 3)
+if_over_loop_end_refused : least (findings (fortran77 Plain) if_over_loop_end) ≡ Some (refusal_at causes.Nesting 3)
 if_over_loop_end_refused = refl
 
 --       DO 10 J = 1, 3
@@ -237,7 +238,7 @@ if_in_loop =
     ∷ s 6 (End)
     ∷ []
 
-if_in_loop_read : findings fortran77 if_in_loop ≡ []
+if_in_loop_read : findings (fortran77 Plain) if_in_loop ≡ []
 if_in_loop_read = refl
 
 --       IF (I .EQ. 1) THEN
@@ -254,7 +255,7 @@ two_else_parts =
     ∷ s 5 (End)
     ∷ []
 
-two_else_parts_refused : least (findings fortran77 two_else_parts) ≡ Some (refusal_at causes.Nesting 3)
+two_else_parts_refused : least (findings (fortran77 Plain) two_else_parts) ≡ Some (refusal_at causes.Nesting 3)
 two_else_parts_refused = refl
 
 --       IF (I .EQ. 1) THEN
@@ -271,7 +272,7 @@ else_if_after_else =
     ∷ s 5 (End)
     ∷ []
 
-else_if_after_else_refused : least (findings fortran77 else_if_after_else) ≡ Some (refusal_at causes.Nesting 3)
+else_if_after_else_refused : least (findings (fortran77 Plain) else_if_after_else) ≡ Some (refusal_at causes.Nesting 3)
 else_if_after_else_refused = refl
 
 --       IF (I .EQ. 1) THEN
@@ -288,7 +289,7 @@ else_if_before_else =
     ∷ s 5 (End)
     ∷ []
 
-else_if_before_else_read : findings fortran77 else_if_before_else ≡ []
+else_if_before_else_read : findings (fortran77 Plain) else_if_before_else ≡ []
 else_if_before_else_read = refl
 
 --       IF (I .EQ. 1) THEN
@@ -309,7 +310,7 @@ else_of_an_inner_if =
     ∷ s 7 (End)
     ∷ []
 
-else_of_an_inner_if_read : findings fortran77 else_of_an_inner_if ≡ []
+else_of_an_inner_if_read : findings (fortran77 Plain) else_of_an_inner_if ≡ []
 else_of_an_inner_if_read = refl
 
 --       IF (I .EQ. 1) THEN
@@ -328,7 +329,7 @@ else_in_a_loop =
     ∷ s 6 (End)
     ∷ []
 
-else_in_a_loop_refused : least (findings fortran77 else_in_a_loop) ≡ Some (refusal_at causes.Nesting 3)
+else_in_a_loop_refused : least (findings (fortran77 Plain) else_in_a_loop) ≡ Some (refusal_at causes.Nesting 3)
 else_in_a_loop_refused = refl
 
 --       ELSE
@@ -339,7 +340,7 @@ else_alone =
     ∷ s 2 (End)
     ∷ []
 
-else_alone_refused : least (findings fortran77 else_alone) ≡ Some (refusal_at causes.Nesting 1)
+else_alone_refused : least (findings (fortran77 Plain) else_alone) ≡ Some (refusal_at causes.Nesting 1)
 else_alone_refused = refl
 
 --       DO 10 J = 1, 3
@@ -354,7 +355,7 @@ loop_ends_on_go_to =
     ∷ s 4 (End)
     ∷ []
 
-loop_ends_on_go_to_refused : least (findings fortran77 loop_ends_on_go_to) ≡ Some (refusal_at causes.Nesting 2)
+loop_ends_on_go_to_refused : least (findings (fortran77 Plain) loop_ends_on_go_to) ≡ Some (refusal_at causes.Nesting 2)
 loop_ends_on_go_to_refused = refl
 
 --       DO 10 J = 1, 3
@@ -369,7 +370,7 @@ loop_ends_on_logical_if =
     ∷ s 4 (End)
     ∷ []
 
-loop_ends_on_logical_if_read : findings fortran77 loop_ends_on_logical_if ≡ []
+loop_ends_on_logical_if_read : findings (fortran77 Plain) loop_ends_on_logical_if ≡ []
 loop_ends_on_logical_if_read = refl
 
 --       DO 10 J = 1, 3
@@ -382,7 +383,7 @@ loop_ends_on_stop =
     ∷ s 3 (End)
     ∷ []
 
-loop_ends_on_stop_refused : least (findings fortran77 loop_ends_on_stop) ≡ Some (refusal_at causes.Nesting 2)
+loop_ends_on_stop_refused : least (findings (fortran77 Plain) loop_ends_on_stop) ≡ Some (refusal_at causes.Nesting 2)
 loop_ends_on_stop_refused = refl
 
 --       DO 10 J = 1, 3
@@ -393,7 +394,7 @@ loop_ends_on_end =
     ∷ l 10 2 (End)
     ∷ []
 
-loop_ends_on_end_refused : least (findings fortran77 loop_ends_on_end) ≡ Some (refusal_at causes.Nesting 2)
+loop_ends_on_end_refused : least (findings (fortran77 Plain) loop_ends_on_end) ≡ Some (refusal_at causes.Nesting 2)
 loop_ends_on_end_refused = refl
 
 --       DO 10 J = 1, 3
@@ -406,7 +407,7 @@ loop_ends_on_print =
     ∷ s 3 (End)
     ∷ []
 
-loop_ends_on_print_read : findings fortran77 loop_ends_on_print ≡ []
+loop_ends_on_print_read : findings (fortran77 Plain) loop_ends_on_print ≡ []
 loop_ends_on_print_read = refl
 
 --       I = 1
@@ -417,7 +418,7 @@ end_missing =
     ∷ s 2 (Print (items (Single (v "I") ∷ [])))
     ∷ []
 
-end_missing_refused : least (findings fortran77 end_missing) ≡ Some (refusal_at causes.NoEnd 2)
+end_missing_refused : least (findings (fortran77 Plain) end_missing) ≡ Some (refusal_at causes.NoEnd 2)
 end_missing_refused = refl
 
 --       I = 1
@@ -430,7 +431,7 @@ end_last =
     ∷ s 3 (End)
     ∷ []
 
-end_last_read : findings fortran77 end_last ≡ []
+end_last_read : findings (fortran77 Plain) end_last ≡ []
 end_last_read = refl
 
 --       END
@@ -441,12 +442,12 @@ end_early =
     ∷ s 2 (Assign (to "I") (n 1))
     ∷ []
 
-end_early_refused : least (findings fortran77 end_early) ≡ Some (refusal_at causes.NoEnd 1)
+end_early_refused : least (findings (fortran77 Plain) end_early) ≡ Some (refusal_at causes.NoEnd 1)
 end_early_refused = refl
 
 abbrev no_statements : List Labelled
 no_statements =
     []
 
-no_statements_refused : least (findings fortran77 no_statements) ≡ Some (refusal_at causes.NoEnd 0)
+no_statements_refused : least (findings (fortran77 Plain) no_statements) ≡ Some (refusal_at causes.NoEnd 0)
 no_statements_refused = refl

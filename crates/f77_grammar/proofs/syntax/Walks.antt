@@ -5,8 +5,8 @@ use Rattle.std.proofs.Math.Seq.{take-suc, drop-cons}
 use Rattle.std.proofs.lemmas.List.{reverse-append, drop_all, length-map, length-reverse, length-take-le, length-drop}
 use Rattle.std.proofs.lemmas.Bool.Decides.{nat_tests}
 use Rattle.f77_grammar.specs.Statement77.{Labelled}
-use Rattle.f77_grammar.specs.program.Text.{Place, places_from}
-use Rattle.f77_grammar.specs.program.Order.{is_nothing}
+use Rattle.f77_grammar.specs.program.Text.{Place77, places_from}
+use Rattle.f77_grammar.specs.program.Order.{is_nothing77}
 use Rattle.f77_grammar.specs.declared.syntax.statements.Labelled.{Labelled as Labelled'}
 use Rattle.f77_grammar.specs.syntax.Views.{labelled_of, text_of}
 use Rattle.f77_grammar.specs.syntax.First.{first_index, index_from}
@@ -43,12 +43,12 @@ all_passed xs i h = ap reverse (take_all i (text_of xs) (text_through xs i h))
 
 -- ---- an index that is looked for
 
-index_at : (test : Place → Bool) (xs : List Labelled') (i : ℕ) (x : Labelled') → i < length xs → x ≡ get_or xs i x
+index_at : (test : Place77 → Bool) (xs : List Labelled') (i : ℕ) (x : Labelled') → i < length xs → x ≡ get_or xs i x
     → index_from test i (places_from (passed (text_of xs) i) (drop i (text_of xs)))
     ≡ index_from test i (place_at (text_of xs) i (labelled_of x) ∷ places_from (labelled_of x ∷ passed (text_of xs) i) (drop (i + 1) (text_of xs)))
 index_at test xs i x h e = ap (λ rest. index_from test i (places_from (passed (text_of xs) i) rest)) (left_at (text_of xs) i (labelled_of x) (text_within xs i h) (text_at xs i x h e))
 
-pub search_goes_on : (test : Place → Bool) (xs : List Labelled') (i : ℕ) (x : Labelled') → i < length xs → x ≡ get_or xs i x
+pub search_goes_on : (test : Place77 → Bool) (xs : List Labelled') (i : ℕ) (x : Labelled') → i < length xs → x ≡ get_or xs i x
     → test (place_at (text_of xs) i (labelled_of x)) ≡ false → IsSearched test (text_of xs) i → IsSearched test (text_of xs) (i + 1)
 search_goes_on test xs i x h e wrong searched =
     searched ∙ index_at test xs i x h e
@@ -56,30 +56,30 @@ search_goes_on test xs i x h e wrong searched =
     ∙ ap (λ j. index_from test j (places_from (labelled_of x ∷ passed (text_of xs) i) (drop (i + 1) (text_of xs)))) (sym (add-one i))
     ∙ ap (λ before. index_from test (i + 1) (places_from before (drop (i + 1) (text_of xs)))) (sym (text_passed xs i x h e))
 
-pub search_stops_at : (test : Place → Bool) (xs : List Labelled') (i : ℕ) (x : Labelled') → i < length xs → x ≡ get_or xs i x
+pub search_stops_at : (test : Place77 → Bool) (xs : List Labelled') (i : ℕ) (x : Labelled') → i < length xs → x ≡ get_or xs i x
     → test (place_at (text_of xs) i (labelled_of x)) ≡ true → IsSearched test (text_of xs) i → Some i ≡ first_index test (text_of xs)
 search_stops_at test xs i x h e wrong searched =
     sym (searched ∙ index_at test xs i x h e
     ∙ ap (λ b. cond b (Some i) (index_from test (suc i) (places_from (labelled_of x ∷ passed (text_of xs) i) (drop (i + 1) (text_of xs))))) wrong)
 
-pub search_ends : (test : Place → Bool) (xs : List Labelled') (i : ℕ) → length xs ≤ i → IsSearched test (text_of xs) i → None ≡ first_index test (text_of xs)
+pub search_ends : (test : Place77 → Bool) (xs : List Labelled') (i : ℕ) → length xs ≤ i → IsSearched test (text_of xs) i → None ≡ first_index test (text_of xs)
 search_ends test xs i h searched =
     sym (searched ∙ ap (λ rest. index_from test i (places_from (passed (text_of xs) i) rest)) (drop_all i (text_of xs) (text_through xs i h)))
 
 -- ---- the first and the last statement
 
-nothing_is : (xs : List Labelled) → is_nothing xs ≡ (length xs == 0)
+nothing_is : (xs : List Labelled) → is_nothing77 xs ≡ (length xs == 0)
 nothing_is [] = refl
 nothing_is (x ∷ xs) = grind (arith, nat_tests)
 
 pub passed_length : (xs : List Labelled') (i : ℕ) → i < length xs → length (passed (text_of xs) i) ≡ i
 passed_length xs i h = length-reverse (take i (text_of xs)) ∙ length-take-le i (text_of xs) (omega (arith, text_within xs i h))
 
-pub first_at : (xs : List Labelled') (i : ℕ) → i < length xs → (i == 0) ≡ is_nothing (passed (text_of xs) i)
+pub first_at : (xs : List Labelled') (i : ℕ) → i < length xs → (i == 0) ≡ is_nothing77 (passed (text_of xs) i)
 first_at xs i h =
     sym (nothing_is (passed (text_of xs) i) ∙ ap (λ k. k == 0) (passed_length xs i h))
 
-pub last_at : (xs : List Labelled') (i : ℕ) → i < length xs → (i + 1 == length xs) ≡ is_nothing (drop (i + 1) (text_of xs))
+pub last_at : (xs : List Labelled') (i : ℕ) → i < length xs → (i + 1 == length xs) ≡ is_nothing77 (drop (i + 1) (text_of xs))
 last_at xs i h =
     let left : length (drop (i + 1) (text_of xs)) ≡ length xs - (i + 1) = length-drop (i + 1) (text_of xs) ∙ ap (λ n. n - (i + 1)) (length-map xs labelled_of) in
     last_of (length xs) i h ∙ sym (nothing_is (drop (i + 1) (text_of xs)) ∙ ap (λ k. k == 0) left)

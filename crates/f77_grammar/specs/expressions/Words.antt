@@ -4,20 +4,20 @@ use Rattle.tree.specs.declared.ops.Op.{Op}
 
 -- `Wide` is a literal above 2^127-1. `Head` is a name with the parenthesis directly behind it. A minus sign is the
 -- operator Sub, wherever it stands. `Constant` is a character constant.
-pub data Word : Type 0 where
-  Number : ℤ → Word
-  Wide : Word
-  Truth : Bool → Word
-  Name : List ℕ → Word
-  Head : List ℕ → Word
-  Operator : Op → Word
-  Open : Word
-  Close : Word
-  Comma : Word
-  Equals : Word
-  Colon : Word
-  Constant : List ℕ → Word
+pub data Word77 : Type 0 where
+  Number : ℤ → Word77
+  Wide : Word77
+  Truth : Bool → Word77
+  Name : List ℕ → Word77
+  Head : List ℕ → Word77
+  Operator : Op → Word77
+  Open : Word77
+  Close : Word77
+  Comma : Word77
+  Equals : Word77
+  Colon : Word77
+  Constant : List ℕ → Word77
 
-abbrev pub is_wide : Word → Bool
-is_wide Wide = true
-is_wide w = false
+abbrev pub is_wide_word : Word77 → Bool
+is_wide_word Wide = true
+is_wide_word w = false

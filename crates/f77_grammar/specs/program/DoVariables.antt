@@ -10,8 +10,8 @@ use Rattle.f77_grammar.specs.Statement77.{Labelled, Statement77, Assign, Do, Rea
 use Rattle.meaning.specs.Names.{is_among}
 use Rattle.f77_grammar.specs.declared.directions.Direction.{Direction}
 use Rattle.f77_grammar.specs.declared.directions.Direction.TheVariants.{Output, Input}
-use Rattle.f77_grammar.specs.program.Text.{Place, action, open_loops}
-use Rattle.f77_grammar.specs.program.Uses.{Use, is_variable, is_array, kind_of_name}
+use Rattle.f77_grammar.specs.program.Text.{Place77, action, open_loops}
+use Rattle.f77_grammar.specs.program.Uses.{Use77, is_variable, is_array_name, kind_of_name}
 use Rattle.f77_grammar.specs.program.Kinds.{same_kind}
 
 abbrev pub loop_variable : Statement77 → List (List ℕ)
@@ -19,7 +19,7 @@ loop_variable (Do label x a b c) = x ∷ []
 loop_variable _ = []
 
 -- the DO variables of the loops round a place
-abbrev pub loop_variables : Place → List (List ℕ)
+abbrev pub loop_variables : Place77 → List (List ℕ)
 loop_variables p = flat_map (λ (x : Labelled). loop_variable x.statement) (open_loops p)
 
 -- a scalar of this name is set, and is a DO variable of those round it
@@ -37,12 +37,12 @@ value_sets_one_of Output around e = false
 value_sets_one_of Input around e = reads_one_of around e
 
 -- by all uses `us` of names in the program
-module _ (us : List Use) where
-  abbrev pub is_integer_scalar : List ℕ → Bool
-  is_integer_scalar x = is_variable us x && not (is_array us x) && same_kind (kind_of_name us x) Integer
+module _ (us : List Use77) where
+  abbrev pub is_integer_variable : List ℕ → Bool
+  is_integer_variable x = is_variable us x && not (is_array_name us x) && same_kind (kind_of_name us x) Integer
 
   abbrev pub is_wrong_variable : List ℕ → List (List ℕ) → Bool
-  is_wrong_variable x around = not (is_integer_scalar x) || is_among around x
+  is_wrong_variable x around = not (is_integer_variable x) || is_among around x
 
   -- the range of an implied DO list is the list, not its parameters
   abbrev mutual
@@ -63,5 +63,5 @@ module _ (us : List Use) where
   misuses_variable (Print is) around = misuses_in_items Output is around
   misuses_variable _ around = false
 
-  abbrev pub has_wrong_do_variable : Place → Bool
+  abbrev pub has_wrong_do_variable : Place77 → Bool
   has_wrong_do_variable p = misuses_variable (action p.here.statement) (loop_variables p)

@@ -18,8 +18,9 @@ use Rattle.f77_grammar.specs.declared.directions.Direction.TheVariants.{Output, 
 use Rattle.tree.specs.Functions.{function_named, name_of_function, suits_number}
 use Rattle.meaning.specs.Typed.{number_of_arguments, number_of_subscripts}
 use Rattle.tree.specs.OperatorTable.{operand_kind, result_kind_of, is_unary}
-use Rattle.f77_grammar.specs.program.Text.{Place}
-use Rattle.f77_grammar.specs.program.Uses.{Use, uses_of, is_variable, is_array, is_function, calls, kind_of_name}
+use Rattle.f77_grammar.specs.program.Text.{Place77}
+use Rattle.f77_grammar.specs.program.Uses.{Use77, uses77_of, is_variable, is_array_name, is_function, calls}
+use Rattle.f77_grammar.specs.program.Uses.{kind_of_name}
 
 abbrev pub same_kind : Kind → Kind → Bool
 same_kind Integer Integer = true
@@ -31,15 +32,15 @@ takes_so_many None n = false
 takes_so_many (Some f) n = suits_number f n
 
 -- by all uses `us` of names in the program
-module _ (us : List Use) where
+module _ (us : List Use77) where
   -- a name with a list in parentheses: an element of this kind, or a call, which is INTEGER
   abbrev pub list_has_kind : List ℕ → ℕ → Kind → Bool
-  list_has_kind x n k = (is_array us x && same_kind (kind_of_name us x) k)
+  list_has_kind x n k = (is_array_name us x && same_kind (kind_of_name us x) k)
       || (is_function us x && takes_so_many (function_named x) n && same_kind Integer k)
 
   -- a scalar or a symbolic constant of this kind, not a whole array
   abbrev pub name_has_kind : List ℕ → ℕ → Kind → Bool
-  name_has_kind x zero k = not (is_array us x) && same_kind (kind_of_name us x) k
+  name_has_kind x zero k = not (is_array_name us x) && same_kind (kind_of_name us x) k
   name_has_kind x (suc n) k = list_has_kind x (suc n) k
 
   abbrev mutual
@@ -71,8 +72,8 @@ module _ (us : List Use) where
 
   -- an array with subscripts, or a scalar: what is stored into is no call
   abbrev pub is_stored_into : List ℕ → ℕ → Bool
-  is_stored_into x zero = not (is_array us x)
-  is_stored_into x (suc n) = is_array us x
+  is_stored_into x zero = not (is_array_name us x)
+  is_stored_into x (suc n) = is_array_name us x
 
   -- ---- lists: a name alone may be a whole array
 
@@ -82,7 +83,7 @@ module _ (us : List Use) where
 
   abbrev pub suits_input : Expression → Bool
   suits_input (Named x no_subscripts) = true
-  suits_input (Named x (subscript p ps)) = is_array us x && are_subscripts (subscript p ps)
+  suits_input (Named x (subscript p ps)) = is_array_name us x && are_subscripts (subscript p ps)
   suits_input e = false
 
   abbrev pub are_numbers : Expression → Expression → Expression → Bool
@@ -140,8 +141,8 @@ module _ (us : List Use) where
   is_hidden_name x None = false
   is_hidden_name x (Some f) = not (bytes_eq x (name_of_function f)) && is_variable us (name_of_function f)
 
-  abbrev pub calls_hidden : Use → Bool
+  abbrev pub calls_hidden : Use77 → Bool
   calls_hidden u = calls us u && is_hidden_name u.name (function_named u.name)
 
-  abbrev pub has_unsuited_kind : Place → Bool
-  has_unsuited_kind p = not (suits p.here.statement) || list_any calls_hidden (uses_of p.here.statement)
+  abbrev pub has_unsuited_kind : Place77 → Bool
+  has_unsuited_kind p = not (suits p.here.statement) || list_any calls_hidden (uses77_of p.here.statement)

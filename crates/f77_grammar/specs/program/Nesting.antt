@@ -7,7 +7,7 @@ use Rattle.std.specs.List.{list_any}
 use Rattle.f77_grammar.specs.Statement77.{Labelled, Statement77, Program, ImplicitNone, Declare, Dimension, Constants}
 use Rattle.f77_grammar.specs.Statement77.{Assign, Go, Test, If, ElseIf, Else, EndIf, Do, EndDo, Continue, Stop, Read}
 use Rattle.f77_grammar.specs.Statement77.{Print, End}
-use Rattle.f77_grammar.specs.program.Text.{Place, stands_in, is_block_if, is_last_else, loop_ends_in, unended}
+use Rattle.f77_grammar.specs.program.Text.{Place77, label_stands_in, is_block_if, is_last_else, loop_ends_in, unended}
 
 -- ---- what stands since
 
@@ -58,9 +58,9 @@ ends_here (If c) more n = more (suc n)
 ends_here s more n = more n
 
 -- a block IF before these statements has its END IF among them; `n` block IFs have been opened since
-abbrev pub has_end_if : List Labelled → ℕ → Bool
-has_end_if [] n = false
-has_end_if (x ∷ xs) n = ends_here x.statement (has_end_if xs) n
+abbrev pub has_end_if77 : List Labelled → ℕ → Bool
+has_end_if77 [] n = false
+has_end_if77 (x ∷ xs) n = ends_here x.statement (has_end_if77 xs) n
 
 -- a loop that was opened among `since` is still open before `rest`
 abbrev pub is_loop_open : List Labelled → List Labelled → Bool
@@ -71,7 +71,7 @@ abbrev pub is_anything_open : List Labelled → List Labelled → Bool
 is_anything_open since rest = has_open_if since || is_loop_open since rest
 
 -- ELSE IF and ELSE stand where the innermost open thing is a block IF that has had no ELSE
-abbrev pub suits_else : Place → Bool
+abbrev pub suits_else : Place77 → Bool
 suits_else p =
     has_open_if p.before
     && not (is_loop_open (since_if p.before) (p.here ∷ p.after))
@@ -100,31 +100,31 @@ is_no_loop_end (Read is) = false
 is_no_loop_end (Print is) = false
 
 -- a loop that was opened since the first one of this label ends here too, or later
-abbrev pub is_other_open : Place → ℕ → Bool
+abbrev pub is_other_open : Place77 → ℕ → Bool
 is_other_open p n = is_loop_open (since_do n p.before) (p.here ∷ p.after)
 
 -- END DO ends no loop, or more than one
-abbrev pub ends_not_one : Place → Option ℕ → Bool
+abbrev pub ends_not_one : Place77 → Option ℕ → Bool
 ends_not_one p None = true
 ends_not_one p (Some n) = not (list_any (begins_loop n) p.before) || is_other_open p n
 
 -- a statement that ends loops is none that a loop may end on, and nothing is left open in these loops
-abbrev pub ends_loops_wrongly : Place → Option ℕ → Bool
+abbrev pub ends_loops_wrongly : Place77 → Option ℕ → Bool
 ends_loops_wrongly p None = false
 ends_loops_wrongly p (Some n) =
     list_any (begins_loop n) p.before && (is_no_loop_end p.here.statement
     || is_anything_open (since_do n p.before) p.after)
 
 -- a block IF has no END IF
-abbrev pub stays_open : Statement77 → Place → Bool
-stays_open (If c) p = not (has_end_if p.after 0)
-stays_open _ p = false
+abbrev pub stays_open77 : Statement77 → Place77 → Bool
+stays_open77 (If c) p = not (has_end_if77 p.after 0)
+stays_open77 _ p = false
 
 -- a DO has no END DO, or its label doesn't come later; END DO doesn't end one loop; END IF has no block IF or leaves a
 -- loop open in it; ELSE suits nothing
-abbrev pub nests_wrongly : Statement77 → Place → Bool
+abbrev pub nests_wrongly : Statement77 → Place77 → Bool
 nests_wrongly (Do None x a b c) p = true
-nests_wrongly (Do (Some n) x a b c) p = not (stands_in p.after n)
+nests_wrongly (Do (Some n) x a b c) p = not (label_stands_in p.after n)
 nests_wrongly EndDo p = ends_not_one p p.here.label
 nests_wrongly EndIf p = not (has_open_if p.before) || is_loop_open (since_if p.before) p.after
 nests_wrongly (ElseIf c) p = not (suits_else p)
@@ -144,11 +144,11 @@ nests_wrongly (Read is) p = false
 nests_wrongly (Print is) p = false
 nests_wrongly End p = false
 
-abbrev pub is_left_open : Place → Bool
-is_left_open p = stays_open p.here.statement p
+abbrev pub is_left_open : Place77 → Bool
+is_left_open p = stays_open77 p.here.statement p
 
-abbrev pub is_closed_wrongly : Place → Bool
+abbrev pub is_closed_wrongly : Place77 → Bool
 is_closed_wrongly p = nests_wrongly p.here.statement p || ends_loops_wrongly p p.here.label
 
-abbrev pub is_nested_wrongly : Place → Bool
+abbrev pub is_nested_wrongly : Place77 → Bool
 is_nested_wrongly p = is_left_open p || is_closed_wrongly p

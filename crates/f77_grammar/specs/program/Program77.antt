@@ -10,10 +10,10 @@ use Rattle.tree.specs.declared.refusals.Refusal.{Refusal}
 use Rattle.tree.specs.Plain as tree
 use Rattle.meaning.specs.Dialect.{Dialect}
 use Rattle.meaning.specs.Store.{Store}
-use Rattle.f77_grammar.specs.Answered.{IsAnswered}
+use Rattle.reading.specs.refusal_order.Answered.{IsAnswered}
 use Rattle.f77_grammar.specs.Statement77.{Labelled}
-use Rattle.f77_grammar.specs.program.Text.{Place, places}
-use Rattle.f77_grammar.specs.program.Uses.{Use, uses_in_text}
+use Rattle.f77_grammar.specs.program.Text.{Place77, places}
+use Rattle.f77_grammar.specs.program.Uses.{Use77, uses_in_text}
 use Rattle.f77_grammar.specs.program.Labels.{has_wrong_label}
 use Rattle.f77_grammar.specs.program.Nesting.{is_nested_wrongly}
 use Rattle.f77_grammar.specs.program.Order.{is_out_of_order, is_ended_wrongly}
@@ -34,7 +34,7 @@ program_causes =
     ∷ ManyNames ∷ ManyBlocks ∷ ReversedBounds ∷ ManyElements ∷ BadConstant ∷ Untyped ∷ []
 
 -- the cause holds at a place of the text, by all uses of names in it and the values of its symbolic constants
-abbrev pub holds_at : Dialect → Cause → List Labelled → List Use → Store → Place → Bool
+abbrev pub holds_at : Dialect → Cause → List Labelled → List Use77 → Store → Place77 → Bool
 holds_at d Label text us s p = has_wrong_label text p
 holds_at d Nesting text us s p = is_nested_wrongly p || is_out_of_order p
 holds_at d NoEnd text us s p = is_ended_wrongly p
@@ -51,11 +51,11 @@ holds_at d BadConstant text us s p = has_bad_constant d s p
 holds_at d Untyped text us s p = has_untyped_name text us p
 holds_at d _ text us s p = false
 
-abbrev pub holds_in : Dialect → List Labelled → Cause → Place → Bool
+abbrev pub holds_in : Dialect → List Labelled → Cause → Place77 → Bool
 holds_in d text c p = holds_at d c text (uses_in_text text) (constants_of d text) p
 
 abbrev pub findings_of : Dialect → List Labelled → Cause → List Refusal
-findings_of d text c = map (λ (p : Place). refusal_at c p.here.line) (filter (holds_in d text c) (places text))
+findings_of d text c = map (λ (p : Place77). refusal_at c p.here.line) (filter (holds_in d text c) (places text))
 
 -- a text without statements has no END, at line 0
 abbrev pub findings : Dialect → List Labelled → List Refusal

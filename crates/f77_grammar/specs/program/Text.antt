@@ -6,16 +6,16 @@ use Rattle.f77_grammar.specs.Statement77.{Labelled, Statement77, Declare, Dimens
 use Rattle.f77_grammar.specs.Statement77.{ImplicitNone, EndIf, Do, EndDo, End}
 
 -- the statements before a place stand with the nearest first
-pub record Place : Type 0 where
+pub record Place77 : Type 0 where
   pub before : List Labelled
   pub here : Labelled
   pub after : List Labelled
 
-abbrev pub places_from : List Labelled → List Labelled → List Place
+abbrev pub places_from : List Labelled → List Labelled → List Place77
 places_from before [] = []
 places_from before (x ∷ xs) = record { before = before; here = x; after = xs } ∷ places_from (x ∷ before) xs
 
-abbrev pub places : List Labelled → List Place
+abbrev pub places : List Labelled → List Place77
 places text = places_from [] text
 
 -- what a statement does: of a logical IF, its inner statement (section 11.5)
@@ -33,14 +33,14 @@ abbrev pub bears : ℕ → Labelled → Bool
 bears n x = is_label n x.label
 
 -- one of these statements bears the label
-abbrev pub stands_in : List Labelled → ℕ → Bool
-stands_in xs n = list_any (bears n) xs
+abbrev pub label_stands_in : List Labelled → ℕ → Bool
+label_stands_in xs n = list_any (bears n) xs
 
 -- ---- kinds of statements (section 7)
 
-abbrev pub is_end : Statement77 → Bool
-is_end End = true
-is_end _ = false
+abbrev pub is_end77 : Statement77 → Bool
+is_end77 End = true
+is_end77 _ = false
 
 abbrev pub is_block_if : Statement77 → Bool
 is_block_if (If c) = true
@@ -77,7 +77,7 @@ is_declaration _ = false
 -- ---- loops: a loop goes from its DO to the statement with its label, which comes later (section 11.10.2)
 
 abbrev pub ends_in : List Labelled → Statement77 → Bool
-ends_in rest (Do (Some n) x a b c) = stands_in rest n
+ends_in rest (Do (Some n) x a b c) = label_stands_in rest n
 ends_in rest s = false
 
 -- the loop that x opens ends among `rest`
@@ -85,7 +85,7 @@ abbrev pub loop_ends_in : List Labelled → Labelled → Bool
 loop_ends_in rest x = ends_in rest x.statement
 
 -- the DO statements of the loops round a place; the last statement of a loop stands in it
-abbrev pub open_loops : Place → List Labelled
+abbrev pub open_loops : Place77 → List Labelled
 open_loops p = filter (loop_ends_in (p.here ∷ p.after)) p.before
 
 -- ---- block IFs, looked at alone (section 11.6): END IF ends the nearest block IF before it that hasn't ended
@@ -109,5 +109,5 @@ abbrev pub unended : List Labelled → List Labelled
 unended before = without_ended before 0
 
 -- the block IFs round a place
-abbrev pub open_ifs : Place → List Labelled
+abbrev pub open_ifs : Place77 → List Labelled
 open_ifs p = filter (λ (x : Labelled). is_block_if x.statement) (unended p.before)

@@ -7,8 +7,7 @@ use Rattle.std.specs.List.{list_any, filter, flat_map, fold}
 use Rattle.std.specs.Cmp.Lexicographic.{slice_cmp}
 use Rattle.std.specs.Ordering.{nat_cmp, match_ordering}
 use Rattle.tree.specs.Plain.{Expression, Number, Logic, Named, Unary, Binary, Apply, Expressions, no_expressions}
-use Rattle.tree.specs.Plain.{expression, Subscript, Only, Section, Subscripts, no_subscripts, subscript, Reference}
-use Rattle.tree.specs.Plain.{Item}
+use Rattle.tree.specs.Plain.{expression, Subscript, Only, Subscripts, no_subscripts, subscript, Reference, Item}
 use Rattle.tree.specs.Plain.{Single, Constant, ImpliedDo, Items, no_items, item}
 use Rattle.tree.specs.Plain as tree
 use Rattle.tree.specs.declared.ops.Op.TheVariants.{Neg}
@@ -18,15 +17,14 @@ use Rattle.tree.specs.declared.ops.Value.{Value}
 use Rattle.tree.specs.declared.ops.Value.TheVariants.{Int, Truth}
 use Rattle.meaning.specs.Dialect.{Dialect}
 use Rattle.meaning.specs.Store.{Store}
-use Rattle.f77_grammar.specs.Statement77.{Labelled, Statement77, Assign, Go, Test, If, Stop}
-use Rattle.f77_grammar.specs.Statement77.{Read, Print}
+use Rattle.f77_grammar.specs.Statement77.{Labelled, Statement77, Assign, Go, Test, If, Stop, Read, Print}
 use Rattle.f77_grammar.specs.declared.directions.Direction.{Direction}
 use Rattle.f77_grammar.specs.declared.directions.Direction.TheVariants.{Output, Input}
 use Rattle.tree.specs.Functions.{function_named}
 use Rattle.f77_grammar.specs.program.Text.{action}
-use Rattle.f77_grammar.specs.program.Uses.{Use, is_variable, is_constant, is_array}
-use Rattle.f77_grammar.specs.program.Uses.{kind_of_name}
+use Rattle.f77_grammar.specs.program.Uses.{Use77, is_variable, is_constant_name, is_array_name, kind_of_name}
 use Rattle.f77_grammar.specs.program.Limits.{dimension_of, bounds_of_name}
+use Rattle.reading.specs.Signs.{argument_of}
 
 -- ---- expressions
 
@@ -36,18 +34,13 @@ literal (Int (pos n)) = Number (pos n)
 literal (Int (negsuc n)) = Unary Neg (Number (pos (suc n)))
 literal (Truth b) = Logic b
 
--- statements of FORTRAN 77 have no sections
-abbrev pub argument_of : Subscript → Expression
-argument_of (Only e) = e
-argument_of (Section a b c) = a
-
-abbrev pub arguments_of : Subscripts → Expressions
-arguments_of no_subscripts = no_expressions
-arguments_of (subscript p ps) = expression (argument_of p) (arguments_of ps)
+abbrev pub arguments77_of : Subscripts → Expressions
+arguments77_of no_subscripts = no_expressions
+arguments77_of (subscript p ps) = expression (argument_of p) (arguments77_of ps)
 
 abbrev pub call_of : Option Fun → List ℕ → Subscripts → Expression
 call_of None x ps = Named x ps
-call_of (Some f) x ps = Apply f (arguments_of ps)
+call_of (Some f) x ps = Apply f (arguments77_of ps)
 
 abbrev pub element_or_call : Bool → List ℕ → Subscripts → Expression
 element_or_call true x ps = Named x ps
@@ -58,16 +51,16 @@ value_or_name true x s = literal (s.held (record { name = x; subscripts = [] }))
 value_or_name false x s = Named x no_subscripts
 
 -- by all uses `us` of names in the program, and the values `s` of its symbolic constants
-module _ (us : List Use) (s : Store) where
-  abbrev pub named : List ℕ → Subscripts → Expression
-  named x no_subscripts = value_or_name (is_constant us x) x s
-  named x (subscript p ps) = element_or_call (is_array us x) x (subscript p ps)
+module _ (us : List Use77) (s : Store) where
+  abbrev pub named_tree : List ℕ → Subscripts → Expression
+  named_tree x no_subscripts = value_or_name (is_constant_name us x) x s
+  named_tree x (subscript p ps) = element_or_call (is_array_name us x) x (subscript p ps)
 
   abbrev mutual
     pub resolved : Expression → Expression
     resolved (Number n) = Number n
     resolved (Logic b) = Logic b
-    resolved (Named x ps) = named x (resolved_subscripts ps)
+    resolved (Named x ps) = named_tree x (resolved_subscripts ps)
     resolved (Unary o a) = Unary o (resolved a)
     resolved (Binary o a b) = Binary o (resolved a) (resolved b)
     resolved (Apply f es) = Apply f (resolved_arguments es)
@@ -131,9 +124,9 @@ abbrev pub targets : List Labelled → List ℕ
 targets text = flat_map (λ (x : Labelled). target (action x.statement)) text
 
 -- the label before a statement, where a GO TO names it
-abbrev pub mark_of : List ℕ → Option ℕ → List tree.Statement
-mark_of named None = []
-mark_of named (Some n) = if list_any (λ m. m == n) named then tree.Label n ∷ [] else []
+abbrev pub label_before : List ℕ → Option ℕ → List tree.Statement
+label_before named None = []
+label_before named (Some n) = if list_any (λ m. m == n) named then tree.Label n ∷ [] else []
 
 -- ---- declarations
 
@@ -143,19 +136,20 @@ with_name x [] = x ∷ []
 with_name x (y ∷ ys) = match_ordering (slice_cmp nat_cmp x y) (x ∷ y ∷ ys) (y ∷ ys) (y ∷ with_name x ys)
 
 -- the variables of a program, in byte order
-abbrev pub variables_of : List Use → List (List ℕ)
-variables_of us = fold (λ names x. with_name x names) [] (filter (is_variable us) (map (λ (u : Use). u.name) us))
+abbrev pub program_variables_of : List Use77 → List (List ℕ)
+program_variables_of us =
+    fold (λ names x. with_name x names) [] (filter (is_variable us) (map (λ (u : Use77). u.name) us))
 
-abbrev pub bounds_in : Result (ℤ × ℤ) Fault → ℤ × ℤ
-bounds_in (Ok b) = b
-bounds_in (Err fault) = (pos 1, pos 0)
+abbrev pub bounds_or_empty : Result (ℤ × ℤ) Fault → ℤ × ℤ
+bounds_or_empty (Ok b) = b
+bounds_or_empty (Err fault) = (pos 1, pos 0)
 
-abbrev pub declaration_of : Dialect → List Use → Store → List Labelled → List ℕ → tree.Declaration
-declaration_of d us s text x =
+abbrev pub declaration_of_name : Dialect → List Use77 → Store → List Labelled → List ℕ → tree.Declaration
+declaration_of_name d us s text x =
     record {
       name = x;
       kind = kind_of_name us x;
-      extent = tree.Given (map (λ b. bounds_in (dimension_of d s b)) (bounds_of_name text x));
+      extent = tree.Given (map (λ b. bounds_or_empty (dimension_of d s b)) (bounds_of_name text x));
     }
 
 abbrev pub first_of_names : List (List ℕ) → Option (List ℕ)

@@ -29,112 +29,112 @@ pub data Role : Type 0 where
   Target : ℕ → Role
   Counter : Role
 
-pub record Use : Type 0 where
+pub record Use77 : Type 0 where
   pub name : List ℕ
   pub role : Role
 
-abbrev pub use_of : List ℕ → Role → Use
-use_of x r = record { name = x; role = r }
+abbrev pub use77_of : List ℕ → Role → Use77
+use77_of x r = record { name = x; role = r }
 
 -- ---- the uses of names in a statement, in the order of the text
 
 abbrev mutual
-  pub uses_in : Expression → List Use
-  uses_in (Number n) = []
-  uses_in (Logic b) = []
-  uses_in (Named x ps) = use_of x (Valued (number_of_subscripts ps)) ∷ uses_in_subscripts ps
-  uses_in (Unary o a) = uses_in a
-  uses_in (Binary o a b) = uses_in a ++ uses_in b
-  uses_in (Apply f es) = uses_in_arguments es
-  uses_in _ = []
+  pub uses77_in : Expression → List Use77
+  uses77_in (Number n) = []
+  uses77_in (Logic b) = []
+  uses77_in (Named x ps) = use77_of x (Valued (number_of_subscripts ps)) ∷ uses77_in_subscripts ps
+  uses77_in (Unary o a) = uses77_in a
+  uses77_in (Binary o a b) = uses77_in a ++ uses77_in b
+  uses77_in (Apply f es) = uses_in_arguments es
+  uses77_in _ = []
 
-  pub uses_in_arguments : Expressions → List Use
+  pub uses_in_arguments : Expressions → List Use77
   uses_in_arguments no_expressions = []
-  uses_in_arguments (expression e es) = uses_in e ++ uses_in_arguments es
+  uses_in_arguments (expression e es) = uses77_in e ++ uses_in_arguments es
 
-  pub uses_in_subscripts : Subscripts → List Use
-  uses_in_subscripts no_subscripts = []
-  uses_in_subscripts (subscript p ps) = uses_in_subscript p ++ uses_in_subscripts ps
+  pub uses77_in_subscripts : Subscripts → List Use77
+  uses77_in_subscripts no_subscripts = []
+  uses77_in_subscripts (subscript p ps) = uses77_in_subscript p ++ uses77_in_subscripts ps
 
-  pub uses_in_subscript : Subscript → List Use
-  uses_in_subscript (Only e) = uses_in e
-  uses_in_subscript _ = []
+  pub uses77_in_subscript : Subscript → List Use77
+  uses77_in_subscript (Only e) = uses77_in e
+  uses77_in_subscript _ = []
 
-abbrev pub target_uses : List ℕ → Subscripts → List Use
-target_uses x ps = use_of x (Target (number_of_subscripts ps)) ∷ uses_in_subscripts ps
+abbrev pub target_uses : List ℕ → Subscripts → List Use77
+target_uses x ps = use77_of x (Target (number_of_subscripts ps)) ∷ uses77_in_subscripts ps
 
-abbrev pub input_uses : Expression → List Use
+abbrev pub input_uses : Expression → List Use77
 input_uses (Named x ps) = target_uses x ps
-input_uses e = uses_in e
+input_uses e = uses77_in e
 
 -- a DO variable with its three parameters
-abbrev pub control_uses : List ℕ → Expression → Expression → Expression → List Use
-control_uses x a b c = use_of x Counter ∷ uses_in a ++ uses_in b ++ uses_in c
+abbrev pub control_uses : List ℕ → Expression → Expression → Expression → List Use77
+control_uses x a b c = use77_of x Counter ∷ uses77_in a ++ uses77_in b ++ uses77_in c
 
-abbrev pub value_uses : Direction → Expression → List Use
-value_uses Output e = uses_in e
+abbrev pub value_uses : Direction → Expression → List Use77
+value_uses Output e = uses77_in e
 value_uses Input e = input_uses e
 
 abbrev mutual
-  pub uses_in_item : Direction → Item → List Use
+  pub uses_in_item : Direction → Item → List Use77
   uses_in_item d (Single e) = value_uses d e
   uses_in_item d (Constant t) = []
   uses_in_item d (ImpliedDo is x a b c) = uses_in_items d is ++ control_uses x a b c
 
-  pub uses_in_items : Direction → Items → List Use
+  pub uses_in_items : Direction → Items → List Use77
   uses_in_items d no_items = []
   uses_in_items d (item i is) = uses_in_item d i ++ uses_in_items d is
 
-abbrev pub uses_in_bounds : List (Expression × Expression) → List Use
+abbrev pub uses_in_bounds : List (Expression × Expression) → List Use77
 uses_in_bounds [] = []
-uses_in_bounds (b ∷ bs) = uses_in b.0 ++ uses_in b.1 ++ uses_in_bounds bs
+uses_in_bounds (b ∷ bs) = uses77_in b.0 ++ uses77_in b.1 ++ uses_in_bounds bs
 
 -- a name without bounds has none in the list
-abbrev pub bounded_uses : List ℕ → List (Expression × Expression) → List Use
+abbrev pub bounded_uses : List ℕ → List (Expression × Expression) → List Use77
 bounded_uses x [] = []
-bounded_uses x (b ∷ bs) = use_of x (Bounded (length (b ∷ bs))) ∷ uses_in_bounds (b ∷ bs)
+bounded_uses x (b ∷ bs) = use77_of x (Bounded (length (b ∷ bs))) ∷ uses_in_bounds (b ∷ bs)
 
-abbrev pub dimensioned_uses : Entity → List Use
+abbrev pub dimensioned_uses : Entity → List Use77
 dimensioned_uses e = bounded_uses e.name e.bounds
 
-abbrev pub typed_uses : Kind → Entity → List Use
-typed_uses k e = use_of e.name (Typed k) ∷ dimensioned_uses e
+abbrev pub typed_uses : Kind → Entity → List Use77
+typed_uses k e = use77_of e.name (Typed k) ∷ dimensioned_uses e
 
-abbrev pub defined_uses : NamedConstant → List Use
-defined_uses d = use_of d.name Defined ∷ uses_in d.value
+abbrev pub defined_uses : NamedConstant → List Use77
+defined_uses d = use77_of d.name Defined ∷ uses77_in d.value
 
-abbrev pub assignment_uses : Reference → Expression → List Use
-assignment_uses left e = target_uses left.name left.subscripts ++ uses_in e
+abbrev pub assignment_uses : Reference → Expression → List Use77
+assignment_uses left e = target_uses left.name left.subscripts ++ uses77_in e
 
-abbrev pub uses_of : Statement77 → List Use
-uses_of (Program x) = use_of x Title ∷ []
-uses_of (Declare k es) = flat_map (typed_uses k) es
-uses_of (Dimension es) = flat_map dimensioned_uses es
-uses_of (Constants ds) = flat_map defined_uses ds
-uses_of (Assign left e) = assignment_uses left e
-uses_of (Test c s) = uses_in c ++ uses_of s
-uses_of (If c) = uses_in c
-uses_of (ElseIf c) = uses_in c
-uses_of (Do label x a b c) = control_uses x a b c
-uses_of (Read is) = uses_in_items Input is
-uses_of (Print is) = uses_in_items Output is
-uses_of ImplicitNone = []
-uses_of (Go n) = []
-uses_of Else = []
-uses_of EndIf = []
-uses_of EndDo = []
-uses_of Continue = []
-uses_of Stop = []
-uses_of End = []
+abbrev pub uses77_of : Statement77 → List Use77
+uses77_of (Program x) = use77_of x Title ∷ []
+uses77_of (Declare k es) = flat_map (typed_uses k) es
+uses77_of (Dimension es) = flat_map dimensioned_uses es
+uses77_of (Constants ds) = flat_map defined_uses ds
+uses77_of (Assign left e) = assignment_uses left e
+uses77_of (Test c s) = uses77_in c ++ uses77_of s
+uses77_of (If c) = uses77_in c
+uses77_of (ElseIf c) = uses77_in c
+uses77_of (Do label x a b c) = control_uses x a b c
+uses77_of (Read is) = uses_in_items Input is
+uses77_of (Print is) = uses_in_items Output is
+uses77_of ImplicitNone = []
+uses77_of (Go n) = []
+uses77_of Else = []
+uses77_of EndIf = []
+uses77_of EndDo = []
+uses77_of Continue = []
+uses77_of Stop = []
+uses77_of End = []
 
-abbrev pub uses_in_text : List Labelled → List Use
-uses_in_text text = flat_map (λ (x : Labelled). uses_of x.statement) text
+abbrev pub uses_in_text : List Labelled → List Use77
+uses_in_text text = flat_map (λ (x : Labelled). uses77_of x.statement) text
 
 -- ---- roles
 
-abbrev pub is_title : Role → Bool
-is_title Title = true
-is_title _ = false
+abbrev pub is_title_role : Role → Bool
+is_title_role Title = true
+is_title_role _ = false
 
 abbrev pub is_typed : Role → Bool
 is_typed (Typed k) = true
@@ -153,46 +153,47 @@ is_target (Target n) = true
 is_target _ = false
 
 -- a variable or a symbolic constant alone stands so
-abbrev pub is_bare : Role → Bool
-is_bare (Valued zero) = true
-is_bare (Target zero) = true
-is_bare Counter = true
-is_bare _ = false
+abbrev pub is_bare_role : Role → Bool
+is_bare_role (Valued zero) = true
+is_bare_role (Target zero) = true
+is_bare_role Counter = true
+is_bare_role _ = false
 
 -- the names that stand so
-abbrev pub names_that : (Role → Bool) → List Use → List (List ℕ)
-names_that test us = map (λ (u : Use). u.name) (filter (λ (u : Use). test u.role) us)
+abbrev pub names_that : (Role → Bool) → List Use77 → List (List ℕ)
+names_that test us = map (λ (u : Use77). u.name) (filter (λ (u : Use77). test u.role) us)
 
 -- the name stands so
-abbrev pub stands : (Role → Bool) → List Use → List ℕ → Bool
-stands test us x = list_any (λ (u : Use). test u.role && bytes_eq u.name x) us
+abbrev pub stands : (Role → Bool) → List Use77 → List ℕ → Bool
+stands test us x = list_any (λ (u : Use77). test u.role && bytes_eq u.name x) us
 
 -- ---- what a name is, by all its uses in the program
 
-abbrev pub is_constant : List Use → List ℕ → Bool
-is_constant us x = stands is_defined us x
+abbrev pub is_constant_name : List Use77 → List ℕ → Bool
+is_constant_name us x = stands is_defined us x
 
 -- a name that has a type or bounds, or stands bare, and is no symbolic constant
-abbrev pub is_variable : List Use → List ℕ → Bool
-is_variable us x = (stands is_typed us x || stands is_bounded us x || stands is_bare us x) && not (is_constant us x)
+abbrev pub is_variable : List Use77 → List ℕ → Bool
+is_variable us x =
+    (stands is_typed us x || stands is_bounded us x || stands is_bare_role us x) && not (is_constant_name us x)
 
-abbrev pub is_array : List Use → List ℕ → Bool
-is_array us x = stands is_bounded us x && not (is_constant us x)
+abbrev pub is_array_name : List Use77 → List ℕ → Bool
+is_array_name us x = stands is_bounded us x && not (is_constant_name us x)
 
 -- one of the seven names, where no variable or constant of the program hides it (section 18.2.3)
-abbrev pub is_function : List Use → List ℕ → Bool
-is_function us x = is_some (function_named x) && not (is_variable us x) && not (is_constant us x)
+abbrev pub is_function : List Use77 → List ℕ → Bool
+is_function us x = is_some (function_named x) && not (is_variable us x) && not (is_constant_name us x)
 
 -- the name stands here for a function, which is called: a program's name by itself calls nothing
-abbrev pub calls : List Use → Use → Bool
-calls us u = not (is_title u.role) && is_function us u.name
+abbrev pub calls : List Use77 → Use77 → Bool
+calls us u = not (is_title_role u.role) && is_function us u.name
 
 abbrev pub type_in : Role → Bool → Option Kind → Option Kind
 type_in (Typed k) true other = Some k
 type_in _ _ other = other
 
 -- the type that a type statement gives the name
-abbrev pub type_of : List Use → List ℕ → Option Kind
+abbrev pub type_of : List Use77 → List ℕ → Option Kind
 type_of [] x = None
 type_of (u ∷ us) x = type_in u.role (bytes_eq u.name x) (type_of us x)
 
@@ -200,7 +201,7 @@ abbrev pub or_integer : Option Kind → Kind
 or_integer None = Integer
 or_integer (Some k) = k
 
-abbrev pub kind_of_name : List Use → List ℕ → Kind
+abbrev pub kind_of_name : List Use77 → List ℕ → Kind
 kind_of_name us x = or_integer (type_of us x)
 
 abbrev pub dimensions_in : Role → Bool → ℕ → ℕ
@@ -208,6 +209,6 @@ dimensions_in (Bounded n) true other = n
 dimensions_in _ _ other = other
 
 -- how many dimensions a declaration gives the name, none for a scalar
-abbrev pub dimensions_of_name : List Use → List ℕ → ℕ
+abbrev pub dimensions_of_name : List Use77 → List ℕ → ℕ
 dimensions_of_name [] x = 0
 dimensions_of_name (u ∷ us) x = dimensions_in u.role (bytes_eq u.name x) (dimensions_of_name us x)

@@ -3,18 +3,18 @@ use Rattle.std.specs.Prelude.{ℕ, suc, Bool, Option, None, Some, min, if◌then
 use Rattle.std.specs.Option.{option_map}
 use Rattle.std.specs.List.{find}
 use Rattle.f77_grammar.specs.Statement77.{Labelled}
-use Rattle.f77_grammar.specs.program.Text.{Place, places}
+use Rattle.f77_grammar.specs.program.Text.{Place77, places}
 
 -- the line of the first place that passes the test
-abbrev pub first_line : (Place → Bool) → List Labelled → Option ℕ
-first_line test text = option_map (λ (p : Place). p.here.line) (find test (places text))
+abbrev pub first_line : (Place77 → Bool) → List Labelled → Option ℕ
+first_line test text = option_map (λ (p : Place77). p.here.line) (find test (places text))
 
 -- its index
-abbrev pub index_from : (Place → Bool) → ℕ → List Place → Option ℕ
+abbrev pub index_from : (Place77 → Bool) → ℕ → List Place77 → Option ℕ
 index_from test i [] = None
 index_from test i (p ∷ ps) = if test p then Some i else index_from test (suc i) ps
 
-abbrev pub first_index : (Place → Bool) → List Labelled → Option ℕ
+abbrev pub first_index : (Place77 → Bool) → List Labelled → Option ℕ
 first_index test text = index_from test 0 (places text)
 
 -- the sooner of two places that were found

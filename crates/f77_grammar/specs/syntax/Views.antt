@@ -7,14 +7,11 @@ use Rattle.f77_grammar.specs.declared.syntax.statements.Entity.{Entity as Entity
 use Rattle.f77_grammar.specs.declared.syntax.statements.Stmt77.{Stmt77, fold-Stmt77}
 use Rattle.f77_grammar.specs.declared.syntax.statements.Stmt77.TheOpen.{Stmt77-F, Program as Program'}
 use Rattle.f77_grammar.specs.declared.syntax.statements.Stmt77.TheOpen.{ImplicitNone as ImplicitNone'}
-use Rattle.f77_grammar.specs.declared.syntax.statements.Stmt77.TheOpen.{Declare as Declare'}
-use Rattle.f77_grammar.specs.declared.syntax.statements.Stmt77.TheOpen.{Dimension as Dimension'}
+use Rattle.f77_grammar.specs.declared.syntax.statements.Stmt77.TheOpen.{Declare as Declare', Dimension as Dimension'}
 use Rattle.f77_grammar.specs.declared.syntax.statements.Stmt77.TheOpen.{Constants as Constants'}
 use Rattle.f77_grammar.specs.declared.syntax.statements.Stmt77.TheOpen.{Assign as Assign', Go as Go', Test as Test'}
-use Rattle.f77_grammar.specs.declared.syntax.statements.Stmt77.TheOpen.{If as If'}
-use Rattle.f77_grammar.specs.declared.syntax.statements.Stmt77.TheOpen.{ElseIf as ElseIf', Else as Else'}
-use Rattle.f77_grammar.specs.declared.syntax.statements.Stmt77.TheOpen.{EndIf as EndIf'}
-use Rattle.f77_grammar.specs.declared.syntax.statements.Stmt77.TheOpen.{Do as Do', EndDo as EndDo'}
+use Rattle.f77_grammar.specs.declared.syntax.statements.Stmt77.TheOpen.{If as If', ElseIf as ElseIf', Else as Else'}
+use Rattle.f77_grammar.specs.declared.syntax.statements.Stmt77.TheOpen.{EndIf as EndIf', Do as Do', EndDo as EndDo'}
 use Rattle.f77_grammar.specs.declared.syntax.statements.Stmt77.TheOpen.{Continue as Continue', Stop as Stop'}
 use Rattle.f77_grammar.specs.declared.syntax.statements.Stmt77.TheOpen.{Read as Read', Print as Print', End as End'}
 use Rattle.f77_grammar.specs.declared.syntax.statements.Labelled.{Labelled as Labelled'}

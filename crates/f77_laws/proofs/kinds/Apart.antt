@@ -7,7 +7,8 @@ use Rattle.f77_grammar.specs.Statement77.{Labelled, Declare, Constants, Assign, 
 use Rattle.meaning.proofs.DeckWords.{n, v, at, to}
 use Rattle.f77_grammar.proofs.programs.Words.{s, scalar, array, constant}
 use Rattle.meaning.specs.Dialect.{fortran77}
-use Rattle.f77_grammar.specs.program.Uses.{uses_in_text, is_constant}
+use Rattle.tree.specs.declared.width.Width.TheVariants.{Plain}
+use Rattle.f77_grammar.specs.program.Uses.{uses_in_text, is_constant_name}
 use Rattle.f77_laws.proofs.Lists.{not_both}
 use Rattle.f77_laws.specs.kinds.Apart.{HasTreeKind, IsOfText, ListsAreNeeded, SpellingsAreNeeded, CountsAreNeeded, ConstantsAreNeeded}
 use Rattle.f77_laws.specs.kinds.OneRule.{IsOfItsType, HasConstants, definitions_in}
@@ -72,8 +73,8 @@ miscounted_text = record { cards = search rules; expression = search rules }
 mistyped_text : IsOfText mistyped (v "L")
 mistyped_text = record { cards = search rules; expression = search rules }
 
-no_constants : (text : List Labelled) → ((x : List ℕ) → is_constant (uses_in_text text) x ≡ false) → AllByRecursion (IsOfItsType (uses_in_text text)) (definitions_in text) → HasConstants fortran77 text
-no_constants text none kinds = record { kinds = kinds; values = λ x h. absurd (not_both (is_constant (uses_in_text text) x) h (none x)) }
+no_constants : (text : List Labelled) → ((x : List ℕ) → is_constant_name (uses_in_text text) x ≡ false) → AllByRecursion (IsOfItsType (uses_in_text text)) (definitions_in text) → HasConstants (fortran77 Plain) text
+no_constants text none kinds = record { kinds = kinds; values = λ x h. absurd (not_both (is_constant_name (uses_in_text text) x) h (none x)) }
 
 hidden_kind : HasTreeKind hidden call Integer
 hidden_kind = search rules

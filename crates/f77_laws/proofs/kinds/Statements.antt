@@ -15,7 +15,7 @@ use Rattle.f77_grammar.specs.declared.directions.Direction.TheVariants.{Output, 
 use Rattle.f77_grammar.specs.Statement77.{Statement77, Program, ImplicitNone, Declare, Dimension, Constants, Assign, Go, Test, If, ElseIf, Else, EndIf, Do, EndDo, Continue, Stop, Read, Print, End}
 use Rattle.f77_grammar.specs.expressions.Printing.{IsSource}
 use Rattle.f77_grammar.specs.program.Text.{action, is_declaration}
-use Rattle.f77_grammar.specs.program.Uses.{Valued, Target, Counter, Use, use_of, uses_in, uses_in_subscripts, target_uses, control_uses, input_uses, value_uses, uses_in_item, uses_in_items, uses_of, is_constant, is_variable, is_array, is_function, kind_of_name, dimensions_of_name}
+use Rattle.f77_grammar.specs.program.Uses.{Valued, Target, Counter, Use77, use77_of, uses77_in, uses77_in_subscripts, target_uses, control_uses, input_uses, value_uses, uses_in_item, uses_in_items, uses77_of, is_constant_name, is_variable, is_array_name, is_function, kind_of_name, dimensions_of_name}
 use Rattle.f77_grammar.specs.program.Declarations.{suits_list}
 use Rattle.f77_grammar.specs.program.Kinds.{has_kind, has_some_kind, are_subscripts, is_stored_into, suits_output, suits_input, are_numbers, suits_value, suits_item, suits_items, suits, is_hidden_name}
 use Rattle.f77_grammar.specs.program.DoVariables.{misuses_variable}
@@ -30,11 +30,11 @@ use Rattle.f77_laws.proofs.kinds.Dimensions.{HaveDimensions}
 use Rattle.f77_laws.proofs.kinds.OneRule as rule
 use Rattle.f77_laws.proofs.kinds.OneRule.{both_true, or_left, variable_no_function, constant_no_function, variable_no_constant, good, named_so, no_dimension, element, are_in_text}
 
-module _ (us : List Use) (s : Store) (ds : List Declaration) (known : Knows us s ds) (some : HaveDimensions us) where
-  abbrev AreLists : List Use → Type 0
+module _ (us : List Use77) (s : Store) (ds : List Declaration) (known : Knows us s ds) (some : HaveDimensions us) where
+  abbrev AreLists : List Use77 → Type 0
   AreLists vs = AllByRecursion (IsArrayOrFunction us) vs
 
-  abbrev AreRight : List Use → Type 0
+  abbrev AreRight : List Use77 → Type 0
   AreRight vs = AllByRecursion (IsRightUse us) vs
 
   -- ---- names of variables
@@ -46,41 +46,41 @@ module _ (us : List Use) (s : Store) (ds : List Declaration) (known : Knows us s
       by true e = e
       by false e = absurd (subst (λ (o : Option Declaration). IsSomeAnd o (λ d. Unit {0})) (known.other x e) h)
 
-  bare_right : (x : List ℕ) → is_function us x ≡ false → IsRightUse us (use_of x (Valued 0))
+  bare_right : (x : List ℕ) → is_function us x ≡ false → IsRightUse us (use77_of x (Valued 0))
   bare_right x f = record { suits = refl; shown = ap (λ b. b && is_hidden_name us x (function_named x)) f }
 
-  counter_right : (x : List ℕ) → is_variable us x ≡ true → IsRightUse us (use_of x Counter)
+  counter_right : (x : List ℕ) → is_variable us x ≡ true → IsRightUse us (use77_of x Counter)
   counter_right x v = record { suits = refl; shown = ap (λ b. b && is_hidden_name us x (function_named x)) (variable_no_function us x v) }
 
-  target_right : (x : List ℕ) (n : ℕ) → suits_list us x n ≡ true → is_variable us x ≡ true → IsRightUse us (use_of x (Target n))
+  target_right : (x : List ℕ) (n : ℕ) → suits_list us x n ≡ true → is_variable us x ≡ true → IsRightUse us (use77_of x (Target n))
   target_right x n l v = record {
-    suits = both_false (not (suits_list us x n)) (is_constant us x) (ap not l) (variable_no_constant us x v);
+    suits = both_false (not (suits_list us x n)) (is_constant_name us x) (ap not l) (variable_no_constant us x v);
     shown = ap (λ b. b && is_hidden_name us x (function_named x)) (variable_no_function us x v);
   }
 
   -- an element
   record IsElement (x : List ℕ) (k : Kind) (ps : Subscripts) : Type 0 where
-    array : is_array us x ≡ true
+    array : is_array_name us x ≡ true
     kind : kind_of_name us x ≡ k
     subscripts : are_subscripts us ps ≡ true
     uses : AreRight (target_uses x ps)
 
-  element_of : (x : List ℕ) (k : Kind) (p : Subscript) (ps : Subscripts) → IsSource (Named x (subscript p ps)) → AreLists (uses_in_subscripts (subscript p ps)) → HasKind ds (Named x (resolved_subscripts us s (subscript p ps))) k
+  element_of : (x : List ℕ) (k : Kind) (p : Subscript) (ps : Subscripts) → IsSource (Named x (subscript p ps)) → AreLists (uses77_in_subscripts (subscript p ps)) → HasKind ds (Named x (resolved_subscripts us s (subscript p ps))) k
       → IsElement x k (subscript p ps)
   element_of x k p ps h u g =
       let count = as_many us s ds known (subscript p ps) ∙ one-add (number_of_subscripts ps) in
       let m = named_so us s ds known some x (number_of_subscripts (resolved_subscripts us s (subscript p ps))) k g.0 in
-      let a = by (is_array us x) refl (variable_no_constant us x m.variable) count m.many in
+      let a = by (is_array_name us x) refl (variable_no_constant us x m.variable) count m.many in
       let l = element us s ds known some x (number_of_subscripts ps) k (resolved_subscripts us s (subscript p ps)) a count g in
       let r = are_in_text us s ds known some (subscript p ps) h.1 u l.subscripts in
       record {
         array = a;
         kind = m.kind;
         subscripts = r.kind;
-        uses = (subst (λ (n : ℕ). IsRightUse us (use_of x (Target n))) (sym (one-add (number_of_subscripts ps))) (target_right x (suc (number_of_subscripts ps)) (affirmed (suits_list us x (suc (number_of_subscripts ps))) l.right.suits) m.variable), r.uses);
+        uses = (subst (λ (n : ℕ). IsRightUse us (use77_of x (Target n))) (sym (one-add (number_of_subscripts ps))) (target_right x (suc (number_of_subscripts ps)) (affirmed (suits_list us x (suc (number_of_subscripts ps))) l.right.suits) m.variable), r.uses);
       }
     where
-      by : (b : Bool) → is_array us x ≡ b → is_constant us x ≡ false → number_of_subscripts (resolved_subscripts us s (subscript p ps)) ≡ suc (number_of_subscripts ps) → number_of_subscripts (resolved_subscripts us s (subscript p ps)) ≡ dimensions_of_name us x → is_array us x ≡ true
+      by : (b : Bool) → is_array_name us x ≡ b → is_constant_name us x ≡ false → number_of_subscripts (resolved_subscripts us s (subscript p ps)) ≡ suc (number_of_subscripts ps) → number_of_subscripts (resolved_subscripts us s (subscript p ps)) ≡ dimensions_of_name us x → is_array_name us x ≡ true
       by true a c e m = a
       by false a c e m = absurd (let z = no_array us x a c in omega (arith, e, m, z))
 
@@ -88,17 +88,17 @@ module _ (us : List Use) (s : Store) (ds : List Declaration) (known : Knows us s
 
   record IsShown (e : Expression) : Type 0 where
     kind : suits_output us e ≡ true
-    uses : AreRight (uses_in e)
+    uses : AreRight (uses77_in e)
 
   record HasSome (e : Expression) : Type 0 where
     kind : has_some_kind us e ≡ true
-    uses : AreRight (uses_in e)
+    uses : AreRight (uses77_in e)
 
-  some_kind : (e : Expression) → IsSource e → AreLists (uses_in e) → HasKind ds (resolved us s e) Integer ⊎ HasKind ds (resolved us s e) Logical → HasSome e
+  some_kind : (e : Expression) → IsSource e → AreLists (uses77_in e) → HasKind ds (resolved us s e) Integer ⊎ HasKind ds (resolved us s e) Logical → HasSome e
   some_kind e h u (inl g) = let r = rule.in_text us s ds known some e Integer h u g in record { kind = or_left (has_kind us e Integer) (has_kind us e Logical) r.kind; uses = r.uses }
   some_kind e h u (inr g) = let r = rule.in_text us s ds known some e Logical h u g in record { kind = or_right (has_kind us e Integer) (has_kind us e Logical) r.kind; uses = r.uses }
 
-  no_function : (x : List ℕ) (b : Bool) → is_constant us x ≡ b → IsOutput ds (value_or_name b x s) → is_function us x ≡ false
+  no_function : (x : List ℕ) (b : Bool) → is_constant_name us x ≡ b → IsOutput ds (value_or_name b x s) → is_function us x ≡ false
   no_function x true c h = constant_no_function us x c
   no_function x false c h = variable_no_function us x (declared_so x h)
 
@@ -114,11 +114,11 @@ module _ (us : List Use) (s : Store) (ds : List Declaration) (known : Knows us s
   shown : (e : Expression) → HasSome e → suits_output us e ≡ has_some_kind us e → IsShown e
   shown e h g = record { kind = g ∙ h.kind; uses = h.uses }
 
-  output_expression : (e : Expression) → IsSource e → AreLists (uses_in e) → IsOutput ds (resolved us s e) → IsShown e
+  output_expression : (e : Expression) → IsSource e → AreLists (uses77_in e) → IsOutput ds (resolved us s e) → IsShown e
   output_expression (Number n) h u g = shown (Number n) (some_kind (Number n) h u g) refl
   output_expression (Logic b) h u g = shown (Logic b) (some_kind (Logic b) h u g) refl
-  output_expression (Named x no_subscripts) h u g = record { kind = refl; uses = (bare_right x (no_function x (is_constant us x) refl g), tt) }
-  output_expression (Named x (subscript p ps)) h u g = shown (Named x (subscript p ps)) (some_kind (Named x (subscript p ps)) h u (list_kind x (is_array us x) _ _ g)) refl
+  output_expression (Named x no_subscripts) h u g = record { kind = refl; uses = (bare_right x (no_function x (is_constant_name us x) refl g), tt) }
+  output_expression (Named x (subscript p ps)) h u g = shown (Named x (subscript p ps)) (some_kind (Named x (subscript p ps)) h u (list_kind x (is_array_name us x) _ _ g)) refl
   output_expression (Unary o a) h u g = shown (Unary o a) (some_kind (Unary o a) h u g) refl
   output_expression (Binary o a b) h u g = shown (Binary o a b) (some_kind (Binary o a b) h u g) refl
   output_expression e h u g = absurd h
@@ -132,15 +132,15 @@ module _ (us : List Use) (s : Store) (ds : List Declaration) (known : Knows us s
   control : (x : List ℕ) (vs : List (List ℕ)) (a b c : Expression) → IsSource a → IsSource b → IsSource c → AreLists (control_uses x a b c) → IsDoVariable ds x vs
       → HasKind ds (resolved us s a) Integer → HasKind ds (resolved us s b) Integer → HasKind ds (resolved us s c) Integer → IsControl x a b c
   control x vs a b c h k l u v f g m =
-      let front = all_left (IsArrayOrFunction us) (uses_in a ++ uses_in b) (uses_in c) u.1 in
-      let p = rule.in_text us s ds known some a Integer h (all_left (IsArrayOrFunction us) (uses_in a) (uses_in b) front) f in
-      let q = rule.in_text us s ds known some b Integer k (all_right (IsArrayOrFunction us) (uses_in a) (uses_in b) front) g in
-      let r = rule.in_text us s ds known some c Integer l (all_right (IsArrayOrFunction us) (uses_in a ++ uses_in b) (uses_in c) u.1) m in
+      let front = all_left (IsArrayOrFunction us) (uses77_in a ++ uses77_in b) (uses77_in c) u.1 in
+      let p = rule.in_text us s ds known some a Integer h (all_left (IsArrayOrFunction us) (uses77_in a) (uses77_in b) front) f in
+      let q = rule.in_text us s ds known some b Integer k (all_right (IsArrayOrFunction us) (uses77_in a) (uses77_in b) front) g in
+      let r = rule.in_text us s ds known some c Integer l (all_right (IsArrayOrFunction us) (uses77_in a ++ uses77_in b) (uses77_in c) u.1) m in
       let integer = v.integer in
       let n = named_so us s ds known some x 0 Integer integer.0 in
       record {
         kinds = both_true (has_kind us a Integer && has_kind us b Integer) (has_kind us c Integer) (both_true (has_kind us a Integer) (has_kind us b Integer) p.kind q.kind) r.kind;
-        uses = (counter_right x n.variable, all_both (IsRightUse us) (uses_in a ++ uses_in b) (uses_in c) (all_both (IsRightUse us) (uses_in a) (uses_in b) p.uses q.uses) r.uses);
+        uses = (counter_right x n.variable, all_both (IsRightUse us) (uses77_in a ++ uses77_in b) (uses77_in c) (all_both (IsRightUse us) (uses77_in a) (uses77_in b) p.uses q.uses) r.uses);
       }
 
   record IsItemInText (d : Direction) (i : Item) : Type 0 where
@@ -174,7 +174,7 @@ module _ (us : List Use) (s : Store) (ds : List Declaration) (known : Knows us s
     uses : AreRight (input_uses e)
 
   stored : (x : List ℕ) (p : Subscript) (ps : Subscripts) (k : Kind) → IsElement x k (subscript p ps) → IsInputInText (Named x (subscript p ps))
-  stored x p ps k e = record { kind = both_true (is_array us x) (are_subscripts us (subscript p ps)) e.array e.subscripts; uses = e.uses }
+  stored x p ps k e = record { kind = both_true (is_array_name us x) (are_subscripts us (subscript p ps)) e.array e.subscripts; uses = e.uses }
 
   input_expression : (e : Expression) (vs : List (List ℕ)) → IsSourceVariable e → AreLists (input_uses e) → IsInput ds (resolved_input us s e) vs → IsInputInText e
   input_expression (Named x no_subscripts) vs h u g = record { kind = refl; uses = (target_right x 0 refl (declared_so x g.0), tt) }
@@ -226,28 +226,28 @@ module _ (us : List Use) (s : Store) (ds : List Declaration) (known : Knows us s
 
   record AreAssigned (x : List ℕ) (ps : Subscripts) (e : Expression) : Type 0 where
     kinds : (is_stored_into us x (number_of_subscripts ps) && are_subscripts us ps && has_kind us e (kind_of_name us x)) ≡ true
-    uses : AreRight (target_uses x ps ++ uses_in e)
+    uses : AreRight (target_uses x ps ++ uses77_in e)
 
-  assigned : (x : List ℕ) (ps : Subscripts) (e : Expression) → IsSource (Named x ps) → IsSource e → AreLists (target_uses x ps ++ uses_in e) → AreSides x (resolved_subscripts us s ps) (resolved us s e) → AreAssigned x ps e
+  assigned : (x : List ℕ) (ps : Subscripts) (e : Expression) → IsSource (Named x ps) → IsSource e → AreLists (target_uses x ps ++ uses77_in e) → AreSides x (resolved_subscripts us s ps) (resolved us s e) → AreAssigned x ps e
   assigned x no_subscripts e h k u g =
       let m = named_so us s ds known some x 0 (kind_of_name us x) g.left.0 in
       let r = rule.in_text us s ds known some e (kind_of_name us x) k u.1 g.right in
       record {
-        kinds = both_true (not (is_array us x) && true) (has_kind us e (kind_of_name us x)) (both_true (not (is_array us x)) true (ap not (no_dimension us s ds known some x m.many)) refl) r.kind;
+        kinds = both_true (not (is_array_name us x) && true) (has_kind us e (kind_of_name us x)) (both_true (not (is_array_name us x)) true (ap not (no_dimension us s ds known some x m.many)) refl) r.kind;
         uses = (target_right x 0 refl g.variable, r.uses);
       }
   assigned x (subscript p ps) e h k u g =
-      let m = element_of x (kind_of_name us x) p ps h (all_left (IsArrayOrFunction us) (uses_in_subscripts (subscript p ps)) (uses_in e) u.1) g.left in
-      let r = rule.in_text us s ds known some e (kind_of_name us x) k (all_right (IsArrayOrFunction us) (uses_in_subscripts (subscript p ps)) (uses_in e) u.1) g.right in
+      let m = element_of x (kind_of_name us x) p ps h (all_left (IsArrayOrFunction us) (uses77_in_subscripts (subscript p ps)) (uses77_in e) u.1) g.left in
+      let r = rule.in_text us s ds known some e (kind_of_name us x) k (all_right (IsArrayOrFunction us) (uses77_in_subscripts (subscript p ps)) (uses77_in e) u.1) g.right in
       record {
         kinds = both_true (is_stored_into us x (1 + number_of_subscripts ps) && are_subscripts us (subscript p ps)) (has_kind us e (kind_of_name us x))
             (both_true (is_stored_into us x (1 + number_of_subscripts ps)) (are_subscripts us (subscript p ps)) (ap (is_stored_into us x) (one-add (number_of_subscripts ps)) ∙ m.array) m.subscripts) r.kind;
-        uses = all_both (IsRightUse us) (target_uses x (subscript p ps)) (uses_in e) m.uses r.uses;
+        uses = all_both (IsRightUse us) (target_uses x (subscript p ps)) (uses77_in e) m.uses r.uses;
       }
 
   -- ---- statements, from the tree
 
-  action_in_text : (line : ℕ) (c : Statement77) (w : Surroundings) → IsSourceAction c → AreLists (uses_of c) → IsBlock ds (block (simple us s line c)) w → SuitsInText us c
+  action_in_text : (line : ℕ) (c : Statement77) (w : Surroundings) → IsSourceAction c → AreLists (uses77_of c) → IsBlock ds (block (simple us s line c)) w → SuitsInText us c
   action_in_text line (Assign left e) w h u g =
       let a = g.0.2 in
       let r = assigned left.name left.subscripts e h.0.0 h.1.0 u (sides left.name (resolved_subscripts us s left.subscripts) (resolved us s e) a.0) in
@@ -271,19 +271,19 @@ module _ (us : List Use) (s : Store) (ds : List Declaration) (known : Knows us s
   action_in_text line EndDo w h u g = absurd h
   action_in_text line End w h u g = absurd h
 
-  condition : (c : Expression) → IsShallow c → AreLists (uses_in c) → IsWhole ds (resolved us s c) Logical → (has_kind us c Logical ≡ true) × AreRight (uses_in c)
+  condition : (c : Expression) → IsShallow c → AreLists (uses77_in c) → IsWhole ds (resolved us s c) Logical → (has_kind us c Logical ≡ true) × AreRight (uses77_in c)
   condition c h u g = let r = rule.in_text us s ds known some c Logical h.0 u g.suits in (r.kind, r.uses)
 
-  in_statement : (line : ℕ) (c : Statement77) (w : Surroundings) → IsSourceStatement c → is_declaration c ≡ false → AreLists (uses_of c) → IsBlock ds (block (alone us s line c)) w → SuitsInText us c
+  in_statement : (line : ℕ) (c : Statement77) (w : Surroundings) → IsSourceStatement c → is_declaration c ≡ false → AreLists (uses77_of c) → IsBlock ds (block (alone us s line c)) w → SuitsInText us c
   in_statement line (Program x) w h n u g = record { kinds = refl; uses = (record { suits = refl; shown = refl }, tt) }
   in_statement line (Declare k es) w h n u g = absurd cc
   in_statement line (Dimension es) w h n u g = absurd cc
   in_statement line (Constants cs) w h n u g = absurd cc
   in_statement line (Test c t) w h n u g =
       let arms = g.0.2 in
-      let r = condition c h.0 (all_left (IsArrayOrFunction us) (uses_in c) (uses_of t) u) arms.0 in
-      let p = action_in_text line t w h.1 (all_right (IsArrayOrFunction us) (uses_in c) (uses_of t) u) arms.1 in
-      record { kinds = both_true (has_kind us c Logical) (suits us t) r.0 p.kinds; uses = all_both (IsRightUse us) (uses_in c) (uses_of t) r.1 p.uses }
+      let r = condition c h.0 (all_left (IsArrayOrFunction us) (uses77_in c) (uses77_of t) u) arms.0 in
+      let p = action_in_text line t w h.1 (all_right (IsArrayOrFunction us) (uses77_in c) (uses77_of t) u) arms.1 in
+      record { kinds = both_true (has_kind us c Logical) (suits us t) r.0 p.kinds; uses = all_both (IsRightUse us) (uses77_in c) (uses77_of t) r.1 p.uses }
   in_statement line (If c) w h n u g = let arms = g.0.2 in let r = condition c h u arms.0 in record { kinds = r.0; uses = r.1 }
   in_statement line (ElseIf c) w h n u g = let arms = g.0.2 in let r = condition c h u arms.0 in record { kinds = r.0; uses = r.1 }
   in_statement line (Do n x a b c) w h e u g =
@@ -304,18 +304,18 @@ module _ (us : List Use) (s : Store) (ds : List Declaration) (known : Knows us s
 
 -- ---- statements, from the text: what stands with a list is an array or a function
 
-module _ (us : List Use) where
-  abbrev AreListed : List Use → Type 0
+module _ (us : List Use77) where
+  abbrev AreListed : List Use77 → Type 0
   AreListed vs = AllByRecursion (IsArrayOrFunction us) vs
 
-  some_lists : (e : Expression) → IsSource e → has_some_kind us e ≡ true → AreListed (uses_in e)
+  some_lists : (e : Expression) → IsSource e → has_some_kind us e ≡ true → AreListed (uses77_in e)
   some_lists e h g = by (or_cases (has_kind us e Integer) (has_kind us e Logical) g)
     where
-      by : (has_kind us e Integer ≡ true) ⊎ (has_kind us e Logical ≡ true) → AreListed (uses_in e)
+      by : (has_kind us e Integer ≡ true) ⊎ (has_kind us e Logical ≡ true) → AreListed (uses77_in e)
       by (inl k) = rule.lists us e Integer h k
       by (inr k) = rule.lists us e Logical h k
 
-  output_lists : (e : Expression) → IsSource e → suits_output us e ≡ true → AreListed (uses_in e)
+  output_lists : (e : Expression) → IsSource e → suits_output us e ≡ true → AreListed (uses77_in e)
   output_lists (Number n) h g = tt
   output_lists (Logic b) h g = tt
   output_lists (Named x no_subscripts) h g = (λ l. absurd cc, tt)
@@ -328,22 +328,22 @@ module _ (us : List Use) where
   control_lists x a b c h k l g =
       let front = left_true (has_kind us a Integer && has_kind us b Integer) (has_kind us c Integer) g in (
         λ l. absurd cc,
-        all_both (IsArrayOrFunction us) (uses_in a ++ uses_in b) (uses_in c)
-            (all_both (IsArrayOrFunction us) (uses_in a) (uses_in b) (rule.lists us a Integer h (left_true (has_kind us a Integer) (has_kind us b Integer) front)) (rule.lists us b Integer k (right_true (has_kind us a Integer) (has_kind us b Integer) front)))
+        all_both (IsArrayOrFunction us) (uses77_in a ++ uses77_in b) (uses77_in c)
+            (all_both (IsArrayOrFunction us) (uses77_in a) (uses77_in b) (rule.lists us a Integer h (left_true (has_kind us a Integer) (has_kind us b Integer) front)) (rule.lists us b Integer k (right_true (has_kind us a Integer) (has_kind us b Integer) front)))
             (rule.lists us c Integer l (right_true (has_kind us a Integer && has_kind us b Integer) (has_kind us c Integer) g)),
       )
 
   target_lists : (x : List ℕ) (ps : Subscripts) → IsSource (Named x ps) → is_stored_into us x (number_of_subscripts ps) ≡ true → are_subscripts us ps ≡ true → AreListed (target_uses x ps)
   target_lists x no_subscripts h a g = (λ l. absurd cc, tt)
   target_lists x (subscript p ps) h a g = (
-    λ l. or_left (is_array us x) (is_function us x) (sym (ap (is_stored_into us x) (one-add (number_of_subscripts ps))) ∙ a),
+    λ l. or_left (is_array_name us x) (is_function us x) (sym (ap (is_stored_into us x) (one-add (number_of_subscripts ps))) ∙ a),
     rule.lists_in us (subscript p ps) h.1 g,
   )
 
   input_lists : (e : Expression) → IsSourceVariable e → suits_input us e ≡ true → AreListed (input_uses e)
   input_lists (Named x no_subscripts) h g = (λ l. absurd cc, tt)
   input_lists (Named x (subscript p ps)) h g =
-      target_lists x (subscript p ps) h (ap (is_stored_into us x) (one-add (number_of_subscripts ps)) ∙ left_true (is_array us x) (are_subscripts us (subscript p ps)) g) (right_true (is_array us x) (are_subscripts us (subscript p ps)) g)
+      target_lists x (subscript p ps) h (ap (is_stored_into us x) (one-add (number_of_subscripts ps)) ∙ left_true (is_array_name us x) (are_subscripts us (subscript p ps)) g) (right_true (is_array_name us x) (are_subscripts us (subscript p ps)) g)
   input_lists e h g = absurd h
 
   value_lists : (d : Direction) (e : Expression) → IsSourceValue d e → suits_value us d e ≡ true → AreListed (value_uses d e)
@@ -364,10 +364,10 @@ module _ (us : List Use) where
         all_both (IsArrayOrFunction us) (uses_in_item d i) (uses_in_items d is)
         (item_lists d i h.0 (left_true (suits_item us d i) (suits_items us d is) g)) (items_lists d is h.1 (right_true (suits_item us d i) (suits_items us d is) g))
 
-  action_lists : (c : Statement77) → IsSourceAction c → suits us c ≡ true → AreListed (uses_of c)
+  action_lists : (c : Statement77) → IsSourceAction c → suits us c ≡ true → AreListed (uses77_of c)
   action_lists (Assign left e) h g =
       let front = left_true (is_stored_into us left.name (number_of_subscripts left.subscripts) && are_subscripts us left.subscripts) (has_kind us e (kind_of_name us left.name)) g in
-      all_both (IsArrayOrFunction us) (target_uses left.name left.subscripts) (uses_in e)
+      all_both (IsArrayOrFunction us) (target_uses left.name left.subscripts) (uses77_in e)
       (target_lists left.name left.subscripts h.0.0 (left_true (is_stored_into us left.name (number_of_subscripts left.subscripts)) (are_subscripts us left.subscripts) front) (right_true (is_stored_into us left.name (number_of_subscripts left.subscripts)) (are_subscripts us left.subscripts) front))
       (rule.lists us e (kind_of_name us left.name) h.1.0 (right_true (is_stored_into us left.name (number_of_subscripts left.subscripts) && are_subscripts us left.subscripts) (has_kind us e (kind_of_name us left.name)) g))
   action_lists (Go n) h g = tt
@@ -389,13 +389,13 @@ module _ (us : List Use) where
   action_lists EndDo h g = absurd h
   action_lists End h g = absurd h
 
-  statement_lists : (c : Statement77) → IsSourceStatement c → is_declaration c ≡ false → suits us c ≡ true → AreListed (uses_of c)
+  statement_lists : (c : Statement77) → IsSourceStatement c → is_declaration c ≡ false → suits us c ≡ true → AreListed (uses77_of c)
   statement_lists (Program x) h n g = (λ l. absurd cc, tt)
   statement_lists (Declare k es) h n g = absurd cc
   statement_lists (Dimension es) h n g = absurd cc
   statement_lists (Constants cs) h n g = absurd cc
   statement_lists (Test c t) h n g =
-      all_both (IsArrayOrFunction us) (uses_in c) (uses_of t) (rule.lists us c Logical h.0.0 (left_true (has_kind us c Logical) (suits us t) g)) (action_lists t h.1 (right_true (has_kind us c Logical) (suits us t) g))
+      all_both (IsArrayOrFunction us) (uses77_in c) (uses77_of t) (rule.lists us c Logical h.0.0 (left_true (has_kind us c Logical) (suits us t) g)) (action_lists t h.1 (right_true (has_kind us c Logical) (suits us t) g))
   statement_lists (If c) h n g = rule.lists us c Logical h.0 g
   statement_lists (ElseIf c) h n g = rule.lists us c Logical h.0 g
   statement_lists (Do m x a b c) h n g = control_lists x a b c h.2.0 h.3.0 h.4.0 g
@@ -416,11 +416,11 @@ own_action : (c : Statement77) → IsSourceAction c → action c ≡ c
 own_action (Test c t) h = absurd h
 own_action c h = refl
 
-module _ (us : List Use) (s : Store) (ds : List Declaration) (known : Knows us s ds) (some : HaveDimensions us) where
-  within : (w : Surroundings) → AllByRecursion (λ x. is_array us x ≡ false) w.variables → IsWithin us s ds known w.variables w.variables
+module _ (us : List Use77) (s : Store) (ds : List Declaration) (known : Knows us s ds) (some : HaveDimensions us) where
+  within : (w : Surroundings) → AllByRecursion (λ x. is_array_name us x ≡ false) w.variables → IsWithin us s ds known w.variables w.variables
   within w h = record { inside = λ x c. c; scalars = h }
 
-  in_tree : (line : ℕ) (c : Statement77) (w : Surroundings) → IsPlaced us c line w → IsSourceStatement c → is_declaration c ≡ false → AreGood us (uses_of c) → suits us c ≡ true → IsBlock ds (block (alone us s line c)) w
+  in_tree : (line : ℕ) (c : Statement77) (w : Surroundings) → IsPlaced us c line w → IsSourceStatement c → is_declaration c ≡ false → AreGood us (uses77_of c) → suits us c ≡ true → IsBlock ds (block (alone us s line c)) w
   in_tree line (Program x) w p h n u g = tt
   in_tree line (Declare k es) w p h n u g = absurd cc
   in_tree line (Dimension es) w p h n u g = absurd cc
@@ -431,8 +431,8 @@ module _ (us : List Use) (s : Store) (ds : List Declaration) (known : Knows us s
           p.numbered,
           refl,
           (
-            whole us s ds known c Logical h.0 (all_left (IsGood us) (uses_in c) (uses_of t) u) (left_true (has_kind us c Logical) (suits us t) g),
-            action_holds us s ds known line t w w.variables (within w p.scalars) p.numbered h.1 (all_right (IsGood us) (uses_in c) (uses_of t) u) (right_true (has_kind us c Logical) (suits us t) g)
+            whole us s ds known c Logical h.0 (all_left (IsGood us) (uses77_in c) (uses77_of t) u) (left_true (has_kind us c Logical) (suits us t) g),
+            action_holds us s ds known line t w w.variables (within w p.scalars) p.numbered h.1 (all_right (IsGood us) (uses77_in c) (uses77_of t) u) (right_true (has_kind us c Logical) (suits us t) g)
                 (sym (ap (λ e. misuses_variable us e w.variables) own) ∙ p.variables) (subst (λ (e : Statement77). AllByRecursion (Contains w.ahead) (target e)) own p.ahead),
             tt,
           ),
@@ -457,8 +457,8 @@ module _ (us : List Use) (s : Store) (ds : List Declaration) (known : Knows us s
   in_tree line (Read is) w p h n u g = action_holds us s ds known line (Read is) w w.variables (within w p.scalars) p.numbered h u g p.variables p.ahead
   in_tree line (Print is) w p h n u g = action_holds us s ds known line (Print is) w w.variables (within w p.scalars) p.numbered h u g p.variables p.ahead
 
-  pub one_rule : (line : ℕ) (c : Statement77) (w : Surroundings) → IsPlaced us c line w → IsSourceStatement c → is_declaration c ≡ false → AllByRecursion (Contains us) (uses_of c) → SuitsInText us c ↔ SuitsInTree us s ds c line w
+  pub one_rule : (line : ℕ) (c : Statement77) (w : Surroundings) → IsPlaced us c line w → IsSourceStatement c → is_declaration c ≡ false → AllByRecursion (Contains us) (uses77_of c) → SuitsInText us c ↔ SuitsInTree us s ds c line w
   one_rule line c w p h n among = (
-    λ t. record { kinds = in_tree line c w p h n (good us (uses_of c) among t.uses) t.kinds; lists = statement_lists us c h n t.kinds },
+    λ t. record { kinds = in_tree line c w p h n (good us (uses77_of c) among t.uses) t.kinds; lists = statement_lists us c h n t.kinds },
     λ t. in_statement us s ds known some line c w h n t.lists t.kinds,
   )

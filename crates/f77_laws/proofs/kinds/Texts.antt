@@ -11,9 +11,9 @@ use Rattle.meaning.specs.Dialect.{Dialect}
 use Rattle.meaning.specs.Store.{Store, Cell}
 use Rattle.meaning.specs.Value.{is_in_range}
 use Rattle.f77_grammar.specs.Statement77.{Labelled}
-use Rattle.f77_grammar.specs.program.Uses.{Use, uses_in_text}
+use Rattle.f77_grammar.specs.program.Uses.{Use77, uses_in_text}
 use Rattle.f77_grammar.specs.program.Limits.{constants_of, dimension_of, bounds_of_name}
-use Rattle.f77_grammar.specs.program.Tree.{bounds_in, variables_of, declaration_of}
+use Rattle.f77_grammar.specs.program.Tree.{bounds_or_empty, program_variables_of, declaration_of_name}
 use Rattle.f77_grammar.specs.program.Program77.{ReadsStatements}
 use Rattle.f77_laws.specs.Source.{IsSourceCard}
 use Rattle.f77_laws.proofs.Lists.{not_both}
@@ -39,7 +39,7 @@ module _ (d : Dialect) (small : d.bits ≤ 126) where
   literal_range (Truth t) h = refl
 
   module _ (text : List Labelled) (cards : AllByRecursion IsSourceCard text) (constants : HasConstants d text) where
-    abbrev us : List Use
+    abbrev us : List Use77
     us = uses_in_text text
 
     abbrev s : Store
@@ -58,12 +58,12 @@ module _ (d : Dialect) (small : d.bits ≤ 126) where
     pub knows : Knows us s (declarations d text)
     knows = record {
       variable = λ x h. record {
-        it = declaration_of d us s text x;
-        is = declared_name d us s text (variables_of us) x (variable_named us x h);
+        it = declaration_of_name d us s text x;
+        is = declared_name d us s text (program_variables_of us) x (variable_named us x h);
         kind = refl;
-        many = length-map (bounds_of_name text x) (λ b. bounds_in (dimension_of d s b)) ∙ number_of_bounds text x (proper_text text cards);
+        many = length-map (bounds_of_name text x) (λ b. bounds_or_empty (dimension_of d s b)) ∙ number_of_bounds text x (proper_text text cards);
       };
-      other = λ x h. undeclared_name d us s text (variables_of us) x (λ c. not_both _ (variable_used us x c).variable h);
+      other = λ x h. undeclared_name d us s text (program_variables_of us) x (λ c. not_both _ (variable_used us x c).variable h);
       constant = λ x h. valued x (text_constants d us text constants.kinds) (constants.values x h);
     }
 
@@ -82,7 +82,7 @@ knows_of_read d text p small cards reads = known.knows d text small (right d tex
 
 pub one_rule_of_read : OneRuleOfRead
 one_rule_of_read d text p e k small cards reads expression =
-    let us : List Use = uses_in_text text in
+    let us : List Use77 = uses_in_text text in
     let s : Store = constants_of d text in
     subst (λ (q : Program). HasKindInText us e k ↔ HasKindInTree us s q.declarations e k) (sym (read_tree d text p reads))
     (one_rule us s (declarations d text) (knows_of_read d text p small cards reads) (in_text text (proper_text text cards)) e k expression.source expression.among)

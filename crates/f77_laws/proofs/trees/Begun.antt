@@ -5,19 +5,19 @@ use Rattle.tree.specs.Plain as tree
 use Rattle.tree.specs.Plain.{Expression}
 use Rattle.meaning.specs.Store.{Store}
 use Rattle.f77_grammar.specs.Statement77.{Labelled, Statement77, If, ElseIf, Else, EndIf, Do, EndDo}
-use Rattle.f77_grammar.specs.program.Text.{is_label, bears, stands_in, is_end_do}
+use Rattle.f77_grammar.specs.program.Text.{is_label, bears, label_stands_in, is_end_do}
 use Rattle.f77_grammar.specs.program.Nesting.{is_no_loop_end}
-use Rattle.f77_grammar.specs.program.Uses.{Use}
+use Rattle.f77_grammar.specs.program.Uses.{Use77}
 use Rattle.f77_laws.specs.trees.Steps.{Piece, Rest, Outermost, InArm, block_of, up_to, beyond, preceded, arm_begun}
-use Rattle.f77_grammar.specs.program.Tree.{mark_of, resolved, simple}
+use Rattle.f77_grammar.specs.program.Tree.{label_before, resolved, simple}
 use Rattle.f77_laws.specs.trees.Steps.{else_begun, if_begun, loop_begun, outermost_block}
 use Rattle.f77_laws.specs.trees.Steps.{begun, rest_from}
 use Rattle.f77_laws.proofs.trees.Lists.{left_false, right_false, both_false, not_both}
 use Rattle.f77_laws.proofs.trees.Shapes.{label_is}
-use Rattle.f77_grammar.specs.program.Blocks.{stands_alone, IsRange, IsUnit, AreBlock, AreArms}
+use Rattle.f77_grammar.specs.program.Blocks.{stands_alone, IsRange, IsUnit, AreBlock77, AreArms77}
 use Rattle.f77_grammar.specs.program.Blocks.IsUnit.{alone, block_if, loop, end_do}
-use Rattle.f77_grammar.specs.program.Blocks.AreBlock.{nothing, unit}
-use Rattle.f77_grammar.specs.program.Blocks.AreArms.{end_if, else_part, else_if}
+use Rattle.f77_grammar.specs.program.Blocks.AreBlock77.{nothing, unit}
+use Rattle.f77_grammar.specs.program.Blocks.AreArms77.{end_if, else_part, else_if}
 
 -- ---- pieces before others
 
@@ -100,22 +100,22 @@ left_empty (x ∷ xs) ys h = absurd (let e = ap length h in omega arith)
 some_stand : (x : Labelled) (xs : List Labelled) → x ∷ xs ≡ [] → ⊥
 some_stand x xs h = let e = ap length h in omega arith
 
-pub none_left : (n : ℕ) (xs ys : List Labelled) → stands_in (xs ++ ys) n ≡ false → stands_in xs n ≡ false
+pub none_left : (n : ℕ) (xs ys : List Labelled) → label_stands_in (xs ++ ys) n ≡ false → label_stands_in xs n ≡ false
 none_left n [] ys h = refl
 none_left n (x ∷ xs) ys h =
-    both_false (bears n x) (stands_in xs n) (left_false (bears n x) (stands_in (xs ++ ys) n) h)
-    (none_left n xs ys (right_false (bears n x) (stands_in (xs ++ ys) n) h))
+    both_false (bears n x) (label_stands_in xs n) (left_false (bears n x) (label_stands_in (xs ++ ys) n) h)
+    (none_left n xs ys (right_false (bears n x) (label_stands_in (xs ++ ys) n) h))
 
-pub none_right : (n : ℕ) (xs ys : List Labelled) → stands_in (xs ++ ys) n ≡ false → stands_in ys n ≡ false
+pub none_right : (n : ℕ) (xs ys : List Labelled) → label_stands_in (xs ++ ys) n ≡ false → label_stands_in ys n ≡ false
 none_right n [] ys h = h
-none_right n (x ∷ xs) ys h = none_right n xs ys (right_false (bears n x) (stands_in (xs ++ ys) n) h)
+none_right n (x ∷ xs) ys h = none_right n xs ys (right_false (bears n x) (label_stands_in (xs ++ ys) n) h)
 
 range_left : (n : ℕ) (xs : List Labelled) (y : Labelled) (ys : List Labelled) → IsRange n (xs ++ y ∷ ys)
-    → stands_in xs n ≡ false
+    → label_stands_in xs n ≡ false
 range_left n [] y ys h = refl
 range_left n (x ∷ []) y ys h = both_false (bears n x) false h.0 refl
 range_left n (x ∷ z ∷ zs) y ys h =
-    both_false (bears n x) (stands_in (z ∷ zs) n) h.0 (range_left n (z ∷ zs) y ys h.1)
+    both_false (bears n x) (label_stands_in (z ∷ zs) n) h.0 (range_left n (z ∷ zs) y ys h.1)
 
 pub range_right : (n : ℕ) (xs : List Labelled) (y : Labelled) (ys : List Labelled) → IsRange n (xs ++ y ∷ ys)
     → IsRange n (y ∷ ys)
@@ -135,11 +135,11 @@ one_label m n [] h k = absurd h
 one_label m n (x ∷ []) h k = label_as m n x true h.0 k.0
 one_label m n (x ∷ y ∷ ys) h k = one_label m n (y ∷ ys) h.1 k.1
 
-other_label : (m n : ℕ) (xs : List Labelled) → IsRange m xs → stands_in xs n ≡ false → (m == n) ≡ false
+other_label : (m n : ℕ) (xs : List Labelled) → IsRange m xs → label_stands_in xs n ≡ false → (m == n) ≡ false
 other_label m n [] h k = absurd h
 other_label m n (x ∷ []) h k = label_as m n x false h.0 (left_false (bears n x) false k)
 other_label m n (x ∷ y ∷ ys) h k =
-    other_label m n (y ∷ ys) h.1 (right_false (bears n x) (stands_in (y ∷ ys) n) k)
+    other_label m n (y ∷ ys) h.1 (right_false (bears n x) (label_stands_in (y ∷ ys) n) k)
 
 outer_label : (m n : ℕ) (x : Labelled) (xs : List Labelled) → IsRange m xs → IsRange n (x ∷ xs) → (m == n) ≡ true
 outer_label m n x [] h k = absurd h
@@ -150,7 +150,7 @@ no_end n x c e t h = let f : is_no_loop_end x.statement ≡ true = ap is_no_loop
 
 -- ---- what is formed
 
-module _ (us : List Use) (s : Store) (named : List ℕ) where
+module _ (us : List Use77) (s : Store) (named : List ℕ) where
   abbrev become : List Labelled → Rest
   become xs = rest_from us s named xs
 
@@ -159,7 +159,7 @@ module _ (us : List Use) (s : Store) (named : List ℕ) where
     begins : (ys : List Labelled) → become (xs ++ ys) ≡ preceded (record { ends = ends; made = cs }) (become ys)
     some : xs ≡ [] → ⊥
     last : (n : ℕ) → IsRange n xs → is_label n ends ≡ true
-    inner : (n : ℕ) → stands_in xs n ≡ false → is_label n ends ≡ false
+    inner : (n : ℕ) → label_stands_in xs n ≡ false → is_label n ends ≡ false
 
   record ArePieces (xs : List Labelled) (cs : List tree.Statement) : Type 0 where
     pieces : List Piece
@@ -167,7 +167,7 @@ module _ (us : List Use) (s : Store) (named : List ℕ) where
     begin_ : (ys : List Labelled) → become (xs ++ ys) ≡ onto pieces (become ys)
     none : xs ≡ [] → pieces ≡ []
     last : (n : ℕ) → IsRange n xs → EndWith n pieces
-    inner : (n : ℕ) → stands_in xs n ≡ false → EndNone n pieces
+    inner : (n : ℕ) → label_stands_in xs n ≡ false → EndNone n pieces
 
   record EndIfBlock (xs : List Labelled) (arms : tree.Arms) (part : tree.Block) : Type 0 where
     begin_ : (ys : List Labelled) → become (xs ++ ys) ≡ InArm [] arms part (become ys)
@@ -180,7 +180,7 @@ module _ (us : List Use) (s : Store) (named : List ℕ) where
 
   begun_alone : (x : Labelled) (c : Statement77) (r : Rest) → stands_alone c ≡ true
       → begun us s named x c r
-      ≡ preceded (record { ends = x.label; made = mark_of named x.label ++ simple us s x.line c }) r
+      ≡ preceded (record { ends = x.label; made = label_before named x.label ++ simple us s x.line c }) r
   begun_alone x (If c) r e = absurd cc
   begun_alone x (ElseIf c) r e = absurd cc
   begun_alone x Else r e = absurd cc
@@ -189,7 +189,7 @@ module _ (us : List Use) (s : Store) (named : List ℕ) where
   begun_alone x c r e = refl
 
   alone_piece : (x : Labelled) → stands_alone x.statement ≡ true
-      → IsPiece (x ∷ []) (mark_of named x.label ++ simple us s x.line x.statement)
+      → IsPiece (x ∷ []) (label_before named x.label ++ simple us s x.line x.statement)
   alone_piece x e =
       record {
         ends = x.label;
@@ -208,18 +208,18 @@ module _ (us : List Use) (s : Store) (named : List ℕ) where
 
   if_piece : (x : Labelled) (c : Expression) (first later : List Labelled) (body : List tree.Statement)
       (arms : tree.Arms) (part : tree.Block) → x.statement ≡ If c → ArePieces first body → EndIfBlock later arms part
-      → IsPiece (x ∷ (first ++ later)) (mark_of named x.label
+      → IsPiece (x ∷ (first ++ later)) (label_before named x.label
       ++ tree.If x.line (tree.arm (resolved us s c) (tree.block body) arms) part ∷ [])
   if_piece x c first later body arms part e h k =
       record {
         ends = None;
         begins = λ ys.
             ap (λ t. begun us s named x t (become ((first ++ later) ++ ys))) e
-            ∙ ap (if_begun x.line (mark_of named x.label) (resolved us s c))
+            ∙ ap (if_begun x.line (label_before named x.label) (resolved us s c))
             (before_others first later body arms part ys h k)
             ∙ ap (λ t. preceded (record {
               ends = None;
-              made = mark_of named x.label
+              made = label_before named x.label
                   ++ tree.If x.line (tree.arm (resolved us s c) t arms) part ∷ [];
             }) (become ys)) (block_made first body h);
         some = some_stand x (first ++ later);
@@ -229,20 +229,20 @@ module _ (us : List Use) (s : Store) (named : List ℕ) where
 
   loop_piece : (x : Labelled) (n : ℕ) (v : List ℕ) (a b c : Expression) (range : List Labelled)
       (body : List tree.Statement) → x.statement ≡ Do (Some n) v a b c → IsRange n range → ArePieces range body
-      → IsPiece (x ∷ range) (mark_of named x.label
+      → IsPiece (x ∷ range) (label_before named x.label
       ++ tree.Do x.line v (resolved us s a) (resolved us s b) (resolved us s c) (tree.block body) ∷ [])
   loop_piece x n v a b c range body e r h =
       record {
         ends = Some n;
         begins = λ ys.
             ap (λ t. begun us s named x t (become (range ++ ys))) e
-            ∙ ap (loop_begun make (mark_of named x.label) n) (h.begin_ ys)
-            ∙ looped make (mark_of named x.label) n h.pieces (become ys) (h.last n r)
-            ∙ ap (λ t. preceded (record { ends = Some n; made = mark_of named x.label ++ make t ∷ [] }) (become ys))
+            ∙ ap (loop_begun make (label_before named x.label) n) (h.begin_ ys)
+            ∙ looped make (label_before named x.label) n h.pieces (become ys) (h.last n r)
+            ∙ ap (λ t. preceded (record { ends = Some n; made = label_before named x.label ++ make t ∷ [] }) (become ys))
             (ap tree.block h.made);
         some = some_stand x range;
         last = λ k t. outer_label n k x range r t;
-        inner = λ k t. other_label n k range r (right_false (bears k x) (stands_in range k) t);
+        inner = λ k t. other_label n k range r (right_false (bears k x) (label_stands_in range k) t);
       }
     where
       make : tree.Block → tree.Statement
@@ -250,20 +250,20 @@ module _ (us : List Use) (s : Store) (named : List ℕ) where
 
   end_do_piece : (x end : Labelled) (n : ℕ) (v : List ℕ) (a b c : Expression) (range : List Labelled)
       (body : List tree.Statement) → x.statement ≡ Do (Some n) v a b c → ArePieces range body
-      → end.statement ≡ EndDo → stands_in range n ≡ false → bears n end ≡ true
-      → IsPiece (x ∷ (range ++ end ∷ [])) (mark_of named x.label
+      → end.statement ≡ EndDo → label_stands_in range n ≡ false → bears n end ≡ true
+      → IsPiece (x ∷ (range ++ end ∷ [])) (label_before named x.label
       ++ tree.Do x.line v (resolved us s a) (resolved us s b) (resolved us s c)
-      (tree.block (body ++ mark_of named end.label)) ∷ [])
+      (tree.block (body ++ label_before named end.label)) ∷ [])
   end_do_piece x end n v a b c range body e h f t g =
       record {
         ends = Some n;
         begins = λ ys.
             ap (λ o. begun us s named x o (become ((range ++ end ∷ []) ++ ys))) e
-            ∙ ap (loop_begun make (mark_of named x.label) n) (before_end ys)
-            ∙ looped make (mark_of named x.label) n (h.pieces ++ p ∷ []) (become ys)
+            ∙ ap (loop_begun make (label_before named x.label) n) (before_end ys)
+            ∙ looped make (label_before named x.label) n (h.pieces ++ p ∷ []) (become ys)
             (end_behind n h.pieces p (h.inner n t) g)
-            ∙ ap (λ o. preceded (record { ends = Some n; made = mark_of named x.label ++ make o ∷ [] }) (become ys))
-            (ap tree.block (made_behind h.pieces p ∙ ap (λ cs. cs ++ mark_of named end.label) h.made));
+            ∙ ap (λ o. preceded (record { ends = Some n; made = label_before named x.label ++ make o ∷ [] }) (become ys))
+            (ap tree.block (made_behind h.pieces p ∙ ap (λ cs. cs ++ label_before named end.label) h.made));
         some = some_stand x (range ++ end ∷ []);
         last = λ k r.
             absurd (not_both (is_end_do end.statement) (ap is_end_do f) (range_right k (x ∷ range) end [] r).2);
@@ -276,12 +276,12 @@ module _ (us : List Use) (s : Store) (named : List ℕ) where
       make = tree.Do x.line v (resolved us s a) (resolved us s b) (resolved us s c)
 
       p : Piece
-      p = record { ends = end.label; made = mark_of named end.label }
+      p = record { ends = end.label; made = label_before named end.label }
 
       end_begun : (ys : List Labelled) → become (end ∷ ys) ≡ preceded p (become ys)
       end_begun ys =
           ap (λ o. begun us s named end o (become ys)) f
-          ∙ ap (λ cs. preceded (record { ends = end.label; made = cs }) (become ys)) (append-nil (mark_of named end.label))
+          ∙ ap (λ cs. preceded (record { ends = end.label; made = cs }) (become ys)) (append-nil (label_before named end.label))
 
       before_end : (ys : List Labelled) → become ((range ++ end ∷ []) ++ ys) ≡ onto (h.pieces ++ p ∷ []) (become ys)
       before_end ys =
@@ -368,12 +368,12 @@ module _ (us : List Use) (s : Store) (named : List ℕ) where
     unit_pieces xs cs (end_do x end n v a b c range body e h f t g) =
         end_do_piece x end n v a b c range body e (block_pieces range body h) f t g
 
-    block_pieces : (xs : List Labelled) (cs : List tree.Statement) → AreBlock us s named xs cs → ArePieces xs cs
+    block_pieces : (xs : List Labelled) (cs : List tree.Statement) → AreBlock77 us s named xs cs → ArePieces xs cs
     block_pieces xs cs nothing = no_pieces
     block_pieces xs cs (unit first rest ds es h k) =
         more_pieces first rest ds es (unit_pieces first ds h) (block_pieces rest es k)
 
-    arms_pieces : (xs : List Labelled) (arms : tree.Arms) (part : tree.Block) → AreArms us s named xs arms part
+    arms_pieces : (xs : List Labelled) (arms : tree.Arms) (part : tree.Block) → AreArms77 us s named xs arms part
         → EndIfBlock xs arms part
     arms_pieces xs arms part (end_if x e) = end_if_ends x e
     arms_pieces xs arms part (else_part x end ys body e h f) = else_part_ends x end ys body e (block_pieces ys body h) f
@@ -386,7 +386,7 @@ module _ (us : List Use) (s : Store) (named : List ℕ) where
   made_in (Outermost ps) = flat_map (λ (p : Piece). p.made) ps
   made_in (InArm ps arms part r) = flat_map (λ (p : Piece). p.made) ps
 
-  pub block_is_made : (xs : List Labelled) (cs : List tree.Statement) → AreBlock us s named xs cs
+  pub block_is_made : (xs : List Labelled) (cs : List tree.Statement) → AreBlock77 us s named xs cs
       → cs ≡ made_in (rest_from us s named xs)
   block_is_made xs cs h =
       let k = block_pieces xs cs h in

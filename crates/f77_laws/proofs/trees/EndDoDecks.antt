@@ -7,7 +7,7 @@ use Rattle.tree.specs.declared.ops.Op.TheVariants.{Eq}
 use Rattle.f77_grammar.specs.Statement77.{Labelled, If, EndIf, Do, EndDo}
 use Rattle.f77_grammar.specs.program.Limits.{no_values}
 use Rattle.f77_grammar.specs.program.EndDo.{with_loop_labels}
-use Rattle.f77_grammar.specs.program.Blocks.{AreBlock}
+use Rattle.f77_grammar.specs.program.Blocks.{AreBlock77}
 use Rattle.f77_laws.specs.trees.Written.{AreClosed}
 use Rattle.f77_laws.specs.trees.Written.IsClosed.{end_do}
 use Rattle.f77_laws.specs.trees.Written.AreClosed.{nothing, more}
@@ -56,7 +56,7 @@ two_loops_one_end =
     ∷ l 10 3 (EndDo)
     ∷ []
 
-two_loops_no_block : (cs : List tree.Statement) → AreBlock [] no_values [] (with_loop_labels two_loops_one_end) cs → ⊥
+two_loops_no_block : (cs : List tree.Statement) → AreBlock77 [] no_values [] (with_loop_labels two_loops_one_end) cs → ⊥
 two_loops_no_block cs h =
     let nested = (nested_form_block [] no_values [] (with_loop_labels two_loops_one_end) (refl, (refl, (refl, tt)))).1 (cs, h) in
     not_both true refl nested.1.1.0

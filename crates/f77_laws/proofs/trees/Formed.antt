@@ -9,14 +9,14 @@ use Rattle.tree.specs.Plain as tree
 use Rattle.tree.specs.Plain.{Expression}
 use Rattle.meaning.specs.Store.{Store}
 use Rattle.f77_grammar.specs.Statement77.{Labelled, Statement77, If, ElseIf, Else, EndIf, Do, EndDo}
-use Rattle.f77_grammar.specs.program.Text.{Place, places_from, stands_in, is_last_else}
+use Rattle.f77_grammar.specs.program.Text.{Place77, places_from, label_stands_in, is_last_else}
 use Rattle.f77_grammar.specs.program.Nesting.{is_no_loop_end, begins_loop, is_do_of, own_since_if}
 use Rattle.f77_grammar.specs.program.Nesting.{has_open_if, is_loop_open, since_if}
 use Rattle.f77_grammar.specs.program.Nesting.{suits_else, nests_wrongly, ends_loops_wrongly, is_left_open}
 use Rattle.f77_grammar.specs.program.Nesting.{is_closed_wrongly}
-use Rattle.f77_grammar.specs.program.Uses.{Use}
+use Rattle.f77_grammar.specs.program.Uses.{Use77}
 use Rattle.f77_laws.specs.trees.Steps.{Piece, Rest, Outermost, InArm, block_of, up_to, beyond, preceded, arm_begun}
-use Rattle.f77_grammar.specs.program.Tree.{mark_of, resolved, simple}
+use Rattle.f77_grammar.specs.program.Tree.{label_before, resolved, simple}
 use Rattle.f77_laws.specs.trees.Steps.{else_begun, if_begun, loop_begun}
 use Rattle.f77_laws.specs.trees.Steps.{begun, rest_from}
 use Rattle.f77_laws.proofs.trees.Lists.{left_false, right_false, right_true, negated, affirmed, not_both}
@@ -25,9 +25,9 @@ use Rattle.f77_laws.proofs.trees.Frames.{else_shown, top_kept}
 use Rattle.f77_laws.proofs.trees.Moves.{Moves, moves, AllEnd, all_end}
 use Rattle.f77_laws.proofs.trees.InnermostLoops.{AreOpen, none_yet, open_after, EndsOne, top, end_do_ends_one}
 use Rattle.f77_laws.proofs.trees.Shapes.{IsShaped, no_frames, shape}
-use Rattle.f77_grammar.specs.program.Blocks.{stands_alone, IsRange, IsUnit, AreBlock, AreArms}
+use Rattle.f77_grammar.specs.program.Blocks.{stands_alone, IsRange, IsUnit, AreBlock77, AreArms77}
 use Rattle.f77_grammar.specs.program.Blocks.IsUnit.{alone, block_if, loop, end_do}
-use Rattle.f77_grammar.specs.program.Blocks.AreArms.{end_if, else_part, else_if}
+use Rattle.f77_grammar.specs.program.Blocks.AreArms77.{end_if, else_part, else_if}
 use Rattle.f77_laws.specs.trees.Laws.{IsWellNested}
 use Rattle.f77_laws.proofs.trees.Begun.{made_in}
 use Rattle.f77_laws.proofs.trees.LoopEnds.{BearsLast, bears_behind, range_of, may_end_behind, none_before, no_end_do}
@@ -48,7 +48,7 @@ no_else_if before xs x true outer h e =
     (else_shown (x ∷ xs) before 0 (ap had_else e)) none)
 no_else_if before xs x false outer h e = refl
 
-module _ (us : List Use) (s : Store) (named : List ℕ) where
+module _ (us : List Use77) (s : Store) (named : List ℕ) where
   -- ---- statements and what they have become
 
   -- where an ELSE has stood before, only the END IF of the block IF is left
@@ -67,7 +67,7 @@ module _ (us : List Use) (s : Store) (named : List ℕ) where
     back : List Labelled
     whole : xs ≡ arm ++ (later ++ back)
     pieces : ArePieces us s named ls arm ps
-    formed : AreArms us s named later arms part
+    formed : AreArms77 us s named later arms part
     after_else : had ≡ true → IsEndIf later arms part
     outer : Outer back
 
@@ -100,11 +100,11 @@ module _ (us : List Use) (s : Store) (named : List ℕ) where
   alone_gives : (x : Labelled) (f : Frames) (xs : List Labelled) (r : Rest) → stands_alone x.statement ≡ true
       → Give (top_closed x.label f) xs r
       → Give f (x ∷ xs)
-      (preceded (record { ends = x.label; made = mark_of named x.label ++ simple us s x.line x.statement }) r)
+      (preceded (record { ends = x.label; made = label_before named x.label ++ simple us s x.line x.statement }) r)
   alone_gives x f xs r e h = preceded_gives (x ∷ []) p f xs r (inl part) h
     where
       p : Piece
-      p = record { ends = x.label; made = mark_of named x.label ++ simple us s x.line x.statement }
+      p = record { ends = x.label; made = label_before named x.label ++ simple us s x.line x.statement }
 
       part : IsPiece us s named (top f) (x ∷ []) p
       part =
@@ -116,22 +116,22 @@ module _ (us : List Use) (s : Store) (named : List ℕ) where
 
   end_do_gives : (x : Labelled) (f : Frames) (xs : List Labelled) (r : Rest) → x.statement ≡ EndDo
       → EndsOne x.label (top f) → Give (top_closed x.label f) xs r
-      → Give f (x ∷ xs) (preceded (record { ends = x.label; made = mark_of named x.label ++ [] }) r)
+      → Give f (x ∷ xs) (preceded (record { ends = x.label; made = label_before named x.label ++ [] }) r)
   end_do_gives x f xs r e t h =
-      preceded_gives (x ∷ []) (record { ends = x.label; made = mark_of named x.label ++ [] }) f xs r
+      preceded_gives (x ∷ []) (record { ends = x.label; made = label_before named x.label ++ [] }) f xs r
       (inr (record {
         end = x;
         alone_there = refl;
         is_end = e;
         ends = refl;
-        made = append-nil (mark_of named x.label);
+        made = append-nil (label_before named x.label);
         one = t;
       }))
       h
 
   if_gives : (x : Labelled) (c : Expression) (f : Frames) (xs : List Labelled) (r : Rest) → x.statement ≡ If c
       → Give (Inner [] false f) xs r
-      → Give f (x ∷ xs) (if_begun x.line (mark_of named x.label) (resolved us s c) r)
+      → Give f (x ∷ xs) (if_begun x.line (label_before named x.label) (resolved us s c) r)
   if_gives x c f xs (Outermost ps) e h = absurd h
   if_gives x c f xs (InArm ps arms part r) e h =
       subst (λ (zs : List Labelled). Give f (x ∷ zs) (preceded p r)) (append_assoc h.arm h.later h.back ∙ sym h.whole)
@@ -142,7 +142,7 @@ module _ (us : List Use) (s : Store) (named : List ℕ) where
       p =
           record {
             ends = None;
-            made = mark_of named x.label ++ tree.If x.line (tree.arm (resolved us s c) (block_of ps) arms) part ∷ [];
+            made = label_before named x.label ++ tree.If x.line (tree.arm (resolved us s c) (block_of ps) arms) part ∷ [];
           }
 
       whole : IsPiece us s named (top f) (x ∷ (h.arm ++ h.later)) p
@@ -182,7 +182,7 @@ module _ (us : List Use) (s : Store) (named : List ℕ) where
             ∙ sym (append_assoc h.arm (end.end ∷ []) h.back));
         pieces = refl;
         formed =
-            subst (λ (more : tree.Arms). AreArms us s named (x ∷ (h.arm ++ end.end ∷ [])) more (block_of ps))
+            subst (λ (more : tree.Arms). AreArms77 us s named (x ∷ (h.arm ++ end.end ∷ [])) more (block_of ps))
             (sym end.no_arms)
             (else_part x end.end h.arm (flat_map (λ (q : Piece). q.made) ps) e (block_formed us s named h.arm ps h.pieces)
             end.is_end_if);
@@ -215,7 +215,7 @@ module _ (us : List Use) (s : Store) (named : List ℕ) where
       → (h : AreCut us s named n ls arm taken others)
       → IsPiece us s named ls (x ∷ h.range) (record {
         ends = Some n;
-        made = mark_of named x.label
+        made = label_before named x.label
             ++ tree.Do x.line v (resolved us s a) (resolved us s b) (resolved us s c) (block_of taken) ∷ [];
       })
   loop_piece before x n v a b c ls xs arm tail taken others e r w h =
@@ -244,7 +244,7 @@ module _ (us : List Use) (s : Store) (named : List ℕ) where
       itself : nat_eq n n ≡ true
       itself = grind (arith, nat_tests)
 
-      none : stands_in end.front n ≡ false
+      none : label_stands_in end.front n ≡ false
       none = none_before (x ∷ before) n end.front end.last (h.back ++ tail) nested end.bears_it
 
       may_end : is_no_loop_end end.last.statement ≡ false
@@ -253,7 +253,7 @@ module _ (us : List Use) (s : Store) (named : List ℕ) where
           (ap (λ d. d || list_any (begins_loop n) before) (ap (is_do_of n) e ∙ itself)) end.bears_it
 
       is_loop : IsBody us s named n ls h.range (flat_map (λ (p : Piece). p.made) taken) end
-          → IsUnit us s named (x ∷ h.range) (mark_of named x.label
+          → IsUnit us s named (x ∷ h.range) (label_before named x.label
           ++ tree.Do x.line v (resolved us s a) (resolved us s b) (resolved us s c) (block_of taken) ∷ [])
       is_loop (inl k) =
           loop x n v a b c h.range (flat_map (λ (p : Piece). p.made) taken) e
@@ -261,11 +261,11 @@ module _ (us : List Use) (s : Store) (named : List ℕ) where
           (range_of n end.front end.last none end.bears_it may_end k.0))
           k.1
       is_loop (inr k) =
-          subst (λ (zs : List Labelled). IsUnit us s named (x ∷ zs) (mark_of named x.label
+          subst (λ (zs : List Labelled). IsUnit us s named (x ∷ zs) (label_before named x.label
           ++ tree.Do x.line v (resolved us s a) (resolved us s b) (resolved us s c) (block_of taken) ∷ []))
           (sym end.whole)
           (subst (λ (cs : List tree.Statement). IsUnit us s named (x ∷ (end.front ++ end.last ∷ []))
-          (mark_of named x.label
+          (label_before named x.label
           ++ tree.Do x.line v (resolved us s a) (resolved us s b) (resolved us s c) (tree.block cs) ∷ []))
           (sym k.made)
           (end_do x end.last n v a b c end.front k.body e k.formed k.is_end none end.bears_it))
@@ -282,7 +282,7 @@ module _ (us : List Use) (s : Store) (named : List ℕ) where
       → IsShaped (pushed (record { label = n; variable = v }) f) r
       → Give (pushed (record { label = n; variable = v }) f) xs r
       → Give f (x ∷ xs) (loop_begun (tree.Do x.line v (resolved us s a) (resolved us s b) (resolved us s c))
-      (mark_of named x.label) n r)
+      (label_before named x.label) n r)
   do_gives before x n v a b c (Base ls) xs (Outermost ps) e r d h =
       let l : Loop = record { label = n; variable = v } in
       let k = cut us s named l ls xs ps h (ends_innermost l ls ps d) in
@@ -321,10 +321,10 @@ module _ (us : List Use) (s : Store) (named : List ℕ) where
 
   other_gives : (x : Labelled) (c : Statement77) (f g : Frames) (xs : List Labelled) (r : Rest) → x.statement ≡ c
       → stands_alone c ≡ true → g ≡ top_closed x.label f → Give g xs r
-      → Give f (x ∷ xs) (preceded (record { ends = x.label; made = mark_of named x.label ++ simple us s x.line c }) r)
+      → Give f (x ∷ xs) (preceded (record { ends = x.label; made = label_before named x.label ++ simple us s x.line c }) r)
   other_gives x c f g xs r e t m h =
       subst (λ (o : Statement77). Give f (x ∷ xs)
-      (preceded (record { ends = x.label; made = mark_of named x.label ++ simple us s x.line o }) r)) e
+      (preceded (record { ends = x.label; made = label_before named x.label ++ simple us s x.line o }) r)) e
       (alone_gives x f xs r (ap stands_alone e ∙ t) (subst (λ (k : Frames). Give k xs r) m h))
 
   statement_gives : (before xs : List Labelled) (x : Labelled) (c : Statement77) (f g : Frames) (r : Rest)
@@ -345,7 +345,7 @@ module _ (us : List Use) (s : Store) (named : List ℕ) where
       (else_if_gives x c m.had m.outer xs r e (no_else_if before xs x m.had m.outer suits (o ∙ m.before))
       (subst (λ (k : Frames). Give k xs r) (m.same ∙ m.before) h))
     where
-      p : Place
+      p : Place77
       p = record { before = before; here = x; after = xs }
 
       suits : suits_else p ≡ true
@@ -359,7 +359,7 @@ module _ (us : List Use) (s : Store) (named : List ℕ) where
       ∙ left_false (nests_wrongly x.statement p) (ends_loops_wrongly p x.label)
       (right_false (is_left_open p) (is_closed_wrongly p) right.0.nesting)))
     where
-      p : Place
+      p : Place77
       p = record { before = before; here = x; after = xs }
   statement_gives before xs x (Do (Some n) v a b c) f g r e o right m d one h =
       do_gives before x n v a b c f xs r e right.1 (subst (λ (k : Frames). IsShaped k r) m d)
@@ -379,13 +379,13 @@ module _ (us : List Use) (s : Store) (named : List ℕ) where
       (shape us s named (x ∷ before) xs r.1 end) (end_do_ends_one before xs x r held)
       (gives (x ∷ before) xs r.1 end (open_after before xs x r held))
 
-  outermost_formed : (xs : List Labelled) (r : Rest) → Give (Base []) xs r → AreBlock us s named xs (made_in us s named r)
+  outermost_formed : (xs : List Labelled) (r : Rest) → Give (Base []) xs r → AreBlock77 us s named xs (made_in us s named r)
   outermost_formed xs (Outermost ps) h = block_formed us s named xs ps h
   outermost_formed xs (InArm ps arms part r) h = absurd h
 
   -- a text in which nothing is wrong forms a block
   pub text_formed : (text : List Labelled) → AllByRecursion IsWellNested (places_from [] text)
-      → AreBlock us s named text (made_in us s named (rest_from us s named text))
+      → AreBlock77 us s named text (made_in us s named (rest_from us s named text))
   text_formed text r =
       outermost_formed text (rest_from us s named text)
       (gives [] text r (λ j l. absurd (omega arith)) (none_yet text))

@@ -4,7 +4,7 @@ use Rattle.std.specs.List.{list_any}
 use Rattle.std.proofs.lemmas.Bool.Decides.{nat_tests}
 use Rattle.std.proofs.lemmas.List.Elements.{Contains-append_right}
 use Rattle.f77_grammar.specs.Statement77.{Labelled, Statement77, If, Else, EndIf, Do}
-use Rattle.f77_grammar.specs.program.Text.{is_label, bears, stands_in, is_block_if, is_last_else, ends_in, loop_ends_in, left_over, without_ended}
+use Rattle.f77_grammar.specs.program.Text.{is_label, bears, label_stands_in, is_block_if, is_last_else, ends_in, loop_ends_in, left_over, without_ended}
 use Rattle.f77_grammar.specs.program.Nesting.{up_to_if, since, until_if, is_do_of, begins_loop, since_do}
 use Rattle.f77_grammar.specs.program.DoVariables.{loop_variable}
 use Rattle.f77_laws.proofs.trees.Lists.{left_false, right_false, or_right, here, cases_of}
@@ -45,7 +45,7 @@ next_frames EndIf rest more n = more (suc n)
 next_frames (If c) rest more zero = Inner [] false (more zero)
 next_frames (If c) rest more (suc n) = more n
 next_frames Else rest more zero = marked (more zero)
-next_frames (Do (Some k) v a b c) rest more zero = pushed_if (stands_in rest k) (record { label = k; variable = v }) (more zero)
+next_frames (Do (Some k) v a b c) rest more zero = pushed_if (label_stands_in rest k) (record { label = k; variable = v }) (more zero)
 next_frames s rest more n = more n
 
 -- by the statements before, the nearest first, of which `n` END IF statements are still without theirs
@@ -94,8 +94,8 @@ same_step (If c) x rest more more' h e zero = ap (Inner [] false) (e zero)
 same_step (If c) x rest more more' h e (suc n) = e n
 same_step Else x rest more more' h e zero = ap marked (e zero)
 same_step (Do (Some k) v a b c) x rest more more' h e zero =
-    ap (λ t. pushed_if t (record { label = k; variable = v }) (more zero)) (not_borne x k (bears k x) (stands_in rest k) (h k))
-    ∙ ap (pushed_if (stands_in rest k) (record { label = k; variable = v })) (e zero)
+    ap (λ t. pushed_if t (record { label = k; variable = v }) (more zero)) (not_borne x k (bears k x) (label_stands_in rest k) (h k))
+    ∙ ap (pushed_if (label_stands_in rest k) (record { label = k; variable = v })) (e zero)
 same_step s x rest more more' h e n = e n
 
 -- whether it stands in the rest or before makes no difference
@@ -126,7 +126,7 @@ closes_step m EndIf rest more h e n = e (suc n)
 closes_step m (If c) rest more h e zero = refl
 closes_step m (If c) rest more h e (suc n) = e n
 closes_step m Else rest more h e zero = marked_closed (Some m) (more zero) (e zero)
-closes_step m (Do (Some k) v a b c) rest more h e zero = pushed_if_closed (Some m) (stands_in rest k) (record { label = k; variable = v }) (more zero) (not_begun m k h) (e zero)
+closes_step m (Do (Some k) v a b c) rest more h e zero = pushed_if_closed (Some m) (label_stands_in rest k) (record { label = k; variable = v }) (more zero) (not_begun m k h) (e zero)
 closes_step m s rest more h e n = e n
 
 closes_none : (m : ℕ) (rest before : List Labelled) → list_any (begins_loop m) before ≡ false → (n : ℕ) → top_closed (Some m) (frames rest before n) ≡ frames rest before n
@@ -148,7 +148,7 @@ top_kept (Inner ls had f) = ap (λ ks. Inner ks had f) (none_to_close ls)
 -- its label stands on no later statement
 record EndsAt (x : Labelled) (m : ℕ) (rest : List Labelled) : Type 0 where
   label : x.label ≡ Some m
-  last : stands_in rest m ≡ false
+  last : label_stands_in rest m ≡ false
 
 borne_by : (x : Labelled) (m k : ℕ) → x.label ≡ Some m → bears k x ≡ (m == k)
 borne_by x m k e = ap (is_label k) e
@@ -179,19 +179,19 @@ ends_step Else y x m rest since more more' e l o ih zero h =
     ap marked (ih zero (right_false (is_block_if y.statement) (list_any (λ (z : Labelled). is_block_if z.statement) (without_ended since 0)) h)) ∙ mark_after (Some m) (more' zero)
 ends_step Else y x m rest since more more' e l o ih (suc n) h = ih (suc n) h
 ends_step (Do (Some k) v a b c) y x m rest since more more' e l o ih zero h =
-    one_closed m k v (m == k) (stands_in rest k) (more zero) (more' zero) refl o (ih zero (right_false (is_block_if y.statement) (list_any (λ (z : Labelled). is_block_if z.statement) (without_ended since 0)) h))
-    ∙ ap (λ t. top_closed (Some m) (pushed_if (t || stands_in rest k) (record { label = k; variable = v }) (more' zero))) (sym (borne_by x m k l))
+    one_closed m k v (m == k) (label_stands_in rest k) (more zero) (more' zero) refl o (ih zero (right_false (is_block_if y.statement) (list_any (λ (z : Labelled). is_block_if z.statement) (without_ended since 0)) h))
+    ∙ ap (λ t. top_closed (Some m) (pushed_if (t || label_stands_in rest k) (record { label = k; variable = v }) (more' zero))) (sym (borne_by x m k l))
 ends_step (Do (Some k) v a b c) y x m rest since more more' e l o ih (suc n) h = ih (suc n) h
 ends_step s y x m rest since more more' e l o ih zero h = ih zero (right_false (is_block_if y.statement) (list_any (λ (z : Labelled). is_block_if z.statement) (without_ended since 0)) h)
 ends_step s y x m rest since more more' e l o ih (suc n) h = ih (suc n) h
 
 -- the first DO of the label: no other stands before it
-first_step : (s : Statement77) (x : Labelled) (m : ℕ) (rest : List Labelled) (more more' : ℕ → Frames) → is_do_of m s ≡ true → x.label ≡ Some m → stands_in rest m ≡ false
+first_step : (s : Statement77) (x : Labelled) (m : ℕ) (rest : List Labelled) (more more' : ℕ → Frames) → is_do_of m s ≡ true → x.label ≡ Some m → label_stands_in rest m ≡ false
     → ((n : ℕ) → more n ≡ top_closed (Some m) (more' n)) → (n : ℕ) → next_frames s rest more n ≡ top_closed (Some m) (next_frames s (x ∷ rest) more' n)
 first_step (Do (Some k) v a b c) x m rest more more' d l o ih zero =
     let e : k ≡ m = (let t : nat_eq k m ≡ true = d in grind (arith, nat_tests)) in
-    one_closed m k v (m == k) (stands_in rest k) (more zero) (more' zero) refl (ap (stands_in rest) e ∙ o) (ih zero)
-    ∙ ap (λ t. top_closed (Some m) (pushed_if (t || stands_in rest k) (record { label = k; variable = v }) (more' zero))) (sym (borne_by x m k l))
+    one_closed m k v (m == k) (label_stands_in rest k) (more zero) (more' zero) refl (ap (label_stands_in rest) e ∙ o) (ih zero)
+    ∙ ap (λ t. top_closed (Some m) (pushed_if (t || label_stands_in rest k) (record { label = k; variable = v }) (more' zero))) (sym (borne_by x m k l))
 first_step (Do (Some k) v a b c) x m rest more more' d l o ih (suc n) = ih (suc n)
 first_step s x m rest more more' d l o ih n = absurd cc
 
@@ -199,7 +199,7 @@ abbrev no_ifs : List Labelled → ℕ → Type 0
 no_ifs zs k = list_any (λ (z : Labelled). is_block_if z.statement) (without_ended zs k) ≡ false
 
 -- Loops that end at x are the innermost ones, where nothing is open that was opened since the first of them
-pub ended_frames : (x : Labelled) (m : ℕ) (rest before : List Labelled) → x.label ≡ Some m → stands_in rest m ≡ false → list_any (begins_loop m) before ≡ true
+pub ended_frames : (x : Labelled) (m : ℕ) (rest before : List Labelled) → x.label ≡ Some m → label_stands_in rest m ≡ false → list_any (begins_loop m) before ≡ true
     → list_any (loop_ends_in rest) (since_do m before) ≡ false
     → (n : ℕ) → list_any (λ (z : Labelled). is_block_if z.statement) (without_ended (since_do m before) n) ≡ false
     → frames rest before n ≡ top_closed (Some m) (frames (x ∷ rest) before n)
@@ -248,7 +248,7 @@ empty_step Else y rest xs more e ih zero h g =
     empty_marked (more zero) (more 1) (ih zero (sym (ap (λ t. is_block_if t || list_any (λ (z : Labelled). is_block_if z.statement) (without_ended xs 0)) e) ∙ h) (right_false (loop_ends_in rest y) (list_any (loop_ends_in rest) (since xs 0)) g))
 empty_step Else y rest xs more e ih (suc n) h g = ih (suc n) h (right_false (loop_ends_in rest y) (list_any (loop_ends_in rest) (since xs (suc n))) g)
 empty_step (Do (Some k) v a b c) y rest xs more e ih zero h g =
-    let o : stands_in rest k ≡ false = sym (ap (ends_in rest) e) ∙ left_false (loop_ends_in rest y) (list_any (loop_ends_in rest) (since xs 0)) g in
+    let o : label_stands_in rest k ≡ false = sym (ap (ends_in rest) e) ∙ left_false (loop_ends_in rest y) (list_any (loop_ends_in rest) (since xs 0)) g in
     let t = ih zero (sym (ap (λ t. is_block_if t || list_any (λ (z : Labelled). is_block_if z.statement) (without_ended xs 0)) e) ∙ h) (right_false (loop_ends_in rest y) (list_any (loop_ends_in rest) (since xs 0)) g) in
     record { had = t.had; is = ap (λ d. pushed_if d (record { label = k; variable = v }) (more zero)) o ∙ t.is }
 empty_step (Do (Some k) v a b c) y rest xs more e ih (suc n) h g = ih (suc n) h (right_false (loop_ends_in rest y) (list_any (loop_ends_in rest) (since xs (suc n))) g)
@@ -290,7 +290,7 @@ else_step (If c) y rest xs more e ih (suc n) h = ih n h
 else_step Else y rest xs more e ih zero h = shown_here y (without_ended xs 0) (ap is_block_if e) (ap is_last_else e)
 else_step Else y rest xs more e ih (suc n) h = ih (suc n) h
 else_step (Do (Some k) v a b c) y rest xs more e ih zero h =
-    shown_later y (without_ended xs 0) (ap is_block_if e) (ih zero (sym (had_pushed (stands_in rest k) (record { label = k; variable = v }) (more zero)) ∙ h))
+    shown_later y (without_ended xs 0) (ap is_block_if e) (ih zero (sym (had_pushed (label_stands_in rest k) (record { label = k; variable = v }) (more zero)) ∙ h))
 else_step (Do (Some k) v a b c) y rest xs more e ih (suc n) h = ih (suc n) h
 else_step s y rest xs more e ih zero h = shown_later y (without_ended xs 0) (ap is_block_if e) (ih zero h)
 else_step s y rest xs more e ih (suc n) h = ih (suc n) h
@@ -339,7 +339,7 @@ variables_step Else y rest ys more x e ih zero h = skipped rest y ys x (ih zero 
 variables_step Else y rest ys more x e ih (suc n) h = skipped rest y ys x (ih (suc n) h)
 variables_step (Do (Some k) v a b c) y rest ys more x e ih zero h =
     subst (λ (t : Bool). Contains (flat_map (λ (z : Labelled). loop_variable z.statement) (cond t (y ∷ filter (loop_ends_in rest) ys) (filter (loop_ends_in rest) ys))) x) (sym (ap (ends_in rest) e))
-    (pushed_open rest y ys (more zero) k v (stands_in rest k) x (ap loop_variable e) (ap (ends_in rest) e) (ih zero) h)
+    (pushed_open rest y ys (more zero) k v (label_stands_in rest k) x (ap loop_variable e) (ap (ends_in rest) e) (ih zero) h)
 variables_step (Do (Some k) v a b c) y rest ys more x e ih (suc n) h = skipped rest y ys x (ih (suc n) h)
 variables_step s y rest ys more x e ih zero h = skipped rest y ys x (ih zero h)
 variables_step s y rest ys more x e ih (suc n) h = skipped rest y ys x (ih (suc n) h)
@@ -397,8 +397,8 @@ depth_step Else y rest ys more e ih zero =
     let a = ih zero in let b = more_loops rest y ys in let d = depth_marked (more zero) in let f = more_ifs y (without_ended ys 0) in omega (arith, a, b, d, f)
 depth_step Else y rest ys more e ih (suc n) = let a = ih (suc n) in let b = more_loops rest y ys in omega (arith, a, b)
 depth_step (Do (Some k) v a b c) y rest ys more e ih zero =
-    let t = pushed_depth rest y ys (stands_in rest k) (record { label = k; variable = v }) (more zero) (ifs_open (without_ended ys 0)) (ih zero) in
-    let u : loops_open rest (y ∷ ys) ≡ length (cond (stands_in rest k) (y ∷ filter (loop_ends_in rest) ys) (filter (loop_ends_in rest) ys)) = ap (λ d. length (cond (ends_in rest d) (y ∷ filter (loop_ends_in rest) ys) (filter (loop_ends_in rest) ys))) e in
+    let t = pushed_depth rest y ys (label_stands_in rest k) (record { label = k; variable = v }) (more zero) (ifs_open (without_ended ys 0)) (ih zero) in
+    let u : loops_open rest (y ∷ ys) ≡ length (cond (label_stands_in rest k) (y ∷ filter (loop_ends_in rest) ys) (filter (loop_ends_in rest) ys)) = ap (λ d. length (cond (ends_in rest d) (y ∷ filter (loop_ends_in rest) ys) (filter (loop_ends_in rest) ys))) e in
     let f = more_ifs y (without_ended ys 0) in
     omega (arith, t, u, f)
 depth_step (Do (Some k) v a b c) y rest ys more e ih (suc n) = let t = ih (suc n) in let u = more_loops rest y ys in omega (arith, t, u)

@@ -4,7 +4,7 @@ use Rattle.std.proofs.Common.{Option, None, Some, List, [], ◌∷◌, refl, sym
 use Rattle.std.specs.List.{AllByRecursion, list_any}
 use Rattle.std.proofs.lemmas.Bool.Decides.{nat_tests}
 use Rattle.f77_grammar.specs.Statement77.{Labelled, Statement77, If, ElseIf, Else, EndIf, Do, EndDo}
-use Rattle.f77_grammar.specs.program.Text.{Place, places_from, is_label, bears, stands_in, ends_in, loop_ends_in}
+use Rattle.f77_grammar.specs.program.Text.{Place77, places_from, is_label, bears, label_stands_in, ends_in, loop_ends_in}
 use Rattle.f77_grammar.specs.program.Nesting.{is_do_of, begins_loop, since_do, is_other_open}
 use Rattle.f77_grammar.specs.program.Nesting.{ends_not_one, nests_wrongly, ends_loops_wrongly, is_left_open}
 use Rattle.f77_grammar.specs.program.Nesting.{is_closed_wrongly}
@@ -43,7 +43,7 @@ many_pushed_if m false l f = omega arith
 
 -- what a statement before adds to them
 abbrev added : ℕ → List Labelled → Statement77 → ℕ
-added m rest (Do (Some k) v a b c) = counted (stands_in rest k && (m == k))
+added m rest (Do (Some k) v a b c) = counted (label_stands_in rest k && (m == k))
 added m rest s = 0
 
 many_next : (s : Statement77) (rest : List Labelled) (more : ℕ → Frames) (m most : ℕ)
@@ -55,7 +55,7 @@ many_next Else rest more m most h zero =
     let e = many_marked m (more zero) in let k = h zero in omega (arith, e, k)
 many_next Else rest more m most h (suc n) = let g = h (suc n) in omega (arith, g)
 many_next (Do (Some k) v a b c) rest more m most h zero =
-    let e = many_pushed_if m (stands_in rest k) (record { label = k; variable = v }) (more zero) in
+    let e = many_pushed_if m (label_stands_in rest k) (record { label = k; variable = v }) (more zero) in
     let g = h zero in omega (arith, e, g)
 many_next (Do (Some k) v a b c) rest more m most h (suc n) = let g = h (suc n) in omega (arith, g)
 many_next s rest more m most h n = let g = h n in omega (arith, g)
@@ -69,7 +69,7 @@ at_most true = omega arith
 at_most false = omega arith
 
 added_one : (m : ℕ) (rest : List Labelled) (s : Statement77) → added m rest s ≤ 1
-added_one m rest (Do (Some k) v a b c) = at_most (stands_in rest k && (m == k))
+added_one m rest (Do (Some k) v a b c) = at_most (label_stands_in rest k && (m == k))
 added_one m rest s = omega arith
 
 added_ended : (m : ℕ) (rest : List Labelled) (s : Statement77) → ends_in rest s ≡ false → added m rest s ≡ 0
@@ -78,20 +78,20 @@ added_ended m rest s h = refl
 
 added_other : (m : ℕ) (rest : List Labelled) (s : Statement77) → is_do_of m s ≡ false → added m rest s ≡ 0
 added_other m rest (Do (Some k) v a b c) h =
-    ap (λ t. counted (stands_in rest k && t)) (let g : nat_eq k m ≡ false = h in apart g) ∙ no_more (stands_in rest k)
+    ap (λ t. counted (label_stands_in rest k && t)) (let g : nat_eq k m ≡ false = h in apart g) ∙ no_more (label_stands_in rest k)
   where
     apart : nat_eq k m ≡ false → (m == k) ≡ false
     apart g = grind (arith, nat_tests)
 added_other m rest s h = refl
 
-added_past : (m : ℕ) (rest : List Labelled) (s : Statement77) → stands_in rest m ≡ false → added m rest s ≡ 0
+added_past : (m : ℕ) (rest : List Labelled) (s : Statement77) → label_stands_in rest m ≡ false → added m rest s ≡ 0
 added_past m rest (Do (Some k) v a b c) h = by (m == k) refl
   where
-    by : (t : Bool) → (m == k) ≡ t → counted (stands_in rest k && (m == k)) ≡ 0
+    by : (t : Bool) → (m == k) ≡ t → counted (label_stands_in rest k && (m == k)) ≡ 0
     by true e =
         let same : k ≡ m = grind (arith, nat_tests) in
-        ap (λ t. counted (t && (m == k))) (ap (stands_in rest) same ∙ h)
-    by false e = ap (λ t. counted (stands_in rest k && t)) e ∙ no_more (stands_in rest k)
+        ap (λ t. counted (t && (m == k))) (ap (label_stands_in rest) same ∙ h)
+    by false e = ap (λ t. counted (label_stands_in rest k && t)) e ∙ no_more (label_stands_in rest k)
 added_past m rest s h = refl
 
 -- none, where no DO has the label, or it stands no more
@@ -105,7 +105,7 @@ none_begun m rest (y ∷ ys) h n =
     let b = added_other m rest y.statement (left_false (begins_loop m y) (list_any (begins_loop m) ys) h) in
     omega (arith, a, b)
 
-none_past : (m : ℕ) (rest before : List Labelled) → stands_in rest m ≡ false → (n : ℕ)
+none_past : (m : ℕ) (rest before : List Labelled) → label_stands_in rest m ≡ false → (n : ℕ)
     → many_in m (frames rest before n) ≤ 0
 none_past m rest [] h n = omega arith
 none_past m rest (y ∷ ys) h n =
@@ -136,7 +136,7 @@ one_open m rest (y ∷ ys) h n = by (list_any (begins_loop m) ys) refl (one_open
 -- ---- the loops that have begun and whose label still comes are open
 
 abbrev pub AreOpen : List Labelled → List Labelled → Type 0
-AreOpen before xs = (m : ℕ) → list_any (begins_loop m) before ≡ true → stands_in xs m ≡ true
+AreOpen before xs = (m : ℕ) → list_any (begins_loop m) before ≡ true → label_stands_in xs m ≡ true
     → 1 ≤ many_in m (frames xs before 0)
 
 pub none_yet : (xs : List Labelled) → AreOpen [] xs
@@ -188,12 +188,12 @@ pub open_after : (before xs : List Labelled) (x : Labelled)
     → AllByRecursion IsWellNested (places_from before (x ∷ xs)) → AreOpen before (x ∷ xs) → AreOpen (x ∷ before) xs
 open_after before xs x r h m g t =
     open_by x.statement x.label m (frames (x ∷ xs) before 0) (frames xs (x ∷ before) 0) (list_any (begins_loop m) before)
-    (moves before xs x r) (other (bears m x) refl) (λ e. h m e (or_right (bears m x) (stands_in xs m) t)) g
+    (moves before xs x r) (other (bears m x) refl) (λ e. h m e (or_right (bears m x) (label_stands_in xs m) t)) g
   where
     other : (d : Bool) → bears m x ≡ d → bears m x ≡ false
     other true e =
-        absurd (not_both (stands_in xs m) t
-        (stands_no_more (x ∷ before) xs m r.1 (ap (λ d. d || stands_in before m) e)))
+        absurd (not_both (label_stands_in xs m) t
+        (stands_no_more (x ∷ before) xs m r.1 (ap (λ d. d || label_stands_in before m) e)))
     other false e = e
 
 -- ---- at END DO
@@ -243,7 +243,7 @@ end_do_ends_one before xs x r held e =
     ∙ left_false (nests_wrongly x.statement p) (ends_loops_wrongly p x.label)
     (right_false (is_left_open p) (is_closed_wrongly p) r.0.nesting))
   where
-    p : Place
+    p : Place77
     p = record { before = before; here = x; after = xs }
 
     moved : frames xs (x ∷ before) 0 ≡ top_closed x.label (frames (x ∷ xs) before 0)
@@ -265,7 +265,7 @@ end_do_ends_one before xs x r held e =
         subst (λ (end : Option ℕ). EndsOne end (top (frames (x ∷ xs) before 0))) (sym l)
         (ends_top m (frames (x ∷ xs) before 0)
         (one_open m (x ∷ xs) before (right_false (not (list_any (begins_loop m) before)) (is_other_open p m) h) 0)
-        (held m begun (ap (λ d. d || stands_in xs m) here))
+        (held m begun (ap (λ d. d || label_stands_in xs m) here))
         (subst (λ (f : Frames). many_in m f ≤ 0) (moved ∙ ap (λ end. top_closed end (frames (x ∷ xs) before 0)) l)
         (none_past m xs (x ∷ before)
-        (stands_no_more (x ∷ before) xs m r.1 (ap (λ d. d || stands_in before m) here)) 0)))
+        (stands_no_more (x ∷ before) xs m r.1 (ap (λ d. d || label_stands_in before m) here)) 0)))

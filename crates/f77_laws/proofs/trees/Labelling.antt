@@ -6,15 +6,15 @@ use Rattle.tree.specs.Plain as tree
 use Rattle.tree.specs.Plain.{Expression}
 use Rattle.meaning.specs.Store.{Store}
 use Rattle.f77_grammar.specs.Statement77.{Labelled, Statement77, If, ElseIf, Else, EndIf, Do, EndDo}
-use Rattle.f77_grammar.specs.program.Text.{is_label, bears, stands_in}
-use Rattle.f77_grammar.specs.program.Uses.{Use}
+use Rattle.f77_grammar.specs.program.Text.{is_label, bears, label_stands_in}
+use Rattle.f77_grammar.specs.program.Uses.{Use77}
 use Rattle.f77_grammar.specs.program.EndDo.{without_bearer, without_closer, end_label}
 use Rattle.f77_grammar.specs.program.EndDo.{closer_label, with_loop_label, label_of_end, with_labels}
-use Rattle.f77_grammar.specs.program.Blocks.{stands_alone, IsRange, IsUnit, AreBlock, AreArms}
+use Rattle.f77_grammar.specs.program.Blocks.{stands_alone, IsRange, IsUnit, AreBlock77, AreArms77}
 use Rattle.f77_grammar.specs.program.Blocks.IsUnit.{alone as unit_alone, block_if as unit_if, loop as unit_loop}
 use Rattle.f77_grammar.specs.program.Blocks.IsUnit.{end_do as unit_end_do}
-use Rattle.f77_grammar.specs.program.Blocks.AreBlock.{nothing as no_units, unit as more_units}
-use Rattle.f77_grammar.specs.program.Blocks.AreArms.{end_if as arms_end, else_part as arms_part, else_if as arms_more}
+use Rattle.f77_grammar.specs.program.Blocks.AreBlock77.{nothing as no_units, unit as more_units}
+use Rattle.f77_grammar.specs.program.Blocks.AreArms77.{end_if as arms_end, else_part as arms_part, else_if as arms_more}
 use Rattle.f77_laws.specs.trees.Written.{MayClose, IsClosed, AreClosed, AreClosedArms}
 use Rattle.f77_laws.specs.trees.Written.IsClosed.{alone, block_if, end_do, loop}
 use Rattle.f77_laws.specs.trees.Written.AreClosed.{nothing, more}
@@ -32,14 +32,14 @@ use Rattle.f77_laws.proofs.trees.Segments.{fresh_apart, waits_as, both_wait}
 -- its labels stand once, and on no END DO that waits behind it
 pub record IsFree (xs w : List Labelled) : Type 0 where
   pub fresh : AreFresh (labelled xs w)
-  pub apart : (k : ℕ) → stands_in (labelled xs w) k ≡ true → list_any (ends_with k) w ≡ false
+  pub apart : (k : ℕ) → label_stands_in (labelled xs w) k ≡ true → list_any (ends_with k) w ≡ false
 
 free_behind : (x : Labelled) (xs w : List Labelled) → IsFree (x ∷ xs) w → IsFree xs w
 free_behind x xs w h =
     record {
       fresh = h.fresh.1;
       apart = λ k g.
-          h.apart k (or_right (bears k (with_labels x (closer_label (wait xs w)))) (stands_in (labelled xs w) k) g);
+          h.apart k (or_right (bears k (with_labels x (closer_label (wait xs w)))) (label_stands_in (labelled xs w) k) g);
     }
 
 free_right : (xs ys w : List Labelled) → IsFree (xs ++ ys) w → IsFree ys w
@@ -50,7 +50,7 @@ free_right xs ys w h =
           (subst (λ (zs : List Labelled). AreFresh zs) (labelled_append xs ys w) h.fresh);
       apart = λ k g.
           h.apart k
-          (ap (λ zs. stands_in zs k) (labelled_append xs ys w)
+          (ap (λ zs. label_stands_in zs k) (labelled_append xs ys w)
           ∙ stands_right k (labelled xs (wait ys w)) (labelled ys w) g);
     }
 
@@ -65,7 +65,7 @@ free_left xs ys w e h =
           (subst (λ (zs : List Labelled). AreFresh zs) (both_labelled xs ys w e) h.fresh);
       apart = λ k g.
           h.apart k
-          (ap (λ zs. stands_in zs k) (both_labelled xs ys w e) ∙ stands_left k (labelled xs w) (labelled ys w) g);
+          (ap (λ zs. label_stands_in zs k) (both_labelled xs ys w e) ∙ stands_left k (labelled xs w) (labelled ys w) g);
     }
 
 -- ---- ranges
@@ -76,7 +76,7 @@ range_more n x (y ∷ ys) h r = (by (bears n x) refl, r)
   where
     by : (b : Bool) → bears n x ≡ b → bears n x ≡ false
     by true e =
-        absurd (not_both (stands_in (y ∷ ys) n) (range_has n (y ∷ ys) (range_up_to n (y ∷ ys) r))
+        absurd (not_both (label_stands_in (y ∷ ys) n) (range_has n (y ∷ ys) (range_up_to n (y ∷ ys) r))
         (fresh_head n x (y ∷ ys) h e))
     by false e = e
 
@@ -117,7 +117,7 @@ told_by (Some n) v a b c end w z h =
       waits = ap (λ t. cond t w (end ∷ without_bearer n w)) h;
     }
 
-module _ (us : List Use) (s : Store) (named : List ℕ) where
+module _ (us : List Use77) (s : Store) (named : List ℕ) where
   record UnitMade (xs w : List Labelled) : Type 0 where
     made : List tree.Statement
     waits : wait xs w ≡ w
@@ -126,13 +126,13 @@ module _ (us : List Use) (s : Store) (named : List ℕ) where
   pub record BlockMade (xs w : List Labelled) : Type 0 where
     pub made : List tree.Statement
     pub waits : wait xs w ≡ w
-    pub formed : AreBlock us s named (labelled xs w) made
+    pub formed : AreBlock77 us s named (labelled xs w) made
 
   record ArmsMade (xs w : List Labelled) : Type 0 where
     arms : tree.Arms
     part : tree.Block
     waits : wait xs w ≡ w
-    formed : AreArms us s named (labelled xs w) arms part
+    formed : AreArms77 us s named (labelled xs w) arms part
 
   unit_as : (xs w zs : List Labelled) (cs : List tree.Statement) → wait xs w ≡ w → labelled xs w ≡ zs
       → IsUnit us s named zs cs → UnitMade xs w
@@ -140,13 +140,13 @@ module _ (us : List Use) (s : Store) (named : List ℕ) where
       record { made = cs; waits = e; is_unit = subst (λ (ys : List Labelled). IsUnit us s named ys cs) (sym g) h }
 
   arms_as : (xs w zs : List Labelled) (arms : tree.Arms) (part : tree.Block) → wait xs w ≡ w → labelled xs w ≡ zs
-      → AreArms us s named zs arms part → ArmsMade xs w
+      → AreArms77 us s named zs arms part → ArmsMade xs w
   arms_as xs w zs arms part e g h =
       record {
         arms = arms;
         part = part;
         waits = e;
-        formed = subst (λ (ys : List Labelled). AreArms us s named ys arms part) (sym g) h;
+        formed = subst (λ (ys : List Labelled). AreArms77 us s named ys arms part) (sym g) h;
       }
 
   -- a statement and its label
@@ -201,7 +201,7 @@ module _ (us : List Use) (s : Store) (named : List ℕ) where
       (unit_end_do x' end' k.number v a b c inner m.made
       (statement_as x (closer_label (wait (between ++ end ∷ []) w)) (Do label v a b c) e
       ∙ ap (λ vs. with_loop_label (Do label v a b c) (closer_label vs)) all_waits ∙ k.told)
-      m.formed (statement_as end (closer_label w) EndDo f) (none (stands_in inner k.number) refl)
+      m.formed (statement_as end (closer_label w) EndDo f) (none (label_stands_in inner k.number) refl)
       (end_bears k.number end (closer_label w) f ∙ k.ends))
     where
       x' : Labelled
@@ -233,7 +233,7 @@ module _ (us : List Use) (s : Store) (named : List ℕ) where
                 both_false (ends_with j end) (list_any (ends_with j) w)
                 (sym (end_bears j end (closer_label w) f)
                 ∙ left_false (bears j end') false (fresh_apart j inner (end' ∷ []) fresh k))
-                (g.apart j (ap (λ zs. stands_in zs j) split ∙ stands_left j inner (end' ∷ []) k));
+                (g.apart j (ap (λ zs. label_stands_in zs j) split ∙ stands_left j inner (end' ∷ []) k));
           }
 
       m : BlockMade between (end ∷ w)
@@ -250,7 +250,7 @@ module _ (us : List Use) (s : Store) (named : List ℕ) where
       k : IsTold label v a b c end w
       k = told_by label v a b c end w not_zero t
 
-      none : (d : Bool) → stands_in inner k.number ≡ d → stands_in inner k.number ≡ false
+      none : (d : Bool) → label_stands_in inner k.number ≡ d → label_stands_in inner k.number ≡ false
       none true i =
           absurd (not_both (bears k.number end') (end_bears k.number end (closer_label w) f ∙ k.ends)
           (left_false (bears k.number end') false (fresh_apart k.number inner (end' ∷ []) fresh i)))
@@ -267,7 +267,7 @@ module _ (us : List Use) (s : Store) (named : List ℕ) where
         made = f.made ++ r.made;
         waits = both_wait first rest w r.waits f.waits;
         formed =
-            subst (λ (zs : List Labelled). AreBlock us s named zs (f.made ++ r.made))
+            subst (λ (zs : List Labelled). AreBlock77 us s named zs (f.made ++ r.made))
             (sym (both_labelled first rest w r.waits))
             (more_units (labelled first w) (labelled rest w) f.made r.made f.is_unit r.formed);
       }

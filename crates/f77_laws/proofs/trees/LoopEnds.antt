@@ -5,7 +5,7 @@ use Rattle.std.proofs.Common.{List, [], ◌∷◌, ◌++◌, length, refl, sym, 
 use Rattle.std.proofs.Common.{append_assoc}
 use Rattle.std.specs.List.{AllByRecursion, list_any}
 use Rattle.f77_grammar.specs.Statement77.{Labelled, Statement77, EndDo}
-use Rattle.f77_grammar.specs.program.Text.{Place, places_from, is_label, bears, stands_in, is_end_do}
+use Rattle.f77_grammar.specs.program.Text.{Place77, places_from, is_label, bears, label_stands_in, is_end_do}
 use Rattle.f77_grammar.specs.program.Nesting.{is_no_loop_end, begins_loop}
 use Rattle.f77_grammar.specs.program.Nesting.{since_do, is_anything_open}
 use Rattle.f77_grammar.specs.program.Nesting.{nests_wrongly, ends_loops_wrongly, is_left_open}
@@ -37,21 +37,21 @@ bears_behind n xs ys h =
     }
 
 stands_there : (n : ℕ) (front : List Labelled) (last : Labelled) (back : List Labelled) → bears n last ≡ true
-    → stands_in (front ++ last ∷ back) n ≡ true
-stands_there n [] last back h = ap (λ b. b || stands_in back n) h
+    → label_stands_in (front ++ last ∷ back) n ≡ true
+stands_there n [] last back h = ap (λ b. b || label_stands_in back n) h
 stands_there n (x ∷ xs) last back h =
-    or_right (bears n x) (stands_in (xs ++ last ∷ back) n) (stands_there n xs last back h)
+    or_right (bears n x) (label_stands_in (xs ++ last ∷ back) n) (stands_there n xs last back h)
 
 range_before : (n : ℕ) (x : Labelled) (xs : List Labelled) → bears n x ≡ false → IsRange n xs → IsRange n (x ∷ xs)
 range_before n x [] e h = absurd h
 range_before n x (y ∷ ys) e h = (e, h)
 
-pub range_of : (n : ℕ) (front : List Labelled) (last : Labelled) → stands_in front n ≡ false → bears n last ≡ true
+pub range_of : (n : ℕ) (front : List Labelled) (last : Labelled) → label_stands_in front n ≡ false → bears n last ≡ true
     → is_no_loop_end last.statement ≡ false → is_end_do last.statement ≡ false → IsRange n (front ++ last ∷ [])
 range_of n [] last h g t d = (g, t, d)
 range_of n (x ∷ xs) last h g t d =
-    range_before n x (xs ++ last ∷ []) (left_false (bears n x) (stands_in xs n) h)
-    (range_of n xs last (right_false (bears n x) (stands_in xs n) h) g t d)
+    range_before n x (xs ++ last ∷ []) (left_false (bears n x) (label_stands_in xs n) h)
+    (range_of n xs last (right_false (bears n x) (label_stands_in xs n) h) g t d)
 
 -- a loop ends on none of those on which it may not
 may_end_at : (before back : List Labelled) (n : ℕ) (x : Labelled)
@@ -64,7 +64,7 @@ may_end_at before back n x r d h =
     ∙ right_false (nests_wrongly x.statement p) (ends_loops_wrongly p x.label)
     (right_false (is_left_open p) (is_closed_wrongly p) r.0.nesting))
   where
-    p : Place
+    p : Place77
     p = record { before = before; here = x; after = back }
 
 pub may_end_behind : (before : List Labelled) (n : ℕ) (front : List Labelled) (last : Labelled) (back : List Labelled)
@@ -77,15 +77,15 @@ may_end_behind before n (x ∷ xs) last back r d h =
 -- a label that comes stands on none before
 pub none_before : (before : List Labelled) (n : ℕ) (front : List Labelled) (last : Labelled) (back : List Labelled)
     → AllByRecursion IsWellNested (places_from before (front ++ last ∷ back)) → bears n last ≡ true
-    → stands_in front n ≡ false
+    → label_stands_in front n ≡ false
 none_before before n [] last back r h = refl
 none_before before n (x ∷ xs) last back r h =
-    both_false (bears n x) (stands_in xs n) (apart (bears n x) refl) (none_before (x ∷ before) n xs last back r.1 h)
+    both_false (bears n x) (label_stands_in xs n) (apart (bears n x) refl) (none_before (x ∷ before) n xs last back r.1 h)
   where
     apart : (b : Bool) → bears n x ≡ b → bears n x ≡ false
     apart true e =
-        absurd (not_both (stands_in (xs ++ last ∷ back) n) (stands_there n xs last back h)
-        (stands_no_more (x ∷ before) (xs ++ last ∷ back) n r.1 (ap (λ b. b || stands_in before n) e)))
+        absurd (not_both (label_stands_in (xs ++ last ∷ back) n) (stands_there n xs last back h)
+        (stands_no_more (x ∷ before) (xs ++ last ∷ back) n r.1 (ap (λ b. b || label_stands_in before n) e)))
     apart false e = e
 
 -- ---- END DO at the end

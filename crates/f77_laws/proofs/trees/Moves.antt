@@ -4,34 +4,34 @@ use Rattle.std.specs.List.{AllByRecursion, list_any}
 use Rattle.std.proofs.lemmas.Bool.Decides.{nat_tests}
 use Rattle.tree.specs.Plain.{Expression}
 use Rattle.f77_grammar.specs.Statement77.{Labelled, Statement77, If, ElseIf, Else, EndIf, Do}
-use Rattle.f77_grammar.specs.program.Text.{Place, places_from, is_label, bears, stands_in, is_last_else}
-use Rattle.f77_grammar.specs.program.Labels.{is_wrong_label}
-use Rattle.f77_grammar.specs.program.Nesting.{since_if, own_since_if, has_open_if, ends_here, has_end_if, begins_loop, since_do, is_loop_open, is_anything_open, suits_else, is_no_loop_end, ends_loops_wrongly, stays_open, nests_wrongly, is_left_open, is_closed_wrongly}
+use Rattle.f77_grammar.specs.program.Text.{Place77, places_from, is_label, bears, label_stands_in, is_last_else}
+use Rattle.f77_grammar.specs.program.Labels.{is_wrong_label77}
+use Rattle.f77_grammar.specs.program.Nesting.{since_if, own_since_if, has_open_if, ends_here, has_end_if77, begins_loop, since_do, is_loop_open, is_anything_open, suits_else, is_no_loop_end, ends_loops_wrongly, stays_open77, nests_wrongly, is_left_open, is_closed_wrongly}
 use Rattle.f77_laws.proofs.trees.Lists.{left_true, right_true, left_false, right_false, or_right, both_false, negated, affirmed, not_both}
 use Rattle.f77_laws.specs.trees.Laws.{IsWellNested}
 use Rattle.f77_laws.proofs.trees.Frames.{Loop, Frames, Base, Inner, pushed, marked, top_closed, next_frames, pushed_if, frames, open_ifs_in, had_else, EndsNone, same_frames, closes_nothing, top_kept, ended_frames, IsEmptyTop, empty_top, else_shown}
 
 -- ---- a label stands on one statement alone
 
-pub label_free : (before : List Labelled) (m : ℕ) (end : Option ℕ) → stands_in before m ≡ true → is_wrong_label before end ≡ false → is_label m end ≡ false
+pub label_free : (before : List Labelled) (m : ℕ) (end : Option ℕ) → label_stands_in before m ≡ true → is_wrong_label77 before end ≡ false → is_label m end ≡ false
 label_free before m None h g = refl
 label_free before m (Some k) h g = by (k == m) refl
   where
     by : (b : Bool) → (k == m) ≡ b → (k == m) ≡ false
     by true e =
         let s : k ≡ m = grind (arith, nat_tests) in
-        absurd (not_both (stands_in before k) (ap (stands_in before) s ∙ h) (right_false (k == 0) (stands_in before k) g))
+        absurd (not_both (label_stands_in before k) (ap (label_stands_in before) s ∙ h) (right_false (k == 0) (label_stands_in before k) g))
     by false e = e
 
-pub stands_no_more : (before xs : List Labelled) (m : ℕ) → AllByRecursion IsWellNested (places_from before xs) → stands_in before m ≡ true → stands_in xs m ≡ false
+pub stands_no_more : (before xs : List Labelled) (m : ℕ) → AllByRecursion IsWellNested (places_from before xs) → label_stands_in before m ≡ true → label_stands_in xs m ≡ false
 stands_no_more before [] m h g = refl
 stands_no_more before (x ∷ xs) m h g =
-    both_false (bears m x) (stands_in xs m)
+    both_false (bears m x) (label_stands_in xs m)
     (label_free before m x.label g h.0.label)
-    (stands_no_more (x ∷ before) xs m h.1 (or_right (bears m x) (stands_in before m) g))
+    (stands_no_more (x ∷ before) xs m h.1 (or_right (bears m x) (label_stands_in before m) g))
 
-here_alone : (before xs : List Labelled) (x : Labelled) (m : ℕ) → AllByRecursion IsWellNested (places_from (x ∷ before) xs) → x.label ≡ Some m → stands_in xs m ≡ false
-here_alone before xs x m h e = stands_no_more (x ∷ before) xs m h (ap (λ b. b || stands_in before m) (ap (is_label m) e ∙ itself m))
+here_alone : (before xs : List Labelled) (x : Labelled) (m : ℕ) → AllByRecursion IsWellNested (places_from (x ∷ before) xs) → x.label ≡ Some m → label_stands_in xs m ≡ false
+here_alone before xs x m h e = stands_no_more (x ∷ before) xs m h (ap (λ b. b || label_stands_in before m) (ap (is_label m) e ∙ itself m))
   where
     itself : (m : ℕ) → (m == m) ≡ true
     itself m = grind (arith, nat_tests)
@@ -129,20 +129,20 @@ moves_by before xs x (ElseIf c) e r n l =
     let t = in_if before xs x none (affirmed (suits_else (record { before = before; here = x; after = xs })) n) in
     record { had = t.had; outer = frames (x ∷ xs) before 1; before = t.is; same = sym (same_frames x xs before none 0) }
 moves_by before xs x (Do (Some k) v a b c) e r n l =
-    ap (λ t. pushed_if t (record { label = k; variable = v }) (frames xs before 0)) (affirmed (stands_in xs k) n)
+    ap (λ t. pushed_if t (record { label = k; variable = v }) (frames xs before 0)) (affirmed (label_stands_in xs k) n)
     ∙ ap (pushed (record { label = k; variable = v })) (sym (same_frames x xs before (ends_by before xs x (Do (Some k) v a b c) e refl l) 0))
 moves_by before xs x s e r n l = may_end before xs x x.label r refl l
 
 pub moves : (before xs : List Labelled) (x : Labelled) → AllByRecursion IsWellNested (places_from before (x ∷ xs)) → Moves x.statement x.label (frames (x ∷ xs) before 0) (frames xs (x ∷ before) 0)
 moves before xs x r =
-    let p : Place = record { before = before; here = x; after = xs } in
+    let p : Place77 = record { before = before; here = x; after = xs } in
     let closed = right_false (is_left_open p) (is_closed_wrongly p) r.0.nesting in
     moves_by before xs x x.statement refl r.1 (left_false (nests_wrongly x.statement p) (ends_loops_wrongly p x.label) closed) (right_false (nests_wrongly x.statement p) (ends_loops_wrongly p x.label) closed)
 
 -- ---- each block IF has its END IF
 
 abbrev pub AllEnd : List Labelled → Frames → Type 0
-AllEnd xs f = (j : ℕ) → j < open_ifs_in f → has_end_if xs j ≡ true
+AllEnd xs f = (j : ℕ) → j < open_ifs_in f → has_end_if77 xs j ≡ true
 
 pushed_ifs : (l : Loop) (f : Frames) → open_ifs_in (pushed l f) ≡ open_ifs_in f
 pushed_ifs l (Base ls) = refl
@@ -152,11 +152,11 @@ closed_ifs : (end : Option ℕ) (f : Frames) → open_ifs_in (top_closed end f) 
 closed_ifs end (Base ls) = refl
 closed_ifs end (Inner ls had f) = refl
 
-ends_by_form : (s : Statement77) (end : Option ℕ) (xs : List Labelled) (f g : Frames) → Moves s end f g → ((c : Expression) → s ≡ If c → has_end_if xs 0 ≡ true)
-    → ((j : ℕ) → j < open_ifs_in f → ends_here s (has_end_if xs) j ≡ true) → AllEnd xs g
+ends_by_form : (s : Statement77) (end : Option ℕ) (xs : List Labelled) (f g : Frames) → Moves s end f g → ((c : Expression) → s ≡ If c → has_end_if77 xs 0 ≡ true)
+    → ((j : ℕ) → j < open_ifs_in f → ends_here s (has_end_if77 xs) j ≡ true) → AllEnd xs g
 ends_by_form (If c) end xs f g m o h = λ j l. first j (let e = ap open_ifs_in m in omega (arith, l, e))
   where
-    first : (j : ℕ) → j < suc (open_ifs_in f) → has_end_if xs j ≡ true
+    first : (j : ℕ) → j < suc (open_ifs_in f) → has_end_if77 xs j ≡ true
     first zero l = o c refl
     first (suc j) l = h j (omega arith)
 ends_by_form EndIf end xs f g m o h = λ j l. h (suc j) (let e = ap open_ifs_in m.is in omega (arith, l, e))
@@ -169,7 +169,7 @@ pub all_end : (before xs : List Labelled) (x : Labelled) → AllByRecursion IsWe
 all_end before xs x r h =
     ends_by_form x.statement x.label xs (frames (x ∷ xs) before 0) (frames xs (x ∷ before) 0) (moves before xs x r) closes h
   where
-    closes : (c : Expression) → x.statement ≡ If c → has_end_if xs 0 ≡ true
+    closes : (c : Expression) → x.statement ≡ If c → has_end_if77 xs 0 ≡ true
     closes c e =
-        let p : Place = record { before = before; here = x; after = xs } in
-        affirmed (has_end_if xs 0) (ap (λ s. stays_open s p) (sym e) ∙ left_false (is_left_open p) (is_closed_wrongly p) r.0.nesting)
+        let p : Place77 = record { before = before; here = x; after = xs } in
+        affirmed (has_end_if77 xs 0) (ap (λ s. stays_open77 s p) (sym e) ∙ left_false (is_left_open p) (is_closed_wrongly p) r.0.nesting)

@@ -4,11 +4,11 @@ use Rattle.tree.specs.Plain as tree
 use Rattle.meaning.specs.Store.{Store}
 use Rattle.f77_grammar.specs.Statement77.{Labelled, Statement77, If, ElseIf, Else, EndIf, Do, EndDo}
 use Rattle.f77_grammar.specs.program.Text.{is_block_if, is_end_if}
-use Rattle.f77_grammar.specs.program.Uses.{Use}
-use Rattle.f77_grammar.specs.program.Blocks.{stands_alone, IsUnit, AreBlock, AreArms}
+use Rattle.f77_grammar.specs.program.Uses.{Use77}
+use Rattle.f77_grammar.specs.program.Blocks.{stands_alone, IsUnit, AreBlock77, AreArms77}
 use Rattle.f77_grammar.specs.program.Blocks.IsUnit.{alone, block_if, loop, end_do}
-use Rattle.f77_grammar.specs.program.Blocks.AreBlock.{nothing, unit}
-use Rattle.f77_grammar.specs.program.Blocks.AreArms.{end_if, else_part, else_if}
+use Rattle.f77_grammar.specs.program.Blocks.AreBlock77.{nothing, unit}
+use Rattle.f77_grammar.specs.program.Blocks.AreArms77.{end_if, else_part, else_if}
 use Rattle.f77_laws.specs.trees.Pairs.{ArePaired, Ends, BlocksArePaired}
 use Rattle.f77_laws.specs.trees.Pairs.ArePaired.{nothing as none, other, pair}
 use Rattle.f77_laws.proofs.trees.Lists.{not_both}
@@ -50,7 +50,7 @@ pair_of x xs a h =
     subst (λ (zs : List Labelled). ArePaired (x ∷ zs)) (sym h.whole)
     (pair x h.end h.between [] a h.is_end h.paired none)
 
-module _ (us : List Use) (s : Store) (named : List ℕ) where
+module _ (us : List Use77) (s : Store) (named : List ℕ) where
   mutual
     unit_paired : (xs : List Labelled) (cs : List tree.Statement) → IsUnit us s named xs cs → ArePaired xs
     unit_paired xs cs (alone x e) =
@@ -64,12 +64,12 @@ module _ (us : List Use) (s : Store) (named : List ℕ) where
         paired_append (x ∷ []) (range ++ end ∷ []) (only x (Do (Some n) v a b c) e refl refl)
         (paired_append range (end ∷ []) (block_paired range body h) (only end EndDo f refl refl))
 
-    pub block_paired : (xs : List Labelled) (cs : List tree.Statement) → AreBlock us s named xs cs → ArePaired xs
+    pub block_paired : (xs : List Labelled) (cs : List tree.Statement) → AreBlock77 us s named xs cs → ArePaired xs
     block_paired xs cs nothing = none
     block_paired xs cs (unit first rest ds es h k) =
         paired_append first rest (unit_paired first ds h) (block_paired rest es k)
 
-    pub arms_ended : (xs : List Labelled) (arms : tree.Arms) (part : tree.Block) → AreArms us s named xs arms part
+    pub arms_ended : (xs : List Labelled) (arms : tree.Arms) (part : tree.Block) → AreArms77 us s named xs arms part
         → AreEnded xs
     arms_ended xs arms part (end_if x e) =
         record { between = []; end = x; whole = refl; is_end = ap is_end_if e; paired = none }
@@ -89,9 +89,9 @@ module _ (us : List Use) (s : Store) (named : List ℕ) where
 pub blocks_are_paired : BlocksArePaired
 blocks_are_paired = record { paired = block_paired; last = last }
   where
-    last : (us : List Use) (s : Store) (named : List ℕ) (x : Labelled) (first later : List Labelled)
+    last : (us : List Use77) (s : Store) (named : List ℕ) (x : Labelled) (first later : List Labelled)
         (body : List tree.Statement) (arms : tree.Arms) (part : tree.Block) → is_block_if x.statement ≡ true
-        → AreBlock us s named first body → AreArms us s named later arms part
+        → AreBlock77 us s named first body → AreArms77 us s named later arms part
         → (between : List Labelled) × (end : Labelled) × (first ++ later ≡ between ++ end ∷ []) × Ends end between x
     last us s named x first later body arms part a h k =
         let e = ended_behind first later (block_paired us s named first body h) (arms_ended us s named later arms part k) in

@@ -5,7 +5,7 @@ use Rattle.std.proofs.lemmas.List.{reverse-append, reverse-reverse}
 use Rattle.std.specs.List.{list_any}
 use Rattle.f77_grammar.specs.Statement77.{Labelled, Statement77, If, EndIf}
 use Rattle.f77_grammar.specs.program.Text.{is_block_if, is_end_if, left_over, without_ended, unended}
-use Rattle.f77_grammar.specs.program.Nesting.{up_to_if, since, since_if, ends_here, has_end_if, has_open_if}
+use Rattle.f77_grammar.specs.program.Nesting.{up_to_if, since, since_if, ends_here, has_end_if77, has_open_if}
 use Rattle.f77_laws.specs.trees.Pairs.{ArePaired, IsEnded, IsEnding, EndIfIsPartner, OpenIfIsPartner, OneEnd}
 use Rattle.f77_laws.specs.trees.Pairs.{OneIf, SinceIsBetween, UnendedStandOutside}
 use Rattle.f77_laws.specs.trees.Pairs.ArePaired.{nothing, other, pair}
@@ -33,14 +33,14 @@ ends_first s more b = absurd (not_both false b refl)
 
 -- ---- forwards
 
-paired_passed : (xs ys : List Labelled) (k : ℕ) → ArePaired xs → has_end_if (xs ++ ys) k ≡ has_end_if ys k
+paired_passed : (xs ys : List Labelled) (k : ℕ) → ArePaired xs → has_end_if77 (xs ++ ys) k ≡ has_end_if77 ys k
 paired_passed xs ys k nothing = refl
-paired_passed xs ys k (other x zs a b h) = ends_other x.statement (has_end_if (zs ++ ys)) k a b ∙ paired_passed zs ys k h
+paired_passed xs ys k (other x zs a b h) = ends_other x.statement (has_end_if77 (zs ++ ys)) k a b ∙ paired_passed zs ys k h
 paired_passed xs ys k (pair x end between zs a b h g) =
-    ends_if x.statement (has_end_if ((between ++ end ∷ zs) ++ ys)) k a
-    ∙ ap (λ ws. has_end_if ws (suc k)) (append_assoc between (end ∷ zs) ys)
+    ends_if x.statement (has_end_if77 ((between ++ end ∷ zs) ++ ys)) k a
+    ∙ ap (λ ws. has_end_if77 ws (suc k)) (append_assoc between (end ∷ zs) ys)
     ∙ paired_passed between (end ∷ (zs ++ ys)) (suc k) h
-    ∙ ends_end end.statement (has_end_if (zs ++ ys)) k b
+    ∙ ends_end end.statement (has_end_if77 (zs ++ ys)) k b
     ∙ paired_passed zs ys k g
 
 pub paired_append : (xs ys : List Labelled) → ArePaired xs → ArePaired ys → ArePaired (xs ++ ys)
@@ -94,8 +94,8 @@ end_pair x xs More a h =
     }
 
 end_step : (x : Labelled) (xs : List Labelled) (s : Statement77) → x.statement ≡ s
-    → ((k : ℕ) → has_end_if xs k ≡ true → EndAfter k xs)
-    → (k : ℕ) → ends_here s (has_end_if xs) k ≡ true → EndAfter k (x ∷ xs)
+    → ((k : ℕ) → has_end_if77 xs k ≡ true → EndAfter k xs)
+    → (k : ℕ) → ends_here s (has_end_if77 xs) k ≡ true → EndAfter k (x ∷ xs)
 end_step x xs EndIf e ih zero h =
     record {
       between = [];
@@ -121,14 +121,14 @@ end_step x xs (If c) e ih (suc k) h = end_pair x xs (EndAfter k) (ap is_block_if
 end_step x xs s e ih zero h = end_other x xs (λ ys. Unit {0}) (ap is_block_if e) (ap is_end_if e) (ih zero h)
 end_step x xs s e ih (suc k) h = end_other x xs (EndAfter k) (ap is_block_if e) (ap is_end_if e) (ih (suc k) h)
 
-end_after : (xs : List Labelled) (k : ℕ) → has_end_if xs k ≡ true → EndAfter k xs
+end_after : (xs : List Labelled) (k : ℕ) → has_end_if77 xs k ≡ true → EndAfter k xs
 end_after [] k h = absurd (not_both false h refl)
 end_after (x ∷ xs) k h = end_step x xs x.statement refl (end_after xs) k h
 
 pub end_if_is_partner : EndIfIsPartner
 end_if_is_partner x after a = (there, back)
   where
-    there : has_end_if after 0 ≡ true → IsEnded x after
+    there : has_end_if77 after 0 ≡ true → IsEnded x after
     there h =
         let e = end_after after 0 h in
         record {
@@ -139,10 +139,10 @@ end_if_is_partner x after a = (there, back)
           ends = record { is_if = a; is_end = e.is_end; paired = e.paired };
         }
 
-    back : IsEnded x after → has_end_if after 0 ≡ true
+    back : IsEnded x after → has_end_if77 after 0 ≡ true
     back h =
-        ap (λ zs. has_end_if zs 0) h.whole ∙ paired_passed h.between (h.end ∷ h.later) 0 h.ends.paired
-        ∙ ends_first h.end.statement (has_end_if h.later) h.ends.is_end
+        ap (λ zs. has_end_if77 zs 0) h.whole ∙ paired_passed h.between (h.end ∷ h.later) 0 h.ends.paired
+        ∙ ends_first h.end.statement (has_end_if77 h.later) h.ends.is_end
 
 -- the statements up to the first END IF without a block IF, where `k` are open
 abbrev until_step : Statement77 → Labelled → (ℕ → List Labelled) → ℕ → List Labelled

@@ -8,15 +8,15 @@ use Rattle.tree.specs.Plain as tree
 use Rattle.meaning.specs.Store.{Store}
 use Rattle.f77_grammar.specs.Statement77.{Labelled, EndDo}
 use Rattle.f77_grammar.specs.program.Text.{is_label, is_end_do}
-use Rattle.f77_grammar.specs.program.Uses.{Use}
+use Rattle.f77_grammar.specs.program.Uses.{Use77}
 use Rattle.f77_laws.specs.trees.Steps.{Piece, up_to, beyond}
-use Rattle.f77_grammar.specs.program.Tree.{mark_of}
+use Rattle.f77_grammar.specs.program.Tree.{label_before}
 use Rattle.f77_laws.proofs.trees.Lists.{not_both}
 use Rattle.f77_laws.proofs.trees.Frames.{Loop, closed}
 use Rattle.f77_laws.proofs.trees.InnermostLoops.{EndsOne}
 use Rattle.f77_laws.proofs.trees.Shapes.{Closes, label_is}
-use Rattle.f77_grammar.specs.program.Blocks.{IsUnit, AreBlock}
-use Rattle.f77_grammar.specs.program.Blocks.AreBlock.{nothing, unit}
+use Rattle.f77_grammar.specs.program.Blocks.{IsUnit, AreBlock77}
+use Rattle.f77_grammar.specs.program.Blocks.AreBlock77.{nothing, unit}
 use Rattle.f77_laws.proofs.trees.LoopEnds.{BearsLast, bears_behind, end_do_is, ends_some}
 
 -- ---- units and pieces
@@ -35,7 +35,7 @@ ends_innermost l ls (p ∷ ps) h = by (is_label l.label p.ends) (ends_innermost 
     by true more h = refl
     by false more h = more h
 
-module _ (us : List Use) (s : Store) (named : List ℕ) where
+module _ (us : List Use77) (s : Store) (named : List ℕ) where
   -- The statements are a unit that gives what the piece has, and their last one has the label with which that ends; it
   -- ends no loop round it where that is END DO
   pub record IsPiece (ls : List Loop) (xs : List Labelled) (p : Piece) : Type 0 where
@@ -50,7 +50,7 @@ module _ (us : List Use) (s : Store) (named : List ℕ) where
     pub alone_there : xs ≡ end ∷ []
     pub is_end : end.statement ≡ EndDo
     pub ends : p.ends ≡ end.label
-    pub made : p.made ≡ mark_of named end.label
+    pub made : p.made ≡ label_before named end.label
     pub one : EndsOne p.ends ls
 
   abbrev pub IsPart : List Loop → List Labelled → Piece → Type 0
@@ -69,14 +69,14 @@ module _ (us : List Use) (s : Store) (named : List ℕ) where
   ArePieces ls xs (p ∷ ps) = Begin ls xs p (λ ys. ArePieces (closed p.ends ls) ys ps)
 
   pub block_formed : (xs : List Labelled) (ps : List Piece) → ArePieces [] xs ps
-      → AreBlock us s named xs (flat_map (λ (p : Piece). p.made) ps)
-  block_formed xs [] h = subst (λ (zs : List Labelled). AreBlock us s named zs []) (sym h) nothing
+      → AreBlock77 us s named xs (flat_map (λ (p : Piece). p.made) ps)
+  block_formed xs [] h = subst (λ (zs : List Labelled). AreBlock77 us s named zs []) (sym h) nothing
   block_formed xs (p ∷ qs) h = by h.part (block_formed h.rest qs h.more)
     where
-      by : IsPart [] h.first p → AreBlock us s named h.rest (flat_map (λ (q : Piece). q.made) qs)
-          → AreBlock us s named xs (p.made ++ flat_map (λ (q : Piece). q.made) qs)
+      by : IsPart [] h.first p → AreBlock77 us s named h.rest (flat_map (λ (q : Piece). q.made) qs)
+          → AreBlock77 us s named xs (p.made ++ flat_map (λ (q : Piece). q.made) qs)
       by (inl u) k =
-          subst (λ (zs : List Labelled). AreBlock us s named zs (p.made ++ flat_map (λ (q : Piece). q.made) qs))
+          subst (λ (zs : List Labelled). AreBlock77 us s named zs (p.made ++ flat_map (λ (q : Piece). q.made) qs))
           (sym h.whole) (unit h.first h.rest p.made (flat_map (λ (q : Piece). q.made) qs) u.is_unit k)
       by (inr e) k = absurd e.one
 
@@ -86,15 +86,15 @@ module _ (us : List Use) (s : Store) (named : List ℕ) where
   pub record OnEndDo (n : ℕ) (ls : List Loop) (range : List Labelled) (cs : List tree.Statement) (b : BearsLast n range)
       : Type 0 where
     pub body : List tree.Statement
-    pub made : cs ≡ body ++ mark_of named b.last.label
-    pub formed : AreBlock us s named b.front body
+    pub made : cs ≡ body ++ label_before named b.last.label
+    pub formed : AreBlock77 us s named b.front body
     pub is_end : b.last.statement ≡ EndDo
     pub once : closed (Some n) ls ≡ ls
 
   -- or a block with its last statement
   abbrev pub IsBody : (n : ℕ) (ls : List Loop) (range : List Labelled) → List tree.Statement → BearsLast n range → Type 0
   IsBody n ls range cs b =
-      ((is_end_do b.last.statement ≡ false) × AreBlock us s named range cs) ⊎ OnEndDo n ls range cs b
+      ((is_end_do b.last.statement ≡ false) × AreBlock77 us s named range cs) ⊎ OnEndDo n ls range cs b
 
   body_behind : (n : ℕ) (ls : List Loop) (first range : List Labelled) (made cs : List tree.Statement)
       (b : BearsLast n range) → IsUnit us s named first made → IsBody n ls range cs b
@@ -103,7 +103,7 @@ module _ (us : List Use) (s : Store) (named : List ℕ) where
   body_behind n ls first range made cs b h (inr k) =
       inr (record {
         body = made ++ k.body;
-        made = ap (λ es. made ++ es) k.made ∙ sym (append_assoc made k.body (mark_of named b.last.label));
+        made = ap (λ es. made ++ es) k.made ∙ sym (append_assoc made k.body (label_before named b.last.label));
         formed = unit first b.front made k.body h k.formed;
         is_end = k.is_end;
         once = k.once;

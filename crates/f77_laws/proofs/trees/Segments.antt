@@ -4,8 +4,8 @@ use Rattle.std.proofs.Common.{refl, ap, subst, ◌∙◌, arith}
 use Rattle.std.proofs.lemmas.Bool.Decides.{nat_tests}
 use Rattle.std.specs.List.{AllByRecursion, list_any}
 use Rattle.f77_grammar.specs.Statement77.{Labelled, Statement77, Do, EndDo}
-use Rattle.f77_grammar.specs.program.Text.{Place, places_from, is_label, bears, stands_in, is_end_do}
-use Rattle.f77_grammar.specs.program.Labels.{is_wrong_label}
+use Rattle.f77_grammar.specs.program.Text.{Place77, places_from, is_label, bears, label_stands_in, is_end_do}
+use Rattle.f77_grammar.specs.program.Labels.{is_wrong_label77}
 use Rattle.f77_grammar.specs.program.Nesting.{is_no_loop_end}
 use Rattle.f77_grammar.specs.program.EndDo.{without_bearer, waiting_with, waiting, end_label, closer_label}
 use Rattle.f77_grammar.specs.program.EndDo.{with_loop_label, label_of_end, with_labels, with_loop_labels}
@@ -115,23 +115,23 @@ own_label s l line h = refl
 
 abbrev pub IsFresh : Option ℕ → List Labelled → Type 0
 IsFresh None xs = Unit {0}
-IsFresh (Some n) xs = ((n == 0) ≡ false) × (stands_in xs n ≡ false)
+IsFresh (Some n) xs = ((n == 0) ≡ false) × (label_stands_in xs n ≡ false)
 
 abbrev pub AreFresh : List Labelled → Type 0
 AreFresh [] = Unit {0}
 AreFresh (x ∷ xs) = IsFresh x.label xs × AreFresh xs
 
 pub once_fresh : (before xs : List Labelled)
-    → AllByRecursion (λ (p : Place). is_wrong_label p.before p.here.label ≡ false) (places_from before xs)
+    → AllByRecursion (λ (p : Place77). is_wrong_label77 p.before p.here.label ≡ false) (places_from before xs)
     → AreFresh xs
 once_fresh before [] h = tt
 once_fresh before (x ∷ xs) h = (fresh x.label refl h.0, once_fresh (x ∷ before) xs h.1)
   where
-    fresh : (l : Option ℕ) → x.label ≡ l → is_wrong_label before l ≡ false → IsFresh l xs
+    fresh : (l : Option ℕ) → x.label ≡ l → is_wrong_label77 before l ≡ false → IsFresh l xs
     fresh None e g = tt
     fresh (Some n) e g = (
-      left_false (n == 0) (stands_in before n) g,
-      once_after (x ∷ before) xs n h.1 (ap (λ b. b || stands_in before n) (ap (is_label n) e ∙ itself n)),
+      left_false (n == 0) (label_stands_in before n) g,
+      once_after (x ∷ before) xs n h.1 (ap (λ b. b || label_stands_in before n) (ap (is_label n) e ∙ itself n)),
     )
 
 fresh_left : (l : Option ℕ) (xs ys : List Labelled) → IsFresh l (xs ++ ys) → IsFresh l xs
@@ -148,15 +148,15 @@ right_fresh (x ∷ xs) ys h = right_fresh xs ys h.1
 
 -- a label doesn't stand on two
 pub fresh_head : (n : ℕ) (x : Labelled) (xs : List Labelled) → IsFresh x.label xs → bears n x ≡ true
-    → stands_in xs n ≡ false
+    → label_stands_in xs n ≡ false
 fresh_head n x xs h e = (subst (λ (l : Option ℕ). IsFresh l xs) (label_is n x.label e) h).1
 
-pub fresh_apart : (n : ℕ) (xs ys : List Labelled) → AreFresh (xs ++ ys) → stands_in xs n ≡ true
-    → stands_in ys n ≡ false
+pub fresh_apart : (n : ℕ) (xs ys : List Labelled) → AreFresh (xs ++ ys) → label_stands_in xs n ≡ true
+    → label_stands_in ys n ≡ false
 fresh_apart n [] ys h g = absurd (not_both false g refl)
 fresh_apart n (x ∷ xs) ys h g = by (bears n x) refl g (fresh_apart n xs ys h.1)
   where
-    by : (b : Bool) → bears n x ≡ b → (b || stands_in xs n) ≡ true → (stands_in xs n ≡ true → stands_in ys n ≡ false)
-        → stands_in ys n ≡ false
+    by : (b : Bool) → bears n x ≡ b → (b || label_stands_in xs n) ≡ true → (label_stands_in xs n ≡ true → label_stands_in ys n ≡ false)
+        → label_stands_in ys n ≡ false
     by true e k more = none_right n xs ys (fresh_head n x (xs ++ ys) h.0 e)
     by false e k more = more k

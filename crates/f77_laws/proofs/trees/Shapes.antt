@@ -6,9 +6,9 @@ use Rattle.tree.specs.Plain as tree
 use Rattle.meaning.specs.Store.{Store}
 use Rattle.f77_grammar.specs.Statement77.{Labelled, Statement77, If, ElseIf, Else, EndIf, Do}
 use Rattle.f77_grammar.specs.program.Text.{places_from, is_label}
-use Rattle.f77_grammar.specs.program.Nesting.{has_end_if}
-use Rattle.f77_grammar.specs.program.Uses.{Use}
-use Rattle.f77_grammar.specs.program.Tree.{mark_of, resolved}
+use Rattle.f77_grammar.specs.program.Nesting.{has_end_if77}
+use Rattle.f77_grammar.specs.program.Uses.{Use77}
+use Rattle.f77_grammar.specs.program.Tree.{label_before, resolved}
 use Rattle.f77_laws.specs.trees.Steps.{Piece, Rest, Outermost, InArm, beyond, preceded, loop_begun, begun, rest_from}
 use Rattle.f77_laws.specs.trees.Laws.{IsWellNested}
 use Rattle.f77_laws.proofs.trees.Frames.{Loop, Frames, Base, Inner, pushed, closed, top_closed, frames, open_ifs_in, top_kept, ended}
@@ -60,7 +60,7 @@ loop_shape make mark l (Inner ls had f) (InArm ps arms other r) h = (loop_closes
 none_open : (before : List Labelled) → AllEnd [] (frames [] before 0) → open_ifs_in (frames [] before 0) ≡ 0
 none_open before h = by (open_ifs_in (frames [] before 0)) h
   where
-    by : (n : ℕ) → ((j : ℕ) → j < n → has_end_if [] j ≡ true) → n ≡ 0
+    by : (n : ℕ) → ((j : ℕ) → j < n → has_end_if77 [] j ≡ true) → n ≡ 0
     by zero h = refl
     by (suc n) h = absurd (let e = h 0 (omega arith) in cc)
 
@@ -68,7 +68,7 @@ none_open before h = by (open_ifs_in (frames [] before 0)) h
 pub no_frames : (before : List Labelled) → AllEnd [] (frames [] before 0) → frames [] before 0 ≡ Base []
 no_frames before h = ended before (none_open before h)
 
-module _ (us : List Use) (s : Store) (named : List ℕ) where
+module _ (us : List Use77) (s : Store) (named : List ℕ) where
   if_shape : (x : Labelled) (c : tree.Expression) (f : Frames) (r : Rest) → IsShaped (Inner [] false f) r → IsShaped f (begun us s named x (If c) r)
   if_shape x c f (Outermost ps) h = absurd h
   if_shape x c f (InArm ps arms other r) h = preceded_shape (record { ends = None; made = _ }) f r (subst (λ (g : Frames). IsShaped g r) (sym (top_kept f)) h.2)
@@ -88,7 +88,7 @@ module _ (us : List Use) (s : Store) (named : List ℕ) where
       subst (λ (k : Frames). IsShaped k (begun us s named x Else r)) (sym m.before) (else_shape x m.outer r (subst (λ (k : Frames). IsShaped k r) m.after h))
   begun_shape (ElseIf c) x f g r m h =
       subst (λ (k : Frames). IsShaped k (begun us s named x (ElseIf c) r)) (sym m.before) (else_if_shape x c m.had m.outer r (subst (λ (k : Frames). IsShaped k r) (m.same ∙ m.before) h))
-  begun_shape (Do (Some n) v a b c) x f g r m h = loop_shape (tree.Do x.line v (resolved us s a) (resolved us s b) (resolved us s c)) (mark_of named x.label) (record { label = n; variable = v }) f r (subst (λ (k : Frames). IsShaped k r) m h)
+  begun_shape (Do (Some n) v a b c) x f g r m h = loop_shape (tree.Do x.line v (resolved us s a) (resolved us s b) (resolved us s c)) (label_before named x.label) (record { label = n; variable = v }) f r (subst (λ (k : Frames). IsShaped k r) m h)
   begun_shape c x f g r m h = preceded_shape (record { ends = x.label; made = _ }) f r (subst (λ (k : Frames). IsShaped k r) m h)
 
   pub shape : (before xs : List Labelled) → AllByRecursion IsWellNested (places_from before xs) → AllEnd xs (frames xs before 0) → IsShaped (frames xs before 0) (rest_from us s named xs)

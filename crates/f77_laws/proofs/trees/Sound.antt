@@ -6,9 +6,9 @@ use Rattle.tree.specs.Causes.{refusal_at}
 use Rattle.tree.specs.declared.refusals.Cause.{Cause}
 use Rattle.tree.specs.declared.refusals.Cause.TheVariants.{Label, Nesting}
 use Rattle.f77_grammar.specs.Statement77.{Labelled}
-use Rattle.f77_grammar.specs.program.Text.{Place, places, action}
+use Rattle.f77_grammar.specs.program.Text.{Place77, places, action}
 use Rattle.f77_grammar.specs.program.Uses.{uses_in_text}
-use Rattle.f77_grammar.specs.program.Labels.{is_wrong_label, is_unknown, label_named}
+use Rattle.f77_grammar.specs.program.Labels.{is_wrong_label77, is_unknown, label_named}
 use Rattle.f77_grammar.specs.program.Nesting.{is_nested_wrongly}
 use Rattle.f77_grammar.specs.program.Order.{is_out_of_order}
 use Rattle.f77_grammar.specs.program.Limits.{constants_of}
@@ -19,7 +19,7 @@ use Rattle.f77_laws.proofs.trees.Lists.{none_left, left_false, all_at, all_of}
 -- the cause holds nowhere
 abbrev pub IsFree : Dialect → List Labelled → Cause → Type 0
 IsFree d text c =
-    AllByRecursion (λ (p : Place). holds_at d c text (uses_in_text text) (constants_of d text) p ≡ false) (places text)
+    AllByRecursion (λ (p : Place77). holds_at d c text (uses_in_text text) (constants_of d text) p ≡ false) (places text)
 
 nothing_left : {A : Type 0} → (xs ys : List A) → xs ++ ys ≡ [] → xs ≡ []
 nothing_left [] ys h = refl
@@ -33,7 +33,7 @@ free_of : (d : Dialect) (text : List Labelled) (cs : List Cause) → flat_map (f
     → AllByRecursion (IsFree d text) cs
 free_of d text [] h = tt
 free_of d text (c ∷ cs) h = (
-  none_left (λ (p : Place). refusal_at c p.here.line) (holds_at d c text (uses_in_text text) (constants_of d text))
+  none_left (λ (p : Place77). refusal_at c p.here.line) (holds_at d c text (uses_in_text text) (constants_of d text))
       (places text) (nothing_left (findings_of d text c) (flat_map (findings_of d text) cs) h),
   free_of d text cs (nothing_right (findings_of d text c) (flat_map (findings_of d text) cs) h),
 )
@@ -45,16 +45,16 @@ sound d (x ∷ xs) h = free_of d (x ∷ xs) program_causes h
 pub well_nested : (d : Dialect) (text : List Labelled) → findings d text ≡ [] → AreWellNested text
 well_nested d text e = all_of IsWellNested (places text) (λ p m. at p m (sound d text e))
   where
-    free_at : (c : Cause) (p : Place) → IsFree d text c → Contains (places text) p
+    free_at : (c : Cause) (p : Place77) → IsFree d text c → Contains (places text) p
         → holds_at d c text (uses_in_text text) (constants_of d text) p ≡ false
     free_at c p h m =
-        all_at (λ (q : Place). holds_at d c text (uses_in_text text) (constants_of d text) q ≡ false) (places text) p h m
+        all_at (λ (q : Place77). holds_at d c text (uses_in_text text) (constants_of d text) q ≡ false) (places text) p h m
 
-    at : (p : Place) → Contains (places text) p → AllByRecursion (IsFree d text) program_causes → IsWellNested p
+    at : (p : Place77) → Contains (places text) p → AllByRecursion (IsFree d text) program_causes → IsWellNested p
     at p m h =
         record {
           label =
-              left_false (is_wrong_label p.before p.here.label) (is_unknown text (label_named (action p.here.statement)))
+              left_false (is_wrong_label77 p.before p.here.label) (is_unknown text (label_named (action p.here.statement)))
               (free_at Label p h.0 m);
           nesting = left_false (is_nested_wrongly p) (is_out_of_order p) (free_at Nesting p h.1.0 m);
         }

@@ -5,9 +5,9 @@ use Rattle.std.proofs.lemmas.List.{reverse-append}
 use Rattle.std.specs.List.{list_any}
 use Rattle.meaning.specs.Store.{Store}
 use Rattle.f77_grammar.specs.Statement77.{Labelled, Statement77, If, ElseIf, Else, EndIf, Do, EndDo}
-use Rattle.f77_grammar.specs.program.Text.{bears, stands_in, is_block_if, is_last_else, is_end_if}
+use Rattle.f77_grammar.specs.program.Text.{bears, label_stands_in, is_block_if, is_last_else, is_end_if}
 use Rattle.f77_grammar.specs.program.Nesting.{begins_loop, is_do_of, is_no_loop_end}
-use Rattle.f77_grammar.specs.program.Uses.{Use}
+use Rattle.f77_grammar.specs.program.Uses.{Use77}
 use Rattle.f77_grammar.specs.program.Blocks.{stands_alone, IsRange}
 use Rattle.f77_laws.specs.trees.Pairs.{ArePaired}
 use Rattle.f77_laws.proofs.trees.Lists.{left_false, right_false, not_both, or_right}
@@ -67,7 +67,7 @@ back_both xs ys h k =
 
 -- each loop that begins among them ends among them
 abbrev pub CloseLoops : List Labelled → Type 0
-CloseLoops xs = (m : ℕ) → list_any (begins_loop m) xs ≡ true → stands_in xs m ≡ true
+CloseLoops xs = (m : ℕ) → list_any (begins_loop m) xs ≡ true → label_stands_in xs m ≡ true
 
 pub any_append : (test : Labelled → Bool) (xs ys : List Labelled)
     → list_any test (xs ++ ys) ≡ (list_any test xs || list_any test ys)
@@ -85,7 +85,7 @@ either_true false b c d f g h = or_right c d (g h)
 pub close_both : (xs ys : List Labelled) → CloseLoops xs → CloseLoops ys → CloseLoops (xs ++ ys)
 close_both xs ys h k = λ m e.
     any_append (bears m) xs ys
-    ∙ either_true (list_any (begins_loop m) xs) (list_any (begins_loop m) ys) (stands_in xs m) (stands_in ys m) (h m) (k m)
+    ∙ either_true (list_any (begins_loop m) xs) (list_any (begins_loop m) ys) (label_stands_in xs m) (label_stands_in ys m) (h m) (k m)
     (sym (any_append (begins_loop m) xs ys) ∙ e)
 
 pub no_do : (x : Labelled) (s : Statement77) → x.statement ≡ s → ((m : ℕ) → is_do_of m s ≡ false) → CloseLoops (x ∷ [])
@@ -121,17 +121,17 @@ range_up_to n [] h = absurd h
 range_up_to n (x ∷ []) h = (h.0, h.1)
 range_up_to n (x ∷ y ∷ ys) h = (h.0, range_up_to n (y ∷ ys) h.1)
 
-pub end_up_to : (n : ℕ) (xs : List Labelled) (end : Labelled) → stands_in xs n ≡ false → bears n end ≡ true
+pub end_up_to : (n : ℕ) (xs : List Labelled) (end : Labelled) → label_stands_in xs n ≡ false → bears n end ≡ true
     → end.statement ≡ EndDo → IsUpTo n (xs ++ end ∷ [])
 end_up_to n [] end h g e = (g, ap is_no_loop_end e)
 end_up_to n (x ∷ xs) end h g e =
-    up_to_more n x (xs ++ end ∷ []) (left_false (bears n x) (stands_in xs n) h)
-    (end_up_to n xs end (right_false (bears n x) (stands_in xs n) h) g e)
+    up_to_more n x (xs ++ end ∷ []) (left_false (bears n x) (label_stands_in xs n) h)
+    (end_up_to n xs end (right_false (bears n x) (label_stands_in xs n) h) g e)
 
-pub range_has : (n : ℕ) (xs : List Labelled) → IsUpTo n xs → stands_in xs n ≡ true
+pub range_has : (n : ℕ) (xs : List Labelled) → IsUpTo n xs → label_stands_in xs n ≡ true
 range_has n [] h = absurd h
 range_has n (x ∷ []) h = ap (λ b. b || false) h.0
-range_has n (x ∷ y ∷ ys) h = or_right (bears n x) (stands_in (y ∷ ys) n) (range_has n (y ∷ ys) h.1)
+range_has n (x ∷ y ∷ ys) h = or_right (bears n x) (label_stands_in (y ∷ ys) n) (range_has n (y ∷ ys) h.1)
 
 -- ---- how each statement stands
 
@@ -205,7 +205,7 @@ only_split z front x back e = by (split_cons z [] front x back e)
     by (inl h) = h
     by (inr h) = absurd (no_split h.0 x back h.2)
 
-module _ (us : List Use) (s : Store) (named : List ℕ) where
+module _ (us : List Use77) (s : Store) (named : List ℕ) where
   abbrev pub Stands : List Labelled → Option ℕ → Statement77 → List Labelled → Type 0
   Stands front end (If c) back = HasEnd back
   Stands front end (ElseIf c) back = HasNoElse front

@@ -7,6 +7,7 @@ use Rattle.tree.specs.declared.ops.Op.TheVariants.{Div, Neg, Add, Sub, Eq, Gt, N
 use Rattle.tree.specs.declared.functions.Fun.TheVariants.{Abs, Mod, Max, Min}
 use Rattle.tree.specs.declared.ops.Kind.TheVariants.{Integer, Logical}
 use Rattle.meaning.specs.Dialect.{fortran77}
+use Rattle.tree.specs.declared.width.Width.TheVariants.{Plain}
 use Rattle.f77_grammar.specs.Statement77.{Labelled, Declare, Constants, Assign, Go, Test, If, ElseIf, Else, EndIf, Do, EndDo, Continue, Stop, Read, Print, End}
 use Rattle.f77_grammar.specs.Statement77 as text
 use Rattle.f77_grammar.specs.program.EndDo.{with_loop_labels}
@@ -38,10 +39,10 @@ blanks_have_no_meaning_tree = record {
   body = block (Assignment 2 None (to "DO10I") (n 1) ∷ tree.Do 3 (codes "I") (n 1) (n 3) (n 1) (block (Assignment 4 None (to "DO10I") (Binary Add (v "DO10I") (v "I")) ∷ [])) ∷ tree.Print 5 (items (Single (v "DO10I") ∷ Single (v "I") ∷ [])) ∷ []);
 }
 
-blanks_have_no_meaning_sound : findings fortran77 blanks_have_no_meaning ≡ []
+blanks_have_no_meaning_sound : findings (fortran77 Plain) blanks_have_no_meaning ≡ []
 blanks_have_no_meaning_sound = refl
 
-blanks_have_no_meaning_formed : tree_of fortran77 blanks_have_no_meaning ≡ blanks_have_no_meaning_tree
+blanks_have_no_meaning_formed : tree_of (fortran77 Plain) blanks_have_no_meaning ≡ blanks_have_no_meaning_tree
 blanks_have_no_meaning_formed = refl
 
 --       INTEGER A(5)
@@ -69,10 +70,10 @@ loop_left_by_go_to_tree = record {
   body = block (Assignment 2 None (to_element "A" (n 3 ∷ [])) (n 7) ∷ tree.Do 3 (codes "I") (n 1) (n 5) (n 1) (block (tree.If 4 (arm (Binary Eq (at "A" (v "I" ∷ [])) (n 7)) (block (GoTo 4 30 ∷ [])) (no_arms)) (no_statements) ∷ [])) ∷ tree.Label 30 ∷ tree.Print 6 (items (Single (v "I") ∷ [])) ∷ []);
 }
 
-loop_left_by_go_to_sound : findings fortran77 loop_left_by_go_to ≡ []
+loop_left_by_go_to_sound : findings (fortran77 Plain) loop_left_by_go_to ≡ []
 loop_left_by_go_to_sound = refl
 
-loop_left_by_go_to_formed : tree_of fortran77 loop_left_by_go_to ≡ loop_left_by_go_to_tree
+loop_left_by_go_to_formed : tree_of (fortran77 Plain) loop_left_by_go_to ≡ loop_left_by_go_to_tree
 loop_left_by_go_to_formed = refl
 
 --       PROGRAM RELAX
@@ -114,10 +115,10 @@ realistic_sweep_tree = record {
   body = block (tree.Do 4 (codes "I") (n 0) (n 4) (n 1) (block (Assignment 5 None (to_element "U" (v "I" ∷ n 0 ∷ [])) (n 64) ∷ [])) ∷ tree.Do 6 (codes "ITER") (n 1) (n 2) (n 1) (block (tree.Do 7 (codes "J") (n 1) (Binary Sub (n 4) (n 1)) (n 1) (block (tree.Do 8 (codes "I") (n 1) (Binary Sub (n 4) (n 1)) (n 1) (block (Assignment 9 None (to_element "V" (v "I" ∷ v "J" ∷ [])) (Binary Div (Binary Add (Binary Add (Binary Add (at "U" (Binary Sub (v "I") (n 1) ∷ v "J" ∷ [])) (at "U" (Binary Add (v "I") (n 1) ∷ v "J" ∷ []))) (at "U" (v "I" ∷ Binary Sub (v "J") (n 1) ∷ []))) (at "U" (v "I" ∷ Binary Add (v "J") (n 1) ∷ []))) (n 4)) ∷ [])) ∷ [])) ∷ tree.Do 10 (codes "J") (n 1) (Binary Sub (n 4) (n 1)) (n 1) (block (tree.Do 11 (codes "I") (n 1) (Binary Sub (n 4) (n 1)) (n 1) (block (Assignment 12 None (to_element "U" (v "I" ∷ v "J" ∷ [])) (at "V" (v "I" ∷ v "J" ∷ [])) ∷ [])) ∷ [])) ∷ [])) ∷ tree.Print 13 (items (ImpliedDo (items (Single (at "U" (v "I" ∷ n 1 ∷ [])) ∷ [])) (codes "I") (n 0) (n 4) (n 1) ∷ [])) ∷ []);
 }
 
-realistic_sweep_sound : findings fortran77 realistic_sweep ≡ []
+realistic_sweep_sound : findings (fortran77 Plain) realistic_sweep ≡ []
 realistic_sweep_sound = refl
 
-realistic_sweep_formed : tree_of fortran77 realistic_sweep ≡ realistic_sweep_tree
+realistic_sweep_formed : tree_of (fortran77 Plain) realistic_sweep ≡ realistic_sweep_tree
 realistic_sweep_formed = refl
 
 --       LOGICAL L
@@ -169,10 +170,10 @@ arms_and_labels_tree = record {
   body = block (tree.Read 4 (items (Single (v "L") ∷ ImpliedDo (items (Single (at "A" (v "I" ∷ [])) ∷ [])) (codes "I") (n 1) (n 3) (n 1) ∷ [])) ∷ tree.If 5 (arm (v "L") (block (GoTo 6 20 ∷ [])) (arm (Unary Not (v "L")) (block (Assignment 8 None (to_element "A" (n 1 ∷ [])) (Unary Neg (n 2)) ∷ [])) (no_arms))) (block (Assignment 10 None (to_element "A" (n 1 ∷ [])) (Binary Add (Apply Max (expressions (n 1 ∷ Unary Neg (n 2) ∷ n 2 ∷ []))) (Apply Abs (expressions (Unary Neg (n 2) ∷ [])))) ∷ [])) ∷ tree.Do 12 (codes "J") (n 1) (n 2) (n 1) (block (tree.Do 13 (codes "K") (n 1) (n 2) (n 1) (block (tree.If 14 (arm (Binary Eq (v "K") (n 1)) (block (GoTo 14 10 ∷ [])) (no_arms)) (no_statements) ∷ Assignment 15 None (to_element "A" (v "K" ∷ [])) (Apply Mod (expressions (v "J" ∷ n 2 ∷ []))) ∷ tree.Label 10 ∷ [])) ∷ [])) ∷ tree.If 17 (arm (Binary Gt (at "A" (n 2 ∷ [])) (n 0)) (block (tree.Stop 17 ∷ [])) (no_arms)) (no_statements) ∷ tree.Label 20 ∷ tree.Print 18 (items (Constant (codes "A") ∷ Single (v "A") ∷ [])) ∷ []);
 }
 
-arms_and_labels_sound : findings fortran77 arms_and_labels ≡ []
+arms_and_labels_sound : findings (fortran77 Plain) arms_and_labels ≡ []
 arms_and_labels_sound = refl
 
-arms_and_labels_formed : tree_of fortran77 arms_and_labels ≡ arms_and_labels_tree
+arms_and_labels_formed : tree_of (fortran77 Plain) arms_and_labels ≡ arms_and_labels_tree
 arms_and_labels_formed = refl
 
 --       MAX = 1
@@ -192,10 +193,10 @@ function_name_as_variable_tree = record {
   body = block (Assignment 1 None (to "MAX") (n 1) ∷ Assignment 2 None (to "I") (Apply Min (expressions (v "MAX" ∷ n 2 ∷ []))) ∷ []);
 }
 
-function_name_as_variable_sound : findings fortran77 function_name_as_variable ≡ []
+function_name_as_variable_sound : findings (fortran77 Plain) function_name_as_variable ≡ []
 function_name_as_variable_sound = refl
 
-function_name_as_variable_formed : tree_of fortran77 function_name_as_variable ≡ function_name_as_variable_tree
+function_name_as_variable_formed : tree_of (fortran77 Plain) function_name_as_variable ≡ function_name_as_variable_tree
 function_name_as_variable_formed = refl
 
 --       K = 0
@@ -227,8 +228,8 @@ loops_ended_by_end_do_tree = record {
   body = block (Assignment 1 None (to "K") (n 0) ∷ tree.Do 2 (codes "I") (n 1) (n 3) (n 1) (block (tree.Do 3 (codes "J") (n 1) (n 2) (n 1) (block (tree.If 4 (arm (Binary Eq (v "J") (v "I")) (block (GoTo 4 10 ∷ [])) (no_arms)) (no_statements) ∷ Assignment 5 None (to "K") (Binary Add (v "K") (v "J")) ∷ tree.Label 10 ∷ [])) ∷ [])) ∷ tree.Print 8 (items (Single (v "K") ∷ [])) ∷ []);
 }
 
-loops_ended_by_end_do_sound : findings fortran77 (with_loop_labels loops_ended_by_end_do) ≡ []
+loops_ended_by_end_do_sound : findings (fortran77 Plain) (with_loop_labels loops_ended_by_end_do) ≡ []
 loops_ended_by_end_do_sound = refl
 
-loops_ended_by_end_do_formed : tree_of fortran77 (with_loop_labels loops_ended_by_end_do) ≡ loops_ended_by_end_do_tree
+loops_ended_by_end_do_formed : tree_of (fortran77 Plain) (with_loop_labels loops_ended_by_end_do) ≡ loops_ended_by_end_do_tree
 loops_ended_by_end_do_formed = refl

@@ -8,16 +8,16 @@ use Rattle.tree.specs.Plain as tree
 use Rattle.tree.specs.Plain.{Expression}
 use Rattle.meaning.specs.Store.{Store}
 use Rattle.f77_grammar.specs.Statement77.{Labelled, Statement77, If, ElseIf, Else, EndIf, Do, EndDo}
-use Rattle.f77_grammar.specs.program.Text.{is_label, bears, stands_in, is_end_do}
+use Rattle.f77_grammar.specs.program.Text.{is_label, bears, label_stands_in, is_end_do}
 use Rattle.f77_grammar.specs.program.Labels.{label_named}
-use Rattle.f77_grammar.specs.program.Uses.{Use}
+use Rattle.f77_grammar.specs.program.Uses.{Use77}
 use Rattle.f77_grammar.specs.program.EndDo.{without_bearer, without_closer, end_label}
 use Rattle.f77_grammar.specs.program.EndDo.{closer_label, with_loop_label, label_of_end, with_labels}
-use Rattle.f77_grammar.specs.program.Blocks.{stands_alone, IsRange, IsUnit, AreBlock, AreArms}
+use Rattle.f77_grammar.specs.program.Blocks.{stands_alone, IsRange, IsUnit, AreBlock77, AreArms77}
 use Rattle.f77_grammar.specs.program.Blocks.IsUnit.{alone as unit_alone, block_if as unit_if, loop as unit_loop}
 use Rattle.f77_grammar.specs.program.Blocks.IsUnit.{end_do as unit_end_do}
-use Rattle.f77_grammar.specs.program.Blocks.AreBlock.{nothing as no_units, unit as more_units}
-use Rattle.f77_grammar.specs.program.Blocks.AreArms.{end_if as arms_end, else_part as arms_part, else_if as arms_more}
+use Rattle.f77_grammar.specs.program.Blocks.AreBlock77.{nothing as no_units, unit as more_units}
+use Rattle.f77_grammar.specs.program.Blocks.AreArms77.{end_if as arms_end, else_part as arms_part, else_if as arms_more}
 use Rattle.f77_laws.specs.Source.{IsSourceLabel}
 use Rattle.f77_laws.specs.trees.Written.{MayClose, IsClosed, AreClosed, AreClosedArms}
 use Rattle.f77_laws.specs.trees.Written.IsClosed.{alone, block_if, end_do, loop}
@@ -171,10 +171,10 @@ named_right xs ys h = all_right (λ (x : Labelled). IfSome (label_named x.statem
 
 -- its labels stand on no END DO that waits behind it
 abbrev pub IsApart : List Labelled → List Labelled → Type 0
-IsApart zs w = (k : ℕ) → stands_in zs k ≡ true → list_any (ends_with k) w ≡ false
+IsApart zs w = (k : ℕ) → label_stands_in zs k ≡ true → list_any (ends_with k) w ≡ false
 
 apart_behind : (z : Labelled) (zs w : List Labelled) → IsApart (z ∷ zs) w → IsApart zs w
-apart_behind z zs w h k g = h k (or_right (bears k z) (stands_in zs k) g)
+apart_behind z zs w h k g = h k (or_right (bears k z) (label_stands_in zs k) g)
 
 apart_left : (ys zs w : List Labelled) → IsApart (ys ++ zs) w → IsApart ys w
 apart_left ys zs w h k g = h k (stands_left k ys zs g)
@@ -290,7 +290,7 @@ loop_read z n v a b c zs g r make xs w e named apart =
     m = make k.rest w k.left all.1 (apart_behind z zs w apart)
 
     no_end : list_any (ends_with n) w ≡ false
-    no_end = apart n (or_right (bears n z) (stands_in zs n) (range_has n zs (range_up_to n zs r)))
+    no_end = apart n (or_right (bears n z) (label_stands_in zs n) (range_has n zs (range_up_to n zs r)))
 
     by : IsDo (Some n) k.x.statement ⊎ (IsDo None k.x.statement × (closer_label (wait k.rest w) ≡ Some n)) → UnitRead xs w
     by (inl d) =
@@ -304,7 +304,7 @@ loop_read z n v a b c zs g r make xs w e named apart =
         (closer_ends n w (ap closer_label (sym m.waits) ∙ d.1)) no_end)
 
 end_do_read : (z end : Labelled) (n : ℕ) (v : List ℕ) (a b c : Expression) (ys : List Labelled)
-    → z.statement ≡ Do (Some n) v a b c → Reads BlockRead ys → end.statement ≡ EndDo → stands_in ys n ≡ false
+    → z.statement ≡ Do (Some n) v a b c → Reads BlockRead ys → end.statement ≡ EndDo → label_stands_in ys n ≡ false
     → bears n end ≡ true → Reads UnitRead (z ∷ (ys ++ end ∷ []))
 end_do_read z end n v a b c ys g make f none t xs w e named apart =
     by (do_of k.x.statement (closer_label (wait (k.first ++ k.rest) w)) n v a b c
@@ -332,11 +332,11 @@ end_do_read z end n v a b c ys g make f none t xs w e named apart =
     end_waits : wait k.rest w ≡ o.x ∷ w
     end_waits = ap (λ vs. wait vs w) o.whole ∙ waits_as o.x w EndDo last
 
-    other : (j : ℕ) → stands_in ys j ≡ true → (d : Bool) → ends_with j o.x ≡ d → ends_with j o.x ≡ false
+    other : (j : ℕ) → label_stands_in ys j ≡ true → (d : Bool) → ends_with j o.x ≡ d → ends_with j o.x ≡ false
     other j h true i =
-        absurd (not_both (stands_in ys j) h
+        absurd (not_both (label_stands_in ys j) h
         (let same : (n == j) ≡ true = label_as n j end true t (sym (ends j) ∙ i) in
-        let equal : j ≡ n = grind (arith, nat_tests) in ap (stands_in ys) equal ∙ none))
+        let equal : j ≡ n = grind (arith, nat_tests) in ap (label_stands_in ys) equal ∙ none))
     other j h false i = i
 
     m : BlockRead k.first (o.x ∷ w)
@@ -425,7 +425,7 @@ else_if_read z c ys zs g make end xs w e named apart =
     (waits_as k.x (wait (k.first ++ k.rest) w) (ElseIf c) o ∙ both_wait k.first k.rest w l.waits f.waits)
     (else_if k.x c k.first k.rest o f.closed l.closed)
 
-module _ (us : List Use) (s : Store) (named : List ℕ) where
+module _ (us : List Use77) (s : Store) (named : List ℕ) where
   mutual
     unit_read : (zs : List Labelled) (cs : List tree.Statement) → IsUnit us s named zs cs → Reads UnitRead zs
     unit_read zs cs (unit_alone z e) = alone_read z e
@@ -435,11 +435,11 @@ module _ (us : List Use) (s : Store) (named : List ℕ) where
     unit_read zs cs (unit_end_do z end n v a b c ys body e h f g t) =
         end_do_read z end n v a b c ys e (block_read ys body h) f g t
 
-    pub block_read : (zs : List Labelled) (cs : List tree.Statement) → AreBlock us s named zs cs → Reads BlockRead zs
+    pub block_read : (zs : List Labelled) (cs : List tree.Statement) → AreBlock77 us s named zs cs → Reads BlockRead zs
     block_read zs cs no_units = none_read
     block_read zs cs (more_units ys ws ds es h k) = more_read ys ws (unit_read ys ds h) (block_read ws es k)
 
-    arms_read : (zs : List Labelled) (arms : tree.Arms) (part : tree.Block) → AreArms us s named zs arms part
+    arms_read : (zs : List Labelled) (arms : tree.Arms) (part : tree.Block) → AreArms77 us s named zs arms part
         → Reads ArmsRead zs
     arms_read zs arms part (arms_end z e) = end_if_read z e
     arms_read zs arms part (arms_part z end ys body e h f) = else_read z end ys e (block_read ys body h) f

@@ -7,16 +7,16 @@ use Rattle.std.specs.List.{AllByRecursion, list_any}
 use Rattle.tree.specs.Plain as tree
 use Rattle.meaning.specs.Store.{Store}
 use Rattle.f77_grammar.specs.Statement77.{Labelled, Statement77, If, ElseIf, Else, EndIf, Do, EndDo}
-use Rattle.f77_grammar.specs.program.Text.{Place, places, places_from, is_label, bears, stands_in, is_block_if}
+use Rattle.f77_grammar.specs.program.Text.{Place77, places, places_from, is_label, bears, label_stands_in, is_block_if}
 use Rattle.f77_grammar.specs.program.Text.{is_last_else, is_end_if, ends_in, loop_ends_in, without_ended}
-use Rattle.f77_grammar.specs.program.Labels.{is_wrong_label}
+use Rattle.f77_grammar.specs.program.Labels.{is_wrong_label77}
 use Rattle.f77_grammar.specs.program.Nesting.{until_if, own_since_if, has_open_if, is_do_of, begins_loop}
 use Rattle.f77_grammar.specs.program.Nesting.{since_if, since_do, is_loop_open, is_anything_open, suits_else}
-use Rattle.f77_grammar.specs.program.Nesting.{is_no_loop_end, ends_loops_wrongly, stays_open, nests_wrongly}
+use Rattle.f77_grammar.specs.program.Nesting.{is_no_loop_end, ends_loops_wrongly, stays_open77, nests_wrongly}
 use Rattle.f77_grammar.specs.program.Nesting.{is_nested_wrongly, ends_not_one, is_other_open}
-use Rattle.f77_grammar.specs.program.Uses.{Use}
+use Rattle.f77_grammar.specs.program.Uses.{Use77}
 use Rattle.f77_laws.specs.trees.Steps.{rest_from}
-use Rattle.f77_grammar.specs.program.Blocks.{AreBlock}
+use Rattle.f77_grammar.specs.program.Blocks.{AreBlock77}
 use Rattle.f77_laws.specs.trees.Laws.{IsWellNested, StandOnce, NestedFormBlock}
 use Rattle.f77_laws.proofs.trees.Lists.{right_false, both_false, or_right, not_both}
 use Rattle.f77_laws.proofs.trees.Moves.{label_free}
@@ -33,36 +33,36 @@ use Rattle.f77_laws.proofs.trees.Wholes.{block_whole}
 -- ---- labels that stand once
 
 pub once_after : (before xs : List Labelled) (m : ℕ)
-    → AllByRecursion (λ (p : Place). is_wrong_label p.before p.here.label ≡ false) (places_from before xs)
-    → stands_in before m ≡ true → stands_in xs m ≡ false
+    → AllByRecursion (λ (p : Place77). is_wrong_label77 p.before p.here.label ≡ false) (places_from before xs)
+    → label_stands_in before m ≡ true → label_stands_in xs m ≡ false
 once_after before [] m h g = refl
 once_after before (x ∷ xs) m h g =
-    both_false (bears m x) (stands_in xs m) (label_free before m x.label g h.0)
-    (once_after (x ∷ before) xs m h.1 (or_right (bears m x) (stands_in before m) g))
+    both_false (bears m x) (label_stands_in xs m) (label_free before m x.label g h.0)
+    (once_after (x ∷ before) xs m h.1 (or_right (bears m x) (label_stands_in before m) g))
 
 once_behind : (before front rest : List Labelled) (m : ℕ)
-    → AllByRecursion (λ (p : Place). is_wrong_label p.before p.here.label ≡ false) (places_from before (front ++ rest))
-    → stands_in front m ≡ true → stands_in rest m ≡ false
+    → AllByRecursion (λ (p : Place77). is_wrong_label77 p.before p.here.label ≡ false) (places_from before (front ++ rest))
+    → label_stands_in front m ≡ true → label_stands_in rest m ≡ false
 once_behind before [] rest m h g = absurd (not_both false g refl)
 once_behind before (f ∷ fs) rest m h g = by (bears m f) refl g (once_behind (f ∷ before) fs rest m h.1)
   where
-    by : (b : Bool) → bears m f ≡ b → (b || stands_in fs m) ≡ true
-        → (stands_in fs m ≡ true → stands_in rest m ≡ false) → stands_in rest m ≡ false
+    by : (b : Bool) → bears m f ≡ b → (b || label_stands_in fs m) ≡ true
+        → (label_stands_in fs m ≡ true → label_stands_in rest m ≡ false) → label_stands_in rest m ≡ false
     by true e g more =
-        right_false (stands_in fs m) (stands_in rest m)
+        right_false (label_stands_in fs m) (label_stands_in rest m)
         (sym (any_append (bears m) fs rest)
-        ∙ once_after (f ∷ before) (fs ++ rest) m h.1 (ap (λ b. b || stands_in before m) e))
+        ∙ once_after (f ∷ before) (fs ++ rest) m h.1 (ap (λ b. b || label_stands_in before m) e))
     by false e g more = more g
 
-apart : (text front rest : List Labelled) (m : ℕ) → StandOnce text → text ≡ front ++ rest → stands_in front m ≡ true
-    → stands_in rest m ≡ false
+apart : (text front rest : List Labelled) (m : ℕ) → StandOnce text → text ≡ front ++ rest → label_stands_in front m ≡ true
+    → label_stands_in rest m ≡ false
 apart text front rest m h e g = once_behind [] front rest m (subst (λ (zs : List Labelled). StandOnce zs) e h) g
 
-pub stands_left : (n : ℕ) (xs ys : List Labelled) → stands_in xs n ≡ true → stands_in (xs ++ ys) n ≡ true
-stands_left n xs ys h = any_append (bears n) xs ys ∙ ap (λ b. b || stands_in ys n) h
+pub stands_left : (n : ℕ) (xs ys : List Labelled) → label_stands_in xs n ≡ true → label_stands_in (xs ++ ys) n ≡ true
+stands_left n xs ys h = any_append (bears n) xs ys ∙ ap (λ b. b || label_stands_in ys n) h
 
-pub stands_right : (n : ℕ) (xs ys : List Labelled) → stands_in ys n ≡ true → stands_in (xs ++ ys) n ≡ true
-stands_right n xs ys h = any_append (bears n) xs ys ∙ or_right (stands_in xs n) (stands_in ys n) h
+pub stands_right : (n : ℕ) (xs ys : List Labelled) → label_stands_in ys n ≡ true → label_stands_in (xs ++ ys) n ≡ true
+stands_right n xs ys h = any_append (bears n) xs ys ∙ or_right (label_stands_in xs n) (label_stands_in ys n) h
 
 -- ---- lists turned round
 
@@ -89,7 +89,7 @@ reverse_mid xs x ys =
 itself : (n : ℕ) → nat_eq n n ≡ true
 itself n = grind (arith, nat_tests)
 
-none_open : (back zs : List Labelled) → ((m : ℕ) → list_any (begins_loop m) zs ≡ true → stands_in back m ≡ false)
+none_open : (back zs : List Labelled) → ((m : ℕ) → list_any (begins_loop m) zs ≡ true → label_stands_in back m ≡ false)
     → is_loop_open zs back ≡ false
 none_open back [] h = refl
 none_open back (z ∷ zs) h =
@@ -103,7 +103,7 @@ none_open back (z ∷ zs) h =
     step o e = ap (ends_in back) e
 
 none_open_since : (between back : List Labelled) → CloseLoops between
-    → ((m : ℕ) → stands_in between m ≡ true → stands_in back m ≡ false) → is_loop_open (reverse between) back ≡ false
+    → ((m : ℕ) → label_stands_in between m ≡ true → label_stands_in back m ≡ false) → is_loop_open (reverse between) back ≡ false
 none_open_since between back h g =
     none_open back (reverse between) (λ m e. g m (h m (sym (any_reverse (begins_loop m) between) ∙ e)))
 
@@ -193,7 +193,7 @@ paired_tail x zs ws (double y end between ys a b k g) e h =
 
 -- ---- a statement of a block
 
-module _ (us : List Use) (s : Store) (named : List ℕ) (text : List Labelled) (once : StandOnce text)
+module _ (us : List Use77) (s : Store) (named : List ℕ) (text : List Labelled) (once : StandOnce text)
     (w : AreWhole us s named text) where
   range_of : (n : ℕ) (front : List Labelled) (end : Option ℕ) (o : Statement77) (back : List Labelled)
       → is_do_of n o ≡ true → Stands us s named front end o back → HasRange n back
@@ -204,10 +204,10 @@ module _ (us : List Use) (s : Store) (named : List ℕ) (text : List Labelled) (
   range_of n front end o back e h = absurd (not_both false e refl)
 
   module _ (front : List Labelled) (x : Labelled) (back : List Labelled) (is_at : text ≡ front ++ x ∷ back) where
-    abbrev p : Place
+    abbrev p : Place77
     p = record { before = reverse front; here = x; after = back }
 
-    stays : (o : Statement77) → x.statement ≡ o → Stands us s named front x.label o back → stays_open o p ≡ false
+    stays : (o : Statement77) → x.statement ≡ o → Stands us s named front x.label o back → stays_open77 o p ≡ false
     stays (If c) e h =
         ap not
         ((end_if_is_partner x back (ap is_block_if e)).1
@@ -230,11 +230,11 @@ module _ (us : List Use) (s : Store) (named : List ℕ) (text : List Labelled) (
     since_there : (h : StandsInIf front) → since_if (reverse front) ≡ reverse h.between
     since_there h = ap since_if (turned h) ∙ since_is (reverse h.between) h.x (reverse h.earlier) h.paired h.is_if
 
-    stand_no_more : (h : StandsInIf front) (m : ℕ) → stands_in h.between m ≡ true → stands_in (x ∷ back) m ≡ false
+    stand_no_more : (h : StandsInIf front) (m : ℕ) → label_stands_in h.between m ≡ true → label_stands_in (x ∷ back) m ≡ false
     stand_no_more h m e =
         apart text front (x ∷ back) m once is_at
-        (ap (λ zs. stands_in zs m) h.whole
-        ∙ stands_right m h.earlier (h.x ∷ h.between) (or_right (bears m h.x) (stands_in h.between m) e))
+        (ap (λ zs. label_stands_in zs m) h.whole
+        ∙ stands_right m h.earlier (h.x ∷ h.between) (or_right (bears m h.x) (label_stands_in h.between m) e))
 
     loops_ended : StandsInIf front → is_loop_open (since_if (reverse front)) (x ∷ back) ≡ false
     loops_ended h =
@@ -245,7 +245,7 @@ module _ (us : List Use) (s : Store) (named : List ℕ) (text : List Labelled) (
     loops_ended_after h =
         ap (λ zs. is_loop_open zs back) (since_there h)
         ∙ none_open_since h.between back h.closed
-        (λ m e. right_false (bears m x) (stands_in back m) (stand_no_more h m e))
+        (λ m e. right_false (bears m x) (label_stands_in back m) (stand_no_more h m e))
 
     suits : HasNoElse front → suits_else p ≡ true
     suits h =
@@ -285,11 +285,11 @@ module _ (us : List Use) (s : Store) (named : List ℕ) (text : List Labelled) (
           (no_mid [] k.mid (subst (λ (zs : List Labelled). IsUpTo n zs) k.left r.up_to))
       cut r (inr k) =
           absurd (not_both (bears n x) bears_it
-          (first_false (bears n x) (stands_in back n)
+          (first_false (bears n x) (label_stands_in back n)
           (apart text front (x ∷ back) n once is_at
-          (ap (λ zs. stands_in zs n) (d.whole ∙ ap (λ zs. d.before ++ d.here ∷ zs) k.left)
+          (ap (λ zs. label_stands_in zs n) (d.whole ∙ ap (λ zs. d.before ++ d.here ∷ zs) k.left)
           ∙ stands_right n d.before (d.here ∷ (r.range ++ k.mid))
-          (or_right (bears n d.here) (stands_in (r.range ++ k.mid) n)
+          (or_right (bears n d.here) (label_stands_in (r.range ++ k.mid) n)
           (stands_left n r.range k.mid (range_has n r.range r.up_to)))))))
 
       is_range : range.range ≡ d.since ++ x ∷ []
@@ -311,7 +311,7 @@ module _ (us : List Use) (s : Store) (named : List ℕ) (text : List Labelled) (
           (paired_tail x (reverse d.since) (reverse range.range) range.paired
           (ap reverse is_range ∙ reverse-append d.since (x ∷ [])) (no_end_if x.statement may_end))
 
-      at_back : (m : ℕ) → list_any (begins_loop m) d.since ≡ true → stands_in back m ≡ false
+      at_back : (m : ℕ) → list_any (begins_loop m) d.since ≡ true → label_stands_in back m ≡ false
       at_back m e =
           apart text (d.before ++ d.here ∷ (d.since ++ x ∷ [])) back m once
           (is_at ∙ ap (λ zs. zs ++ x ∷ back) d.whole
@@ -319,8 +319,8 @@ module _ (us : List Use) (s : Store) (named : List ℕ) (text : List Labelled) (
           ∙ ap (λ zs. d.before ++ d.here ∷ zs) (sym (append_assoc d.since (x ∷ []) back))
           ∙ sym (append_assoc d.before (d.here ∷ (d.since ++ x ∷ [])) back))
           (stands_right m d.before (d.here ∷ (d.since ++ x ∷ []))
-          (or_right (bears m d.here) (stands_in (d.since ++ x ∷ []) m)
-          (ap (λ zs. stands_in zs m) (sym is_range)
+          (or_right (bears m d.here) (label_stands_in (d.since ++ x ∷ []) m)
+          (ap (λ zs. label_stands_in zs m) (sym is_range)
           ∙ range.closed m
           (ap (list_any (begins_loop m)) is_range ∙ any_append (begins_loop m) d.since (x ∷ [])
           ∙ ap (λ t. t || list_any (begins_loop m) (x ∷ [])) e))))
@@ -340,8 +340,8 @@ module _ (us : List Use) (s : Store) (named : List ℕ) (text : List Labelled) (
           ap (λ zs. is_loop_open zs (x ∷ back)) since_is_range
           ∙ none_open_since d.since (x ∷ back) (range.ended d.since x is_range e)
           (λ m g. apart text front (x ∷ back) m once is_at
-          (ap (λ zs. stands_in zs m) d.whole
-          ∙ stands_right m d.before (d.here ∷ d.since) (or_right (bears m d.here) (stands_in d.since m) g)))
+          (ap (λ zs. label_stands_in zs m) d.whole
+          ∙ stands_right m d.before (d.here ∷ d.since) (or_right (bears m d.here) (label_stands_in d.since m) g)))
 
     label_bears : (n : ℕ) → x.label ≡ Some n → bears n x ≡ true
     label_bears n e = ap (is_label n) e ∙ same
@@ -359,7 +359,7 @@ module _ (us : List Use) (s : Store) (named : List ℕ) (text : List Labelled) (
     nests : (o : Statement77) → x.statement ≡ o → Stands us s named front x.label o back → nests_wrongly o p ≡ false
     nests (Do None v a b c) e h = absurd h
     nests (Do (Some n) v a b c) e h =
-        ap not (ap (λ zs. stands_in zs n) h.whole ∙ stands_left n h.range h.rest (range_has n h.range h.up_to))
+        ap not (ap (λ zs. label_stands_in zs n) h.whole ∙ stands_left n h.range h.rest (range_has n h.range h.up_to))
     nests EndDo e h = ends_one x.label refl e h
     nests EndIf e h =
         both_false (not (has_open_if (reverse front))) (is_loop_open (since_if (reverse front)) back)
@@ -385,14 +385,14 @@ module _ (us : List Use) (s : Store) (named : List ℕ) (text : List Labelled) (
     nested : is_nested_wrongly p ≡ false
     nested =
         let h = w.stand front x back is_at in
-        both_false (stays_open x.statement p) (nests_wrongly x.statement p || ends_loops_wrongly p x.label)
+        both_false (stays_open77 x.statement p) (nests_wrongly x.statement p || ends_loops_wrongly p x.label)
         (stays x.statement refl h)
         (both_false (nests_wrongly x.statement p) (ends_loops_wrongly p x.label) (nests x.statement refl h)
         (ends x.label refl))
 
 -- ---- all statements
 
-at_places : (Q : Place → Type 0) (front xs : List Labelled)
+at_places : (Q : Place77 → Type 0) (front xs : List Labelled)
     → ((fs : List Labelled) (x : Labelled) (back : List Labelled) → front ++ xs ≡ fs ++ x ∷ back
     → Q (record { before = reverse fs; here = x; after = back }))
     → AllByRecursion Q (places_from (reverse front) xs)
@@ -403,23 +403,23 @@ at_places Q front (y ∷ ys) h = (
       (at_places Q (front ++ y ∷ []) ys (λ fs x back e. h fs x back (sym (append_assoc front (y ∷ []) ys) ∙ e))),
 )
 
-both_hold : (ps : List Place) → AllByRecursion (λ (p : Place). is_wrong_label p.before p.here.label ≡ false) ps
-    → AllByRecursion (λ (p : Place). is_nested_wrongly p ≡ false) ps → AllByRecursion IsWellNested ps
+both_hold : (ps : List Place77) → AllByRecursion (λ (p : Place77). is_wrong_label77 p.before p.here.label ≡ false) ps
+    → AllByRecursion (λ (p : Place77). is_nested_wrongly p ≡ false) ps → AllByRecursion IsWellNested ps
 both_hold [] h g = tt
 both_hold (p ∷ ps) h g = (record { label = h.0; nesting = g.0 }, both_hold ps h.1 g.1)
 
 pub nested_form_block : NestedFormBlock
 nested_form_block us s named text once = (forms, is_nested)
   where
-    forms : AllByRecursion (λ (p : Place). is_nested_wrongly p ≡ false) (places text)
-        → (cs : List tree.Statement) × AreBlock us s named text cs
+    forms : AllByRecursion (λ (p : Place77). is_nested_wrongly p ≡ false) (places text)
+        → (cs : List tree.Statement) × AreBlock77 us s named text cs
     forms h = (
       made_in us s named (rest_from us s named text),
       text_formed us s named text (both_hold (places text) once h),
     )
 
-    is_nested : ((cs : List tree.Statement) × AreBlock us s named text cs)
-        → AllByRecursion (λ (p : Place). is_nested_wrongly p ≡ false) (places text)
+    is_nested : ((cs : List tree.Statement) × AreBlock77 us s named text cs)
+        → AllByRecursion (λ (p : Place77). is_nested_wrongly p ≡ false) (places text)
     is_nested h =
-        at_places (λ (p : Place). is_nested_wrongly p ≡ false) [] text
+        at_places (λ (p : Place77). is_nested_wrongly p ≡ false) [] text
         (nested us s named text once (block_whole us s named text h.0 h.1))

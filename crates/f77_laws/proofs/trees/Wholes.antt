@@ -7,13 +7,13 @@ use Rattle.tree.specs.Plain as tree
 use Rattle.tree.specs.Plain.{Expression}
 use Rattle.meaning.specs.Store.{Store}
 use Rattle.f77_grammar.specs.Statement77.{Labelled, Statement77, If, ElseIf, Else, EndIf, Do, EndDo}
-use Rattle.f77_grammar.specs.program.Text.{bears, stands_in, is_block_if, is_last_else, is_end_if, is_end_do}
+use Rattle.f77_grammar.specs.program.Text.{bears, label_stands_in, is_block_if, is_last_else, is_end_if, is_end_do}
 use Rattle.f77_grammar.specs.program.Nesting.{begins_loop, is_do_of}
-use Rattle.f77_grammar.specs.program.Uses.{Use}
-use Rattle.f77_grammar.specs.program.Blocks.{IsRange, IsUnit, AreBlock, AreArms}
+use Rattle.f77_grammar.specs.program.Uses.{Use77}
+use Rattle.f77_grammar.specs.program.Blocks.{IsRange, IsUnit, AreBlock77, AreArms77}
 use Rattle.f77_grammar.specs.program.Blocks.IsUnit.{alone, block_if, loop, end_do}
-use Rattle.f77_grammar.specs.program.Blocks.AreBlock.{nothing, unit}
-use Rattle.f77_grammar.specs.program.Blocks.AreArms.{end_if, else_part, else_if}
+use Rattle.f77_grammar.specs.program.Blocks.AreBlock77.{nothing, unit}
+use Rattle.f77_grammar.specs.program.Blocks.AreArms77.{end_if, else_part, else_if}
 use Rattle.f77_laws.proofs.trees.Lists.{not_both, or_right}
 use Rattle.f77_laws.proofs.trees.Shapes.{label_is}
 use Rattle.f77_laws.proofs.trees.Begun.{range_right}
@@ -25,21 +25,21 @@ use Rattle.f77_laws.proofs.trees.Splits.{end_up_to, range_has, HasRange, HasDo, 
 use Rattle.f77_laws.proofs.trees.Splits.{IsFirst, IsBehind, split_cons, only_split, Stands, stands_more, AreWhole}
 use Rattle.f77_laws.proofs.trees.Splits.{nothing_whole, both_whole, alone_whole}
 
-module _ (us : List Use) (s : Store) (named : List ℕ) where
+module _ (us : List Use77) (s : Store) (named : List ℕ) where
   -- ---- loops
 
   loop_closed : (x : Labelled) (n : ℕ) (v : List ℕ) (a b c : Expression) (range : List Labelled)
       → x.statement ≡ Do (Some n) v a b c → IsUpTo n range → CloseLoops range → CloseLoops (x ∷ range)
   loop_closed x n v a b c range e r h = λ m g.
-      or_right (bears m x) (stands_in range m)
+      or_right (bears m x) (label_stands_in range m)
       (by m (begins_loop m x) (sym (ap (is_do_of m) e)) (h m) g)
     where
       same : (m : ℕ) → nat_eq n m ≡ true → n ≡ m
       same m t = grind (arith, nat_tests)
 
-      by : (m : ℕ) (t : Bool) → nat_eq n m ≡ t → (list_any (begins_loop m) range ≡ true → stands_in range m ≡ true)
-          → (t || list_any (begins_loop m) range) ≡ true → stands_in range m ≡ true
-      by m true t more g = ap (stands_in range) (sym (same m t)) ∙ range_has n range r
+      by : (m : ℕ) (t : Bool) → nat_eq n m ≡ t → (list_any (begins_loop m) range ≡ true → label_stands_in range m ≡ true)
+          → (t || list_any (begins_loop m) range) ≡ true → label_stands_in range m ≡ true
+      by m true t more g = ap (label_stands_in range) (sym (same m t)) ∙ range_has n range r
       by m false t more g = more g
 
   do_alone : (x : Labelled) (n : ℕ) (v : List ℕ) (a b c : Expression) → x.statement ≡ Do (Some n) v a b c
@@ -87,7 +87,7 @@ module _ (us : List Use) (s : Store) (named : List ℕ) where
           (stands_more us s named (x ∷ []) g.0 y.label y.statement back [] (h.stand g.0 y back g.2)))
 
   end_do_whole : (x end : Labelled) (n : ℕ) (v : List ℕ) (a b c : Expression) (range : List Labelled)
-      → x.statement ≡ Do (Some n) v a b c → end.statement ≡ EndDo → stands_in range n ≡ false → bears n end ≡ true
+      → x.statement ≡ Do (Some n) v a b c → end.statement ≡ EndDo → label_stands_in range n ≡ false → bears n end ≡ true
       → AreWhole us s named range → AreWhole us s named (x ∷ (range ++ end ∷ []))
   end_do_whole x end n v a b c range e f t k h =
       record {
@@ -354,12 +354,12 @@ module _ (us : List Use) (s : Store) (named : List ℕ) where
     unit_whole xs cs (end_do x end n v a b c range body e h f t g) =
         end_do_whole x end n v a b c range e f t g (block_whole range body h)
 
-    pub block_whole : (xs : List Labelled) (cs : List tree.Statement) → AreBlock us s named xs cs → AreWhole us s named xs
+    pub block_whole : (xs : List Labelled) (cs : List tree.Statement) → AreBlock77 us s named xs cs → AreWhole us s named xs
     block_whole xs cs nothing = nothing_whole us s named
     block_whole xs cs (unit first rest ds es h k) =
         both_whole us s named first rest (unit_whole first ds h) (block_whole rest es k)
 
-    arms_whole : (xs : List Labelled) (arms : tree.Arms) (part : tree.Block) → AreArms us s named xs arms part
+    arms_whole : (xs : List Labelled) (arms : tree.Arms) (part : tree.Block) → AreArms77 us s named xs arms part
         → AreWholeArms xs
     arms_whole xs arms part (end_if x e) = end_whole x e
     arms_whole xs arms part (else_part x end ys body e h f) = else_whole x end ys e f (block_whole ys body h)

@@ -10,9 +10,9 @@ use Rattle.tree.specs.Plain as tree
 use Rattle.meaning.specs.Store.{Store}
 use Rattle.f77_grammar.specs.Statement77.{Labelled}
 use Rattle.f77_grammar.specs.program.Text.{is_block_if, is_end_if, unended}
-use Rattle.f77_grammar.specs.program.Nesting.{has_open_if, has_end_if, since_if}
-use Rattle.f77_grammar.specs.program.Uses.{Use}
-use Rattle.f77_grammar.specs.program.Blocks.{AreBlock, AreArms}
+use Rattle.f77_grammar.specs.program.Nesting.{has_open_if, has_end_if77, since_if}
+use Rattle.f77_grammar.specs.program.Uses.{Use77}
+use Rattle.f77_grammar.specs.program.Blocks.{AreBlock77, AreArms77}
 
 -- statements of which each block IF has its END IF among them, and each END IF its block IF
 pub data ArePaired : List Labelled → Type 0 where
@@ -50,7 +50,7 @@ pub record IsEnding (end : Labelled) (before : List Labelled) : Type 0 where
 
 abbrev pub EndIfIsPartner : Type 0
 EndIfIsPartner = (x : Labelled) (after : List Labelled) → is_block_if x.statement ≡ true
-    → has_end_if after 0 ≡ true ↔ IsEnded x after
+    → has_end_if77 after 0 ≡ true ↔ IsEnded x after
 
 abbrev pub OpenIfIsPartner : Type 0
 OpenIfIsPartner = (end : Labelled) (before : List Labelled) → is_end_if end.statement ≡ true
@@ -79,9 +79,9 @@ pub record UnendedStandOutside : Type 0 where
 
 -- In a block all are paired, and the last statement of a block IF in it is the END IF that ends it
 pub record BlocksArePaired : Type 0 where
-  pub paired : (us : List Use) (s : Store) (named : List ℕ) (text : List Labelled) (cs : List tree.Statement)
-      → AreBlock us s named text cs → ArePaired text
-  pub last : (us : List Use) (s : Store) (named : List ℕ) (x : Labelled) (first later : List Labelled)
+  pub paired : (us : List Use77) (s : Store) (named : List ℕ) (text : List Labelled) (cs : List tree.Statement)
+      → AreBlock77 us s named text cs → ArePaired text
+  pub last : (us : List Use77) (s : Store) (named : List ℕ) (x : Labelled) (first later : List Labelled)
       (body : List tree.Statement) (arms : tree.Arms) (part : tree.Block) → is_block_if x.statement ≡ true
-      → AreBlock us s named first body → AreArms us s named later arms part
+      → AreBlock77 us s named first body → AreArms77 us s named later arms part
       → (between : List Labelled) × (end : Labelled) × (first ++ later ≡ between ++ end ∷ []) × Ends end between x

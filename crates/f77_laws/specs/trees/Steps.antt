@@ -8,10 +8,10 @@ use Rattle.meaning.specs.Dialect.{Dialect}
 use Rattle.meaning.specs.Store.{Store}
 use Rattle.f77_grammar.specs.Statement77.{Labelled, Statement77, If, ElseIf, Else, EndIf, Do}
 use Rattle.f77_grammar.specs.program.Text.{is_label}
-use Rattle.f77_grammar.specs.program.Uses.{Use, uses_in_text, is_title, names_that}
+use Rattle.f77_grammar.specs.program.Uses.{Use77, uses_in_text, is_title_role, names_that}
 use Rattle.f77_grammar.specs.program.Limits.{constants_of}
-use Rattle.f77_grammar.specs.program.Tree.{resolved, simple, mark_of, targets, variables_of, declaration_of}
-use Rattle.f77_grammar.specs.program.Tree.{first_of_names}
+use Rattle.f77_grammar.specs.program.Tree.{resolved, simple, label_before, targets, program_variables_of}
+use Rattle.f77_grammar.specs.program.Tree.{declaration_of_name, first_of_names}
 
 -- a piece of a block: what a simple statement, a whole block IF or a whole loop has become, with the label that ends it
 pub record Piece : Type 0 where
@@ -74,25 +74,27 @@ outermost_block (Outermost ps) = block_of ps
 outermost_block (InArm ps arms other r) = block_of ps
 
 -- END DO gives nothing but its label, and ends the loop of that
-module _ (us : List Use) (s : Store) (named : List ℕ) where
+module _ (us : List Use77) (s : Store) (named : List ℕ) where
   abbrev pub begun : Labelled → Statement77 → Rest → Rest
   begun x EndIf r = arm_ended r
   begun x Else r = else_begun r
   begun x (ElseIf c) r = arm_begun (resolved us s c) r
-  begun x (If c) r = if_begun x.line (mark_of named x.label) (resolved us s c) r
+  begun x (If c) r = if_begun x.line (label_before named x.label) (resolved us s c) r
   begun x (Do (Some n) v a b c) r =
-      loop_begun (tree.Do x.line v (resolved us s a) (resolved us s b) (resolved us s c)) (mark_of named x.label) n r
-  begun x other r = preceded (record { ends = x.label; made = mark_of named x.label ++ simple us s x.line other }) r
+      loop_begun (tree.Do x.line v (resolved us s a) (resolved us s b) (resolved us s c))
+      (label_before named x.label) n r
+  begun x other r =
+      preceded (record { ends = x.label; made = label_before named x.label ++ simple us s x.line other }) r
 
   abbrev pub rest_from : List Labelled → Rest
   rest_from [] = Outermost []
   rest_from (x ∷ xs) = begun x x.statement (rest_from xs)
 
-abbrev pub program_with : Dialect → List Use → Store → List Labelled → tree.Program
+abbrev pub program_with : Dialect → List Use77 → Store → List Labelled → tree.Program
 program_with d us s text =
     record {
-      name = first_of_names (names_that is_title us);
-      declarations = map (declaration_of d us s text) (variables_of us);
+      name = first_of_names (names_that is_title_role us);
+      declarations = map (declaration_of_name d us s text) (program_variables_of us);
       body = outermost_block (rest_from us s (targets text) text);
     }
 

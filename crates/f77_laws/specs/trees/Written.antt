@@ -12,7 +12,7 @@ use Rattle.std.specs.Option.{IfSome}
 use Rattle.std.specs.List.{AllByRecursion}
 use Rattle.tree.specs.Plain.{Expression}
 use Rattle.f77_grammar.specs.Statement77.{Labelled, If, ElseIf, Else, EndIf, Do, EndDo}
-use Rattle.f77_grammar.specs.program.Text.{Place, places, bears}
+use Rattle.f77_grammar.specs.program.Text.{Place77, places, bears}
 use Rattle.f77_grammar.specs.program.Labels.{label_named}
 use Rattle.f77_grammar.specs.program.Nesting.{is_nested_wrongly}
 use Rattle.f77_grammar.specs.program.EndDo.{with_loop_labels}
@@ -56,4 +56,4 @@ abbrev pub NestedAreClosed : Type 0
 NestedAreClosed = (text : List Labelled)
     → AllByRecursion (λ (x : Labelled). IfSome (label_named x.statement) IsSourceLabel) text
     → StandOnce (with_loop_labels text)
-    → AllByRecursion (λ (p : Place). is_nested_wrongly p ≡ false) (places (with_loop_labels text)) ↔ AreClosed text
+    → AllByRecursion (λ (p : Place77). is_nested_wrongly p ≡ false) (places (with_loop_labels text)) ↔ AreClosed text

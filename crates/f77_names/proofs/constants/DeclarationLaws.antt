@@ -10,7 +10,7 @@ use Rattle.tree.specs.declared.exprs.Expr.{Expr}
 use Rattle.f77_grammar.specs.Statement77.{Entity, Labelled}
 use Rattle.f77_grammar.specs.program.Limits.{has_bounds, bounds_among, bounds_of_name, entities_of}
 use Rattle.f77_grammar.specs.program.Tree.{with_name}
-use Rattle.f77_grammar.specs.program.Uses.{Role, Title, Typed, Bounded, Defined, Valued, Target, Counter, Use, is_variable, kind_of_name, type_of, type_in, or_integer, stands, is_typed, is_bounded, is_bare, is_defined}
+use Rattle.f77_grammar.specs.program.Uses.{Role, Title, Typed, Bounded, Defined, Valued, Target, Counter, Use77, is_variable, kind_of_name, type_of, type_in, or_integer, stands, is_typed, is_bounded, is_bare_role, is_defined}
 use Rattle.f77_grammar.specs.declared.syntax.statements.Labelled.{Labelled as Labelled'}
 use Rattle.f77_grammar.specs.syntax.Views.{bounds_of, statement_of, text_of}
 use Rattle.f77_grammar.proofs.syntax.Walks.{text_left}
@@ -65,11 +65,11 @@ bounds_at xs i y x bs empty h k e is =
 four : (a b c d a' b' c' d' : Bool) → a ≡ a' → b ≡ b' → c ≡ c' → d ≡ d' → ((a || b || c) && not d) ≡ ((a' || b' || c') && not d')
 four a b c d a' b' c' d' e f g h = cc
 
-pub variable_is : (names : Names) (us : List Use) (x : List ℕ) → AreFacts names us → is_variable_by (facts_in names x) ≡ is_variable us x
+pub variable_is : (names : Names) (us : List Use77) (x : List ℕ) → AreFacts names us → is_variable_by (facts_in names x) ≡ is_variable us x
 variable_is names us x h =
     ap is_variable_by (h.facts x)
     ∙ four (is_some (facts_of nothing_known us x).kind) (is_some (facts_of nothing_known us x).dimensions) (facts_of nothing_known us x).bare (facts_of nothing_known us x).constant
-    (stands is_typed us x) (stands is_bounded us x) (stands is_bare us x) (stands is_defined us x) (typed_is us x) (bounded_is us x) (bare_is us x) (constant_is us x)
+    (stands is_typed us x) (stands is_bounded us x) (stands is_bare_role us x) (stands is_defined us x) (typed_is us x) (bounded_is us x) (bare_is us x) (constant_is us x)
 
 abbrev first_kind : Option Kind → Option Kind → Option Kind
 first_kind None o = o
@@ -105,22 +105,22 @@ kind_only None = refl
 kind_only (Some k) = refl
 
 -- the type that is first given
-kind_from : (f : Facts) (us : List Use) (x : List ℕ) → (facts_of f us x).kind ≡ first_kind f.kind (type_of us x)
+kind_from : (f : Facts) (us : List Use77) (x : List ℕ) → (facts_of f us x).kind ≡ first_kind f.kind (type_of us x)
 kind_from f [] x = kind_only f.kind
 kind_from f (u ∷ us) x = kind_from (cond (bytes_eq u.name x) (facts_with f u.role) f) us x ∙ kind_step f u.role (bytes_eq u.name x) (type_of us x)
 
-pub kind_is : (names : Names) (us : List Use) (x : List ℕ) → AreFacts names us → or_integer (facts_in names x).kind ≡ kind_of_name us x
+pub kind_is : (names : Names) (us : List Use77) (x : List ℕ) → AreFacts names us → or_integer (facts_in names x).kind ≡ kind_of_name us x
 kind_is names us x h = ap (λ (f : Facts). or_integer f.kind) (h.facts x) ∙ ap or_integer (kind_from nothing_known us x)
 
 -- one use more
-pub variables_more : (us : List Use) (uses : List Use') (i : ℕ) (u : Use') (all old new : List (List ℕ)) → i < length uses → u ≡ get_or uses i u
-    → all ≡ fold (λ names x. with_name x names) old (filter (is_variable us) (map (λ (v : Use). v.name) (map plain_use (drop i uses))))
+pub variables_more : (us : List Use77) (uses : List Use') (i : ℕ) (u : Use') (all old new : List (List ℕ)) → i < length uses → u ≡ get_or uses i u
+    → all ≡ fold (λ names x. with_name x names) old (filter (is_variable us) (map (λ (v : Use77). v.name) (map plain_use (drop i uses))))
     → new ≡ cond (is_variable us u.name) (with_name u.name old) old
-    → all ≡ fold (λ names x. with_name x names) new (filter (is_variable us) (map (λ (v : Use). v.name) (map plain_use (drop (i + 1) uses))))
+    → all ≡ fold (λ names x. with_name x names) new (filter (is_variable us) (map (λ (v : Use77). v.name) (map plain_use (drop (i + 1) uses))))
 variables_more us uses i u all old new h k e f =
-    e ∙ ap (λ vs. fold (λ names x. with_name x names) old (filter (is_variable us) (map (λ (v : Use). v.name) (map plain_use vs)))) (left uses i u h k)
-    ∙ chosen (is_variable us u.name) (filter (is_variable us) (map (λ (v : Use). v.name) (map plain_use (drop (i + 1) uses))))
-    ∙ ap (λ names. fold (λ names x. with_name x names) names (filter (is_variable us) (map (λ (v : Use). v.name) (map plain_use (drop (i + 1) uses))))) (sym f)
+    e ∙ ap (λ vs. fold (λ names x. with_name x names) old (filter (is_variable us) (map (λ (v : Use77). v.name) (map plain_use vs)))) (left uses i u h k)
+    ∙ chosen (is_variable us u.name) (filter (is_variable us) (map (λ (v : Use77). v.name) (map plain_use (drop (i + 1) uses))))
+    ∙ ap (λ names. fold (λ names x. with_name x names) names (filter (is_variable us) (map (λ (v : Use77). v.name) (map plain_use (drop (i + 1) uses))))) (sym f)
   where
     chosen : (b : Bool) (rest : List (List ℕ)) → fold (λ names x. with_name x names) old (cond b (u.name ∷ rest) rest) ≡ fold (λ names x. with_name x names) (cond b (with_name u.name old) old) rest
     chosen true rest = refl

@@ -10,12 +10,13 @@ use Rattle.tree.specs.declared.ops.Fault.{Fault}
 use Rattle.tree.specs.declared.exprs.Expr.{Expr}
 use Rattle.meaning.specs.Store.{Store}
 use Rattle.f77_grammar.specs.Statement77.{Labelled}
-use Rattle.f77_grammar.specs.program.Limits.{dimension_of, size_in, product_of_sizes, elements, entities_of, bounds_declared, all_elements}
+use Rattle.f77_grammar.specs.program.Limits.{dimension_of, size_in, product_of_sizes, elements, entities_of, bounds_declared, declared_elements}
 use Rattle.f77_grammar.specs.declared.syntax.statements.Entity.{Entity as Entity'}
 use Rattle.f77_grammar.specs.syntax.Views.{bounds_of, entity_of, statement_of, labelled_of, text_of}
 use Rattle.f77_grammar.specs.declared.syntax.statements.Labelled.{Labelled as Labelled'}
 use Rattle.f77_grammar.specs.syntax.Walk.{passed}
 use Rattle.meaning.specs.Dialect.{fortran77}
+use Rattle.tree.specs.declared.width.Width.{Width}
 use Rattle.f77_names.specs.constants.Bounds.{bounds_in}
 use Rattle.meaning.specs.element_counts.Counts.{capped}
 
@@ -46,41 +47,41 @@ capped_product a n rest =
     ap capped same ∙ capped_factor n (a * rest) ∙ ap capped turned ∙ capped_factor (a * capped n) rest
 
 -- one dimension more
-pub product_more : (s : Store) (dims : List (Expr × Expr)) (i : ℕ) (x : Expr × Expr) (all product size more : ℕ) (d : Result (ℤ × ℤ) Fault) → i < length dims → x ≡ get_or dims i x
-    → all ≡ capped (product * product_of_sizes fortran77 s (map bounds_of (drop i dims))) → d ≡ dimension_of fortran77 s (bounds_of x) → size ≡ capped (size_in d) → more ≡ capped (product * size)
-    → all ≡ capped (more * product_of_sizes fortran77 s (map bounds_of (drop (i + 1) dims)))
-product_more s dims i x all product size more d h k old dimension is new =
-    old ∙ ap (λ bs. capped (product * product_of_sizes fortran77 s (map bounds_of bs))) (left dims i x h k)
-    ∙ capped_product product (size_in (dimension_of fortran77 s (bounds_of x))) (product_of_sizes fortran77 s (map bounds_of (drop (i + 1) dims)))
-    ∙ ap (λ n. capped (n * product_of_sizes fortran77 s (map bounds_of (drop (i + 1) dims)))) (sym (new ∙ ap (λ n. capped (product * n)) (is ∙ ap (λ r. capped (size_in r)) dimension)))
+pub product_more : (width : Width) (s : Store) (dims : List (Expr × Expr)) (i : ℕ) (x : Expr × Expr) (all product size more : ℕ) (d : Result (ℤ × ℤ) Fault) → i < length dims → x ≡ get_or dims i x
+    → all ≡ capped (product * product_of_sizes (fortran77 width) s (map bounds_of (drop i dims))) → d ≡ dimension_of (fortran77 width) s (bounds_of x) → size ≡ capped (size_in d) → more ≡ capped (product * size)
+    → all ≡ capped (more * product_of_sizes (fortran77 width) s (map bounds_of (drop (i + 1) dims)))
+product_more width s dims i x all product size more d h k old dimension is new =
+    old ∙ ap (λ bs. capped (product * product_of_sizes (fortran77 width) s (map bounds_of bs))) (left dims i x h k)
+    ∙ capped_product product (size_in (dimension_of (fortran77 width) s (bounds_of x))) (product_of_sizes (fortran77 width) s (map bounds_of (drop (i + 1) dims)))
+    ∙ ap (λ n. capped (n * product_of_sizes (fortran77 width) s (map bounds_of (drop (i + 1) dims)))) (sym (new ∙ ap (λ n. capped (product * n)) (is ∙ ap (λ r. capped (size_in r)) dimension)))
 
 -- one array more
-pub sum_more : (s : Store) (es : List Entity') (i : ℕ) (x : Entity') (all count here more : ℕ) → i < length es → x ≡ get_or es i x
-    → all ≡ capped (count + sum (map (elements fortran77 s) (bounds_in (map entity_of (drop i es))))) → here ≡ capped (elements fortran77 s (map bounds_of x.dims)) → more ≡ capped (count + here)
-    → all ≡ capped (more + sum (map (elements fortran77 s) (bounds_in (map entity_of (drop (i + 1) es)))))
-sum_more s es i x all count here more h k old is new =
-    old ∙ ap (λ ts. capped (count + sum (map (elements fortran77 s) (bounds_in (map entity_of ts))))) (left es i x h k)
-    ∙ ap (λ n. capped (count + n)) (sum_cons (elements fortran77 s) (map bounds_of x.dims) (bounds_in (map entity_of (drop (i + 1) es))))
-    ∙ capped_sum count (elements fortran77 s (map bounds_of x.dims)) (sum (map (elements fortran77 s) (bounds_in (map entity_of (drop (i + 1) es)))))
-    ∙ ap (λ n. capped (n + sum (map (elements fortran77 s) (bounds_in (map entity_of (drop (i + 1) es)))))) (sym (new ∙ ap (λ n. capped (count + n)) is))
+pub sum_more : (width : Width) (s : Store) (es : List Entity') (i : ℕ) (x : Entity') (all count here more : ℕ) → i < length es → x ≡ get_or es i x
+    → all ≡ capped (count + sum (map (elements (fortran77 width) s) (bounds_in (map entity_of (drop i es))))) → here ≡ capped (elements (fortran77 width) s (map bounds_of x.dims)) → more ≡ capped (count + here)
+    → all ≡ capped (more + sum (map (elements (fortran77 width) s) (bounds_in (map entity_of (drop (i + 1) es)))))
+sum_more width s es i x all count here more h k old is new =
+    old ∙ ap (λ ts. capped (count + sum (map (elements (fortran77 width) s) (bounds_in (map entity_of ts))))) (left es i x h k)
+    ∙ ap (λ n. capped (count + n)) (sum_cons (elements (fortran77 width) s) (map bounds_of x.dims) (bounds_in (map entity_of (drop (i + 1) es))))
+    ∙ capped_sum count (elements (fortran77 width) s (map bounds_of x.dims)) (sum (map (elements (fortran77 width) s) (bounds_in (map entity_of (drop (i + 1) es)))))
+    ∙ ap (λ n. capped (n + sum (map (elements (fortran77 width) s) (bounds_in (map entity_of (drop (i + 1) es)))))) (sym (new ∙ ap (λ n. capped (count + n)) is))
 
 -- one statement more
-count_more : (s : Store) (x : Labelled) (before : List Labelled) (here count more : ℕ) → here ≡ capped (sum (map (elements fortran77 s) (bounds_declared x.statement)))
-    → count ≡ capped (all_elements fortran77 s before) → more ≡ capped (count + here) → more ≡ capped (all_elements fortran77 s (x ∷ before))
-count_more s x before here count more e f g =
+count_more : (width : Width) (s : Store) (x : Labelled) (before : List Labelled) (here count more : ℕ) → here ≡ capped (sum (map (elements (fortran77 width) s) (bounds_declared x.statement)))
+    → count ≡ capped (declared_elements (fortran77 width) s before) → more ≡ capped (count + here) → more ≡ capped (declared_elements (fortran77 width) s (x ∷ before))
+count_more width s x before here count more e f g =
     let b : List (List (Expression × Expression)) = flat_map (λ (y : Labelled). bounds_declared y.statement) before in
-    let parts : all_elements fortran77 s (x ∷ before) ≡ sum (map (elements fortran77 s) (bounds_declared x.statement)) + all_elements fortran77 s before =
-    sum_append (elements fortran77 s) (bounds_declared x.statement) b in
-    g ∙ both (sum (map (elements fortran77 s) (bounds_declared x.statement))) (all_elements fortran77 s before) here count e f ∙ ap capped (sym parts)
+    let parts : declared_elements (fortran77 width) s (x ∷ before) ≡ sum (map (elements (fortran77 width) s) (bounds_declared x.statement)) + declared_elements (fortran77 width) s before =
+    sum_append (elements (fortran77 width) s) (bounds_declared x.statement) b in
+    g ∙ both (sum (map (elements (fortran77 width) s) (bounds_declared x.statement))) (declared_elements (fortran77 width) s before) here count e f ∙ ap capped (sym parts)
   where
     both : (a b here count : ℕ) → here ≡ capped a → count ≡ capped b → capped (count + here) ≡ capped (a + b)
     both a b here count e f = omega arith
 
-pub count_at : (s : Store) (xs : List Labelled') (i : ℕ) (x : Labelled') (es : List Entity') (here count more : ℕ) → here ≡ capped (sum (map (elements fortran77 s) (bounds_in (map entity_of es))))
-    → map entity_of es ≡ entities_of (statement_of x.statement) → count ≡ capped (all_elements fortran77 s (passed (text_of xs) i)) → more ≡ capped (count + here)
-    → more ≡ capped (all_elements fortran77 s (labelled_of x ∷ passed (text_of xs) i))
-count_at s xs i x es here count more e f g h =
-    count_more s (labelled_of x) (passed (text_of xs) i) here count more (e ∙ ap (λ ts. capped (sum (map (elements fortran77 s) (bounds_in ts)))) f) g h
+pub count_at : (width : Width) (s : Store) (xs : List Labelled') (i : ℕ) (x : Labelled') (es : List Entity') (here count more : ℕ) → here ≡ capped (sum (map (elements (fortran77 width) s) (bounds_in (map entity_of es))))
+    → map entity_of es ≡ entities_of (statement_of x.statement) → count ≡ capped (declared_elements (fortran77 width) s (passed (text_of xs) i)) → more ≡ capped (count + here)
+    → more ≡ capped (declared_elements (fortran77 width) s (labelled_of x ∷ passed (text_of xs) i))
+count_at width s xs i x es here count more e f g h =
+    count_more width s (labelled_of x) (passed (text_of xs) i) here count more (e ∙ ap (λ ts. capped (sum (map (elements (fortran77 width) s) (bounds_in ts)))) f) g h
 
 -- more than 2^22, by the capped count
 pub are_many : (n count : ℕ) → count ≡ capped n → 4194304 < count → nat_lt (2 ^ 22) n ≡ true

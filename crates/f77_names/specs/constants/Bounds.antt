@@ -7,6 +7,7 @@ use Rattle.tree.specs.declared.ops.Fault.{Fault}
 use Rattle.meaning.specs.Store.{Store}
 use Rattle.f77_grammar.specs.Statement77.{Entity, NamedConstant}
 use Rattle.meaning.specs.Dialect.{fortran77}
+use Rattle.tree.specs.declared.width.Width.{Width}
 use Rattle.f77_grammar.specs.program.Limits.{dimension_of, is_reversed, is_no_constant}
 
 abbrev pub paired : Result ℤ Fault → Result ℤ Fault → Result (ℤ × ℤ) Fault
@@ -18,11 +19,11 @@ paired a b = do
 abbrev pub bounds_in : List Entity → List (List (Expression × Expression))
 bounds_in es = map (λ (e : Entity). e.bounds) es
 
-abbrev pub has_reversed : Store → List (Expression × Expression) → Bool
-has_reversed s bs = list_any (λ b. is_reversed (dimension_of fortran77 s b)) bs
+abbrev pub has_reversed : (width : Width) → Store → List (Expression × Expression) → Bool
+has_reversed width s bs = list_any (λ b. is_reversed (dimension_of (fortran77 width) s b)) bs
 
-abbrev pub has_bad : Store → List (Expression × Expression) → Bool
-has_bad s bs = list_any (λ b. is_no_constant fortran77 s b.0 || is_no_constant fortran77 s b.1) bs
+abbrev pub has_bad : (width : Width) → Store → List (Expression × Expression) → Bool
+has_bad width s bs = list_any (λ b. is_no_constant (fortran77 width) s b.0 || is_no_constant (fortran77 width) s b.1) bs
 
 -- one of these symbolic constants has no value
 abbrev pub lacks_value : Store → List NamedConstant → Bool

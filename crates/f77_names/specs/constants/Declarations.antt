@@ -11,10 +11,11 @@ use Rattle.tree.specs.Plain.{Expression, Extent, Given, Later, Declaration}
 use Rattle.meaning.specs.Store.{Store}
 use Rattle.f77_grammar.specs.Statement77.{Labelled}
 use Rattle.f77_grammar.specs.program.Limits.{dimension_of}
-use Rattle.f77_grammar.specs.program.Uses.{Use, is_variable}
-use Rattle.f77_grammar.specs.program.Tree.{with_name, variables_of, bounds_in, declaration_of}
+use Rattle.f77_grammar.specs.program.Uses.{Use77, is_variable}
+use Rattle.f77_grammar.specs.program.Tree.{with_name, program_variables_of, bounds_or_empty, declaration_of_name}
 use Rattle.f77_names.specs.declared.names.Names.{Names}
 use Rattle.meaning.specs.Dialect.{fortran77}
+use Rattle.tree.specs.declared.width.Width.{Width}
 use Rattle.f77_names.specs.NameFacts.{facts_in, facts_of, nothing_known}
 
 -- the first of these names, if there is one, doesn't come before y
@@ -28,12 +29,12 @@ Ascends [] = Unit {0}
 Ascends (y ∷ ys) = Follows y ys × Ascends ys
 
 -- the table has what the uses say of each name
-pub record AreFacts (names : Names) (us : List Use) : Type 0 where
+pub record AreFacts (names : Names) (us : List Use77) : Type 0 where
   pub facts : (x : List ℕ) → facts_in names x ≡ facts_of nothing_known us x
 
 -- the variables that stand in these uses
-abbrev pub variables_from : List Use → List Use → List (List ℕ)
-variables_from us vs = fold (λ names x. with_name x names) [] (filter (is_variable us) (map (λ (u : Use). u.name) vs))
+abbrev pub variables_from : List Use77 → List Use77 → List (List ℕ)
+variables_from us vs = fold (λ names x. with_name x names) [] (filter (is_variable us) (map (λ (u : Use77). u.name) vs))
 
 -- a number of 64 bits, and 0 for another one
 abbrev pub narrowed : ℤ → ℤ
@@ -50,12 +51,13 @@ abbrev pub narrow_declaration : Declaration → Declaration
 narrow_declaration d = record { name = d.name; kind = d.kind; extent = narrow_extent d.extent }
 
 -- the numbers of each of these bounds; 1 and 0 where one faults
-abbrev pub dimensions : Store → List (Expression × Expression) → List (ℤ × ℤ)
-dimensions s bs = map (λ b. bounds_in (dimension_of fortran77 s b)) bs
+abbrev pub dimensions : (width : Width) → Store → List (Expression × Expression) → List (ℤ × ℤ)
+dimensions width s bs = map (λ b. bounds_or_empty (dimension_of (fortran77 width) s b)) bs
 
 -- these variables with their declarations
-abbrev pub narrow_declarations : List Use → Store → List Labelled → List (List ℕ) → List Declaration
-narrow_declarations us s text xs = map (λ x. narrow_declaration (declaration_of fortran77 us s text x)) xs
+abbrev pub narrow_declarations : (width : Width) → List Use77 → Store → List Labelled → List (List ℕ) → List Declaration
+narrow_declarations width us s text xs =
+    map (λ x. narrow_declaration (declaration_of_name (fortran77 width) us s text x)) xs
 
 -- an array of fixed bounds has at least one dimension
 abbrev pub HasDimensions : Extent' → Type 0
@@ -67,5 +69,5 @@ abbrev pub HaveDimensions : List Decl → Type 0
 HaveDimensions ds = AllByRecursion (λ (d : Decl). HasDimensions d.extent) ds
 
 -- the declarations of a program
-abbrev pub all_declarations : List Use → Store → List Labelled → List Declaration
-all_declarations us s text = map (declaration_of fortran77 us s text) (variables_of us)
+abbrev pub all_declarations : (width : Width) → List Use77 → Store → List Labelled → List Declaration
+all_declarations width us s text = map (declaration_of_name (fortran77 width) us s text) (program_variables_of us)

@@ -8,6 +8,7 @@ use Rattle.tree.specs.declared.functions.Fun.{Fun}
 use Rattle.tree.specs.declared.ops.Value.{Value}
 use Rattle.tree.specs.declared.ops.Fault.{Fault}
 use Rattle.meaning.specs.Dialect.{fortran77}
+use Rattle.tree.specs.declared.width.Width.{Width}
 use Rattle.tree.specs.declared.ops.Fault.TheVariants.{Bounds, Allocated}
 
 -- an operator with one operand
@@ -40,10 +41,10 @@ numbered r = do
   as_number v
 
 -- a value that INTEGER has
-abbrev pub kept : Result Value Fault → Result Value Fault
-kept r = do
+abbrev pub kept : (width : Width) → Result Value Fault → Result Value Fault
+kept width r = do
   v ← r
-  in_range fortran77 v
+  in_range (fortran77 width) v
 
 abbrev pub fault_of : {A : Type 0} → Result A Fault → Option Fault
 fault_of (Ok x) = None

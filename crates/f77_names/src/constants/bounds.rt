@@ -47,7 +47,7 @@ impl Constants {
         bounds: &(Expr, Expr),
     ) -> Result<Result<(i128, i128), Fault>, Memory>
         ensures { IfOk result (λ dimension.
-            dimension ≡ plain.dimension_of fortran77 (store_of self.now) (bounds_of bounds.now)) }
+            dimension ≡ plain.dimension_of (fortran77 self.now.width) (store_of self.now) (bounds_of bounds.now)) }
     {
         let lower = self.number(alloc, &bounds.0)?;
         let upper = self.number(alloc, &bounds.1)?;
@@ -55,7 +55,8 @@ impl Constants {
     }
 
     fn has_reversed(&self, alloc: Global, dims: &[(Expr, Expr)]) -> Result<bool, Memory>
-        ensures { IfOk result (λ found. found ≡ has_reversed (store_of self.now) (map bounds_of dims.now)) }
+        ensures { IfOk result
+            (λ found. found ≡ has_reversed self.now.width (store_of self.now) (map bounds_of dims.now)) }
     {
         for bounds in dims {
             if is_reversed(self.dimension(alloc, bounds)?) {
@@ -68,7 +69,8 @@ impl Constants {
     /// Whether an upper bound is below its lower bound.
     pub(crate) fn any_reversed(&self, alloc: Global, entities: &[Entity]) -> Result<bool, Memory>
         ensures { IfOk result (λ found.
-            found ≡ list_any (has_reversed (store_of self.now)) (bounds_in (map entity_of entities.now))) }
+            found ≡ list_any (has_reversed self.now.width (store_of self.now)) (bounds_in
+            (map entity_of entities.now))) }
     {
         for entity in entities {
             if self.has_reversed(alloc, entity.dims.as_slice())? {
@@ -80,8 +82,8 @@ impl Constants {
 
     fn is_bad(&self, alloc: Global, bounds: &(Expr, Expr)) -> Result<bool, Memory>
         ensures { IfOk result (λ bad.
-            bad ≡ (plain.is_no_constant fortran77 (store_of self.now) (expression_of bounds.now.0)
-            || plain.is_no_constant fortran77 (store_of self.now) (expression_of bounds.now.1))) }
+            bad ≡ (plain.is_no_constant (fortran77 self.now.width) (store_of self.now) (expression_of bounds.now.0)
+            || plain.is_no_constant (fortran77 self.now.width) (store_of self.now) (expression_of bounds.now.1))) }
     {
         let lower = self.constant_value(alloc, &bounds.0)?;
         let upper = self.constant_value(alloc, &bounds.1)?;
@@ -89,7 +91,7 @@ impl Constants {
     }
 
     fn has_bad(&self, alloc: Global, dims: &[(Expr, Expr)]) -> Result<bool, Memory>
-        ensures { IfOk result (λ found. found ≡ has_bad (store_of self.now) (map bounds_of dims.now)) }
+        ensures { IfOk result (λ found. found ≡ has_bad self.now.width (store_of self.now) (map bounds_of dims.now)) }
     {
         for bounds in dims {
             if self.is_bad(alloc, bounds)? {
@@ -102,7 +104,7 @@ impl Constants {
     /// Whether a bound faults, or leaves the range of INTEGER.
     pub(crate) fn any_bad(&self, alloc: Global, entities: &[Entity]) -> Result<bool, Memory>
         ensures { IfOk result (λ found.
-            found ≡ list_any (has_bad (store_of self.now)) (bounds_in (map entity_of entities.now))) }
+            found ≡ list_any (has_bad self.now.width (store_of self.now)) (bounds_in (map entity_of entities.now))) }
     {
         for entity in entities {
             if self.has_bad(alloc, entity.dims.as_slice())? {
@@ -114,7 +116,8 @@ impl Constants {
 
     fn product(&self, alloc: Global, dims: &[(Expr, Expr)]) -> Result<u64, Memory>
         ensures { IfOk result (λ count.
-            count ≡ capped (plain.product_of_sizes fortran77 (store_of self.now) (map bounds_of dims.now))) }
+            count ≡ capped (plain.product_of_sizes (fortran77 self.now.width) (store_of self.now)
+            (map bounds_of dims.now))) }
     {
         let mut product = 1;
         for bounds in dims {
@@ -126,7 +129,7 @@ impl Constants {
 
     fn elements(&self, alloc: Global, dims: &[(Expr, Expr)]) -> Result<u64, Memory>
         ensures { IfOk result (λ count.
-            count ≡ capped (plain.elements fortran77 (store_of self.now) (map bounds_of dims.now))) }
+            count ≡ capped (plain.elements (fortran77 self.now.width) (store_of self.now) (map bounds_of dims.now))) }
     {
         match dims {
             [] => Ok(0),
@@ -137,7 +140,7 @@ impl Constants {
     /// The elements of these arrays, or one more than the most where there are more.
     pub(crate) fn all_elements(&self, alloc: Global, entities: &[Entity]) -> Result<u64, Memory>
         ensures { IfOk result (λ count.
-            count ≡ capped (sum (map (plain.elements fortran77 (store_of self.now)) (bounds_in
+            count ≡ capped (sum (map (plain.elements (fortran77 self.now.width) (store_of self.now)) (bounds_in
             (map entity_of entities.now))))) }
     {
         let mut count = 0;

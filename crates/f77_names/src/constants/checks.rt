@@ -22,7 +22,8 @@ pub fn reversed_bounds(
     constants: &Constants,
 ) -> Result<Option<usize>, Memory>
     ensures { (s : Store) → AreValues constants.now s
-        → IfOk result (λ place. place ≡ first_index (has_reversed_bounds fortran77 s) (text_of text.now)) }
+        → IfOk result (λ place. place ≡ first_index (has_reversed_bounds (fortran77 constants.now.width) s)
+        (text_of text.now)) }
 {
     for (i, statement) in text.iter().enumerate() {
         if constants.any_reversed(alloc, statement.statement.entities())? {
@@ -39,7 +40,8 @@ pub fn many_elements(
     constants: &Constants,
 ) -> Result<Option<usize>, Memory>
     ensures { (s : Store) → AreValues constants.now s
-        → IfOk result (λ place. place ≡ first_index (has_many_elements fortran77 s) (text_of text.now)) }
+        → IfOk result (λ place. place ≡ first_index (has_many_elements (fortran77 constants.now.width) s)
+        (text_of text.now)) }
 {
     let mut count = 0;
     for (i, statement) in text.iter().enumerate() {
@@ -81,7 +83,8 @@ pub fn bad_constant(
     constants: &Constants,
 ) -> Result<Option<usize>, Memory>
     ensures { (s : Store) → AreValues constants.now s
-        → IfOk result (λ place. place ≡ first_index (has_bad_constant fortran77 s) (text_of text.now)) }
+        → IfOk result (λ place. place ≡ first_index (has_bad_constant (fortran77 constants.now.width) s)
+        (text_of text.now)) }
 {
     for (i, statement) in text.iter().enumerate() {
         if constants.lacks_value(statement.statement.definitions()) {

@@ -1,7 +1,6 @@
 //! Symbolic constants and their values.
 ghost use Rattle.std.specs.Prelude.{◌≡◌, ℕ, None, Some, List, map, if◌then◌else◌, IfOk, OnOk};
 ghost use Rattle.std.specs.Str.{bytes_eq};
-ghost use Rattle.tree.specs.Operators.{fits};
 ghost use Rattle.tree.specs.View.{expression_of};
 ghost use Rattle.meaning.specs.Dialect.{fortran77};
 ghost use Rattle.f77_grammar.specs.program.Limits as plain;
@@ -12,29 +11,25 @@ ghost use Rattle.f77_names.specs.constants.Steps.{kept};
 use f77_grammar::syntax::Labelled;
 use indexmap::IndexMap;
 use std::alloc::Global;
-use tree::{Expr, Fault, Memory, Name, Value};
+use tree::{Expr, Fault, Memory, Name, Value, Width};
 
 /// The symbolic constants of a program that have a value. One whose expression faults, or leaves the range of INTEGER,
 /// has none.
 #[derive(Drop)]
 pub struct Constants {
     table: IndexMap<Name, Value>,
-}
-
-#[tactic(auto, using(crate::proofs::constants::StoreLaws::range_laws))]
-fn is_in_range(number: i128) -> bool
-    ensures { result ≡ fits fortran77.bits number }
-{
-    -0x8000_0000 <= number && number <= 0x7fff_ffff
+    /// How wide INTEGER is.
+    pub width: Width,
 }
 
 // The value, where INTEGER has it.
-fn in_range(value: Result<Value, Fault>) -> Result<Value, Fault>
-    ensures { result ≡ kept value }
+#[tactic(auto, using(crate::proofs::constants::StoreLaws::range_laws))]
+fn in_range(width: Width, value: Result<Value, Fault>) -> Result<Value, Fault>
+    ensures { result ≡ kept width value }
 {
     match value? {
         Value::Int(number) => {
-            if !is_in_range(number) {
+            if !width.holds(number) {
                 return Err(Fault::Overflow);
             }
             Ok(Value::Int(number))
@@ -44,11 +39,13 @@ fn in_range(value: Result<Value, Fault>) -> Result<Value, Fault>
 }
 
 impl Constants {
-    fn new(alloc: Global) -> Constants
-        ensures { (x : List ℕ) → value_in result x ≡ None }
+    fn new(alloc: Global, width: Width) -> Constants
+        ensures values { (x : List ℕ) → value_in result x ≡ None }
+        ensures width { result.width ≡ width }
     {
         Constants {
             table: IndexMap::new(alloc),
+            width,
         }
     }
 
@@ -60,15 +57,17 @@ impl Constants {
     }
 
     fn insert(&mut self, name: Name, value: Value) -> Result<(), Memory>
-        ensures { OnOk result ((x : List ℕ)
+        ensures values { OnOk result ((x : List ℕ)
             → value_in self.new x ≡ (if bytes_eq name x then Some value else value_in self.old x)) }
+        ensures width { self.new.width ≡ self.old.width }
     {
         self.table.insert(name, value)?;
         Ok(())
     }
 
     fn set(&mut self, name: Name, value: Result<Value, Fault>) -> Result<(), Memory>
-        ensures { OnOk result (store_of self.new ≡ plain.with_value name value (store_of self.old)) }
+        ensures values { OnOk result (store_of self.new ≡ plain.with_named_value name value (store_of self.old)) }
+        ensures width { self.new.width ≡ self.old.width }
     {
         match value {
             Ok(value) => self.insert(name, value),
@@ -83,23 +82,26 @@ impl Constants {
         expr: &Expr,
     ) -> Result<Result<Value, Fault>, Memory>
         ensures { IfOk result (λ value.
-            value ≡ plain.constant_value fortran77 (expression_of expr.now) (store_of self.now)) }
+            value ≡ plain.named_constant_value (fortran77 self.now.width) (expression_of expr.now)
+            (store_of self.now)) }
     {
         let value = self.evaluate(alloc, expr)?;
-        Ok(in_range(value))
+        Ok(in_range(self.width, value))
     }
 
     fn define(&mut self, alloc: Global, constant: &(Name, Expr)) -> Result<(), Memory>
-        ensures { OnOk result (store_of self.new
-            ≡ plain.with_constant fortran77 (constant_of constant.now) (store_of self.old)) }
+        ensures values { OnOk result (store_of self.new
+            ≡ plain.with_named_constant (fortran77 self.old.width) (constant_of constant.now) (store_of self.old)) }
+        ensures width { self.new.width ≡ self.old.width }
     {
         let value = self.constant_value(alloc, &constant.1)?;
         self.set(constant.0, value)
     }
 
     fn define_all(&mut self, alloc: Global, constants: &[(Name, Expr)]) -> Result<(), Memory>
-        ensures { OnOk result (store_of self.new
-            ≡ plain.with_constants fortran77 (map constant_of constants.now) (store_of self.old)) }
+        ensures values { OnOk result (store_of self.new
+            ≡ plain.with_constants (fortran77 self.old.width) (map constant_of constants.now) (store_of self.old)) }
+        ensures width { self.new.width ≡ self.old.width }
     {
         for constant in constants {
             self.define(alloc, constant)?;
@@ -109,10 +111,12 @@ impl Constants {
 }
 
 /// The symbolic constants of a program.
-pub fn constants_of(alloc: Global, text: &[Labelled]) -> Result<Constants, Memory>
-    ensures { IfOk result (λ constants. AreValues constants (plain.constants_of fortran77 (text_of text.now))) }
+pub fn constants_of(alloc: Global, text: &[Labelled], width: Width) -> Result<Constants, Memory>
+    ensures values { IfOk result
+        (λ constants. AreValues constants (plain.constants_of (fortran77 width) (text_of text.now))) }
+    ensures width { IfOk result (λ constants. constants.width ≡ width) }
 {
-    let mut constants = Constants::new(alloc);
+    let mut constants = Constants::new(alloc, width);
     for statement in text {
         constants.define_all(alloc, statement.statement.definitions())?;
     }

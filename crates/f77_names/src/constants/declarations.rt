@@ -6,7 +6,7 @@ ghost use Rattle.tree.specs.Plain.{Given};
 ghost use Rattle.meaning.specs.Store.{Store};
 ghost use Rattle.f77_grammar.specs.program.Limits as plain;
 ghost use Rattle.f77_grammar.specs.program.Tree as tree;
-ghost use Rattle.f77_grammar.specs.program.Uses.{Use as Use', uses_in_text, is_variable, kind_of_name, or_integer};
+ghost use Rattle.f77_grammar.specs.program.Uses.{Use77 as Use', uses_in_text, is_variable, kind_of_name, or_integer};
 ghost use Rattle.f77_grammar.specs.syntax.First.{first_index};
 ghost use Rattle.f77_grammar.specs.syntax.Views.{bounds_of, entity_of, text_of};
 ghost use Rattle.f77_names.specs.UsesView.{plain_use, listed};
@@ -15,8 +15,7 @@ ghost use Rattle.f77_names.specs.constants.Constants.{AreValues, store_of};
 ghost use Rattle.f77_names.specs.constants.Declarations.{Ascends, AreFacts, narrowed, narrow, narrow_declaration};
 ghost use Rattle.meaning.specs.Dialect.{fortran77};
 ghost use Rattle.f77_names.specs.constants.Declarations.{narrow_declarations, dimensions, variables_from};
-ghost use Rattle.f77_names.specs.constants.Declarations.{all_declarations};
-ghost use Rattle.f77_names.specs.constants.Declarations.{HasDimensions, HaveDimensions};
+ghost use Rattle.f77_names.specs.constants.Declarations.{all_declarations, HasDimensions, HaveDimensions};
 
 use crate::constants::constants::Constants;
 use crate::{Facts, KnownNames, Names, Use};
@@ -32,7 +31,7 @@ fn narrowed(number: i128) -> i64
 }
 
 fn dim(dimension: Result<(i128, i128), Fault>) -> Dim
-    ensures { view.bounds_of result ≡ narrow (tree.bounds_in dimension) }
+    ensures { view.bounds_of result ≡ narrow (tree.bounds_or_empty dimension) }
 {
     match dimension {
         Ok((lower, upper)) => Dim {
@@ -141,7 +140,8 @@ fn variables(alloc: Global, uses: &[Use], names: &Names) -> Result<Vec<Name>, Me
 impl Constants {
     fn dims(&self, alloc: Global, bounds: &[(Expr, Expr)]) -> Result<Seq<Dim>, Memory>
         ensures bounds { IfOk result (λ dims.
-            map view.bounds_of dims ≡ map narrow (dimensions (store_of self.now) (map bounds_of bounds.now))) }
+            map view.bounds_of dims ≡ map narrow (dimensions self.now.width (store_of self.now)
+            (map bounds_of bounds.now))) }
         ensures count { IfOk result (λ dims. length dims ≡ length bounds.now) }
     {
         let mut dims = Seq::new(alloc);
@@ -153,7 +153,8 @@ impl Constants {
 
     fn extent(&self, alloc: Global, bounds: &[(Expr, Expr)]) -> Result<Extent, Memory>
         ensures extent { IfOk result (λ extent.
-            view.extent_of extent ≡ Given (map narrow (dimensions (store_of self.now) (map bounds_of bounds.now)))) }
+            view.extent_of extent ≡ Given (map narrow (dimensions self.now.width (store_of self.now)
+            (map bounds_of bounds.now)))) }
         ensures dimensions { IfOk result HasDimensions }
     {
         if bounds.is_empty() {
@@ -173,7 +174,8 @@ impl Constants {
         ensures declaration { (us : List Use') → AreFacts names.now us
             → IfOk result (λ declaration.
             view.declaration_of declaration
-            ≡ narrow_declaration (tree.declaration_of fortran77 us (store_of self.now) (text_of text.now) name)) }
+            ≡ narrow_declaration (tree.declaration_of_name (fortran77 self.now.width) us (store_of self.now)
+            (text_of text.now) name)) }
     {
         let extent = self.extent(alloc, bounds_of_name(text, name))?;
         let kind = kind_of(names, name);
@@ -192,7 +194,7 @@ impl Constants {
         ensures declarations { (us : List Use') → AreFacts names.now us
             → IfOk result (λ declarations.
             map view.declaration_of declarations
-            ≡ narrow_declarations us (store_of self.now) (text_of text.now) variables.now) }
+            ≡ narrow_declarations self.now.width us (store_of self.now) (text_of text.now) variables.now) }
     {
         let mut declarations = Seq::new(alloc);
         for name in variables {
@@ -212,10 +214,10 @@ pub fn declarations_of(
     requires { listed known.now.uses ≡ uses_in_text (text_of text.now) }
     ensures dimensions { IfOk result HaveDimensions }
     ensures declarations { (s : Store) → AreValues constants.now s
-        → first_index (plain.has_bad_constant fortran77 s) (text_of text.now) ≡ None
+        → first_index (plain.has_bad_constant (fortran77 constants.now.width) s) (text_of text.now) ≡ None
         → IfOk result (λ declarations.
         map view.declaration_of declarations
-        ≡ all_declarations (uses_in_text (text_of text.now)) s (text_of text.now)) }
+        ≡ all_declarations constants.now.width (uses_in_text (text_of text.now)) s (text_of text.now)) }
 {
     let variables = variables(alloc, known.uses.as_slice(), &known.names)?;
     constants.declare(alloc, text, &known.names, variables.as_slice())

@@ -40,7 +40,8 @@ impl Constants {
         alloc: Global,
         expr: &Expr,
     ) -> Result<Result<Value, Fault>, Memory>
-        ensures { IfOk result (λ value. value ≡ value_of fortran77 (expression_of expr.now) (store_of self.now)) }
+        ensures { IfOk result
+            (λ value. value ≡ value_of (fortran77 self.now.width) (expression_of expr.now) (store_of self.now)) }
     {
         match expr {
             Expr::Int(number) => Ok(Ok(Value::Int(*number))),
@@ -69,7 +70,7 @@ impl Constants {
     #[tactic(auto, using(crate::proofs::constants::ValueLaws::value_laws))]
     fn evaluate_item(&self, alloc: Global, item: &Ref) -> Result<Result<Value, Fault>, Memory>
         ensures { IfOk result (λ value.
-            value ≡ value_of fortran77 (expression_of (exprs.Item item.now)) (store_of self.now)) }
+            value ≡ value_of (fortran77 self.now.width) (expression_of (exprs.Item item.now)) (store_of self.now)) }
     {
         let fault = self.fault_in_subs(alloc, &item.subs)?;
         Ok(scalar(fault, item.subs.is_empty(), self.value(item.name)))
@@ -82,7 +83,8 @@ impl Constants {
         exprs: &Seq<Expr>,
     ) -> Result<Result<Seq<Value>, Fault>, Memory>
         ensures { IfOk result (λ values.
-            values ≡ values_of fortran77 (expressions (map expression_of exprs.now)) (store_of self.now)) }
+            values ≡ values_of (fortran77 self.now.width) (expressions (map expression_of exprs.now))
+            (store_of self.now)) }
     {
         let mut values = Seq::new(alloc);
         for expr in exprs.as_slice() {
@@ -98,7 +100,7 @@ impl Constants {
     #[tactic(auto, using(crate::proofs::constants::ValueLaws::value_laws))]
     fn fault_in_sub(&self, alloc: Global, sub: &Sub) -> Result<Option<Fault>, Memory>
         ensures { IfOk result (λ fault.
-            fault ≡ fault_of (subscript_value fortran77 (subscript_of sub.now) (store_of self.now))) }
+            fault ≡ fault_of (subscript_value (fortran77 self.now.width) (subscript_of sub.now) (store_of self.now))) }
     {
         match sub {
             Sub::One(expr) => {
@@ -112,7 +114,7 @@ impl Constants {
     #[cycle(values)]
     fn fault_in_subs(&self, alloc: Global, subs: &Seq<Sub>) -> Result<Option<Fault>, Memory>
         ensures { IfOk result (λ fault.
-            fault ≡ fault_of (subscript_values fortran77 (subscripts (map subscript_of subs.now))
+            fault ≡ fault_of (subscript_values (fortran77 self.now.width) (subscripts (map subscript_of subs.now))
             (store_of self.now))) }
     {
         for sub in subs.as_slice() {
@@ -126,7 +128,8 @@ impl Constants {
 
     /// The number that an expression gives, or its fault.
     pub(crate) fn number(&self, alloc: Global, expr: &Expr) -> Result<Result<i128, Fault>, Memory>
-        ensures { IfOk result (λ value. value ≡ number_of fortran77 (expression_of expr.now) (store_of self.now)) }
+        ensures { IfOk result
+            (λ value. value ≡ number_of (fortran77 self.now.width) (expression_of expr.now) (store_of self.now)) }
     {
         let value = self.evaluate(alloc, expr)?;
         Ok(number(value))

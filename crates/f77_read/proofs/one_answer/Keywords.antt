@@ -1,9 +1,9 @@
 -- The keywords with which statements begin. Those of `f77_statement` can't be named here.
 use Rattle.std.specs.Prelude.{ℕ, ◌⊎◌, Option, Some, None, List, [], ◌∷◌, codes}
 use Rattle.tree.specs.declared.ops.Kind.TheVariants as kinds
-use Rattle.f77_grammar.specs.expressions.Squeezing.{Symbol}
+use Rattle.f77_grammar.specs.expressions.Squeezing.{Symbol77}
 use Rattle.f77_grammar.specs.statements.Forms as forms
-use Rattle.f77_grammar.specs.statements.Forms.{Form}
+use Rattle.f77_grammar.specs.statements.Forms.{Form77}
 use Rattle.f77_expressions.specs.Lexing.{strip}
 use Rattle.f77_statement.specs.Keywords.{IsProgramAfter, IsDeclarationAfter, IsDimensionAfter, AreConstantsAfter, IsGoToAfter, IsElseIfAfter, IsNothingAfter, IsReadAfter, IsPrintAfter, AfterComma}
 
@@ -29,13 +29,13 @@ pub data Keyword : Type 0 where
 
 pub record Front : Type 0 where
   pub keyword : Keyword
-  pub rest : List Symbol
+  pub rest : List Symbol77
 
-abbrev pub or_else : Option (List Symbol) → Keyword → Option Front → Option Front
+abbrev pub or_else : Option (List Symbol77) → Keyword → Option Front → Option Front
 or_else (Some rest) k next = Some (record { keyword = k; rest = rest })
 or_else None k next = next
 
-abbrev pub first_of : List (List ℕ × Keyword) → List Symbol → Option Front
+abbrev pub first_of : List (List ℕ × Keyword) → List Symbol77 → Option Front
 first_of [] text = None
 first_of (w ∷ ws) text = or_else (strip w.0 text) w.1 (first_of ws text)
 
@@ -57,11 +57,11 @@ either (Some f) next = Some f
 either None next = next
 
 -- the keyword at the front of a text
-abbrev pub keyword_at : List Symbol → Option Front
+abbrev pub keyword_at : List Symbol77 → Option Front
 keyword_at text = either (first_of first_keywords text) (first_of last_keywords text)
 
 -- The form f stands so behind the keyword.
-abbrev pub IsAfter : Keyword → List Symbol → Form → Type 0
+abbrev pub IsAfter : Keyword → List Symbol77 → Form77 → Type 0
 IsAfter Program rest f = IsProgramAfter rest f
 IsAfter ImplicitNone rest f = IsNothingAfter forms.ImplicitNone rest f
 IsAfter Integer rest f = IsDeclarationAfter kinds.Integer rest f

@@ -4,9 +4,9 @@ use Rattle.std.specs.Prelude.{◌⊎◌, IsTrue}
 use Rattle.tree.specs.Causes.{number_of_cause}
 use Rattle.tree.specs.declared.refusals.Cause.TheVariants as causes
 use Rattle.f77_grammar.specs.Statement77.{Statement77}
-use Rattle.f77_grammar.specs.expressions.Squeezing.{Symbol}
-use Rattle.f77_grammar.specs.statements.Forms.{Form, IsWritten, statement_of, form_depth, has_wide_literal}
-use Rattle.f77_grammar.specs.statements.Reading.{IsFormOf, ReadsStatement, HasNoForm, HasWordLeftOut, IsRefusedBy}
+use Rattle.f77_grammar.specs.expressions.Squeezing.{Symbol77}
+use Rattle.f77_grammar.specs.statements.Forms.{Form77, IsWritten77, statement_of, form_depth, has_wide_literal77}
+use Rattle.f77_grammar.specs.statements.Reading.{IsFormOf77, ReadsStatement, HasNoForm77, HasWordLeftOut, IsRefusedBy}
 use Rattle.f77_grammar.specs.statements.Reading.IsRefusedBy.{Syntax, OutOfProfile, WideLiteral, Deep}
 use Rattle.f77_grammar.specs.statements.Recognition.{HasWord}
 use Rattle.f77_expressions.specs.Reader.{capped}
@@ -18,14 +18,14 @@ use Rattle.f77_read.proofs.one_answer.LeftOut.{WordOf, word_of}
 use Rattle.f77_read.proofs.one_answer.Statements.{IsLike, Decided, statement_in}
 
 module _ (chars : List ℕ) where
-  abbrev text : List Symbol
+  abbrev text : List Symbol77
   text = scan chars Out
 
-  form_here : (f : Form) → IsWritten f text → IsFormOf chars f
+  form_here : (f : Form77) → IsWritten77 f text → IsFormOf77 chars f
   form_here f h = record { symbols = text; squeezed = scanning.squeezed chars; written = h }
 
-  written_here : (f : Form) → IsFormOf chars f → IsWritten f text
-  written_here f h = subst (IsWritten f) (sym (scanning.only h.squeezed)) h.written
+  written_here : (f : Form77) → IsFormOf77 chars f → IsWritten77 f text
+  written_here f h = subst (IsWritten77 f) (sym (scanning.only h.squeezed)) h.written
 
   word_here : (w : ℕ) → HasWordLeftOut chars w → HasWord text w
   word_here w h = subst (λ q. HasWord q w) (sym (scanning.only h.squeezed)) h.has_word
@@ -34,14 +34,14 @@ module _ (chars : List ℕ) where
   word_left_out w h = record { symbols = text; squeezed = scanning.squeezed chars; has_word = h }
 
   -- what is made of two forms of the characters is the same
-  alike_by : Decided (λ f. IsWritten f text) → (f g : Form) → IsFormOf chars f → IsFormOf chars g → IsLike f g
+  alike_by : Decided (λ f. IsWritten77 f text) → (f g : Form77) → IsFormOf77 chars f → IsFormOf77 chars g → IsLike f g
   alike_by (inl k) f g h i =
       let a = k.only f (written_here f h) in
       let b = k.only g (written_here g i) in
       (sym a.0 ∙ b.0, sym a.1 ∙ b.1, sym a.2 ∙ b.2)
   alike_by (inr never) f g h i = absurd (never f (written_here f h))
 
-  alike : (f g : Form) → IsFormOf chars f → IsFormOf chars g → IsLike f g
+  alike : (f g : Form77) → IsFormOf77 chars f → IsFormOf77 chars g → IsLike f g
   alike f g h i = alike_by (statement_in text) f g h i
 
   one_word_by : WordOf text → (w v : ℕ) → HasWordLeftOut chars w → HasWordLeftOut chars v → w ≡ v
@@ -56,20 +56,20 @@ module _ (chars : List ℕ) where
   abbrev ReadOrRefused : Type 0
   ReadOrRefused = ((s : Statement77) × ReadsStatement chars s) ⊎ ((number : ℕ) × (word : ℕ) × IsRefusedBy chars number word)
 
-  by_depth : (f : Form) → IsFormOf chars f → has_wide_literal f ≡ false → (form_depth f ≤ 400) ⊎ (400 < form_depth f) → ReadOrRefused
+  by_depth : (f : Form77) → IsFormOf77 chars f → has_wide_literal77 f ≡ false → (form_depth f ≤ 400) ⊎ (400 < form_depth f) → ReadOrRefused
   by_depth f h n (inl l) = inl (statement_of f, record { form = f; is_form = h; narrow = n; shallow = l; same = refl })
   by_depth f h n (inr d) = inr (_, 0, Deep f h n d)
 
-  by_wide : (f : Form) → IsFormOf chars f → (b : Bool) → has_wide_literal f ≡ b → ReadOrRefused
+  by_wide : (f : Form77) → IsFormOf77 chars f → (b : Bool) → has_wide_literal77 f ≡ b → ReadOrRefused
   by_wide f h true w = inr (_, 0, WideLiteral f h w)
   by_wide f h false n = by_depth f h n (at_most (form_depth f) 400)
 
-  by_word : HasNoForm chars → WordOf text → ReadOrRefused
+  by_word : HasNoForm77 chars → WordOf text → ReadOrRefused
   by_word lacks (inl k) = inr (_, k.number, OutOfProfile k.number lacks (word_left_out k.number k.has))
   by_word lacks (inr none) = inr (_, 0, Syntax lacks (λ w h. none w (word_here w h)))
 
-  by_form : Decided (λ f. IsWritten f text) → ReadOrRefused
-  by_form (inl k) = by_wide k.form (form_here k.form k.is) (has_wide_literal k.form) refl
+  by_form : Decided (λ f. IsWritten77 f text) → ReadOrRefused
+  by_form (inl k) = by_wide k.form (form_here k.form k.is) (has_wide_literal77 k.form) refl
   by_form (inr never) = by_word (λ f h. never f (written_here f h)) (word_of text)
 
   -- ---- in one way alone
@@ -83,14 +83,14 @@ module _ (chars : List ℕ) where
   not_both : (s : Statement77) (number word : ℕ) → ReadsStatement chars s → IsRefusedBy chars number word → ⊥
   not_both s number word r (Syntax lacks words) = lacks r.form r.is_form
   not_both s number word r (OutOfProfile w lacks has) = lacks r.form r.is_form
-  not_both s number word r (WideLiteral f h w) = opposite (has_wide_literal f) w (sym (alike r.form f r.is_form h).1 ∙ r.narrow)
+  not_both s number word r (WideLiteral f h w) = opposite (has_wide_literal77 f) w (sym (alike r.form f r.is_form h).1 ∙ r.narrow)
   not_both s number word r (Deep f h n d) = too_deep (form_depth r.form) (form_depth f) (alike r.form f r.is_form h).2 r.shallow d
 
   one_statement : (s t : Statement77) → ReadsStatement chars s → ReadsStatement chars t → s ≡ t
   one_statement s t a b = a.same ∙ (alike a.form b.form a.is_form b.is_form).0 ∙ sym b.same
 
-  wide_not_narrow : (f g : Form) → IsFormOf chars f → IsFormOf chars g → IsTrue (has_wide_literal f) → has_wide_literal g ≡ false → ⊥
-  wide_not_narrow f g h i w n = opposite (has_wide_literal f) w ((alike f g h i).1 ∙ n)
+  wide_not_narrow : (f g : Form77) → IsFormOf77 chars f → IsFormOf77 chars g → IsTrue (has_wide_literal77 f) → has_wide_literal77 g ≡ false → ⊥
+  wide_not_narrow f g h i w n = opposite (has_wide_literal77 f) w ((alike f g h i).1 ∙ n)
 
   one_cause : (n w m v : ℕ) → IsRefusedBy chars n w → IsRefusedBy chars m v → (n ≡ m) × (w ≡ v)
   one_cause n w m v (Syntax lacks words) (Syntax lacks' words') = (refl, refl)

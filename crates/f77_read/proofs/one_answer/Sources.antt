@@ -3,7 +3,7 @@ use Rattle.std.proofs.Common.{◌≡◌, ◌⊎◌, inl, inr, ℕ, Option, None,
 use Rattle.tree.specs.Plain.{Program}
 use Rattle.tree.specs.declared.refusals.Refusal.{Refusal}
 use Rattle.meaning.specs.Dialect.{Dialect}
-use Rattle.f77_grammar.specs.Answered.{IsAnswered}
+use Rattle.reading.specs.refusal_order.Answered.{IsAnswered}
 use Rattle.f77_grammar.specs.Cards.{PlainCard, ReadsCards, RefusedCards}
 use Rattle.f77_grammar.specs.Statement77.{Labelled, Statement77}
 use Rattle.f77_grammar.specs.statements.Reading.{ReadsStatement, IsRefusedBy}
@@ -11,8 +11,8 @@ use Rattle.f77_grammar.specs.program.EndDo.{with_loop_labels}
 use Rattle.f77_grammar.specs.program.Program77.{findings, ReadsStatements}
 use Rattle.f77_laws.specs.trees.Steps.{tree_of}
 use Rattle.f77_laws.proofs.trees.Trees.{tree_is_read, one_read}
-use Rattle.f77_grammar.specs.Reading77.{IsReadFrom, AreReadFrom, HasCause, ReadsProgram, RefusedProgram, Reads77, Refused77}
-use Rattle.f77_grammar.specs.Reading77.HasCause.{AtCard, InText}
+use Rattle.f77_grammar.specs.Reading77.{IsReadFrom, AreReadFrom, HasCause77, ReadsProgram, RefusedProgram, Reads77, Refused77}
+use Rattle.f77_grammar.specs.Reading77.HasCause77.{AtCard, InText}
 use Rattle.f77_grammar.specs.Reading77.Refused77.{OfLines, OfCards}
 use Rattle.f77_grammar.proofs.CardLaws as lines
 use Rattle.f77_grammar.proofs.Grouping.{one_reading}
@@ -120,7 +120,7 @@ module _ (settled : AllAreSettled) where
       by more (inl e) = (x.statement, subst (λ (q : PlainCard). ReadsStatement q.chars x.statement) e f.0.reads)
       by more (inr k) = more k
 
-  no_cause : (d : Dialect) (cards : List PlainCard) (p : Program) (r : Refusal) → ReadsProgram d cards p → HasCause d cards r → ⊥
+  no_cause : (d : Dialect) (cards : List PlainCard) (p : Program) (r : Refusal) → ReadsProgram d cards p → HasCause77 d cards r → ⊥
   no_cause d cards p r h (AtCard card n w c i) = let k = read_at cards h.text card h.statements c in (settled card.chars).not_both k.0 n w k.1 i
   no_cause d cards p r h (InText t o a c) =
       nothing_in o (subst (λ xs. Contains xs o) h.reads.sound (subst (λ ys. Contains (findings d (with_loop_labels ys)) o) (one_text cards t h.text a h.statements) c))

@@ -3,10 +3,11 @@ use Rattle.std.proofs.Common.{◌≡◌, ◌≤◌, ◌<◌, inl, inr, ℕ, zero
 use Rattle.std.specs.Prelude.{◌⊎◌, Option, Some, None, IsTrue}
 use Rattle.std.proofs.lemmas.List.{length-map}
 use Rattle.std.proofs.lemmas.Bool.Decides.{nat_tests}
-use Rattle.f77_grammar.specs.expressions.Squeezing.{Symbol, Char, Text, Broken}
-use Rattle.f77_grammar.specs.expressions.Spelling.{Words, Begins, IsDigits, Pass, Stops, is_digit, is_letter, chars}
-use Rattle.f77_grammar.specs.expressions.Words.{Word}
-use Rattle.f77_grammar.specs.statements.Forms.{IsLabel}
+use Rattle.f77_grammar.specs.expressions.Squeezing.{Symbol77, Char, Text, Broken}
+use Rattle.f77_grammar.specs.expressions.Spelling.{AreWords77, Begins77, Stops77, chars77}
+use Rattle.reading.specs.Characters.{IsDigits, Pass, is_digit, is_letter}
+use Rattle.f77_grammar.specs.expressions.Words.{Word77}
+use Rattle.f77_grammar.specs.statements.Forms.{IsLabel77}
 use Rattle.f77_grammar.specs.statements.Recognition.{Halves, cut_at_close, BeginsWithLetter, IsConditional}
 use Rattle.f77_expressions.specs.Lexing as lexing
 use Rattle.f77_expressions.specs.Lexing.{word, strip}
@@ -20,38 +21,38 @@ use Rattle.f77_words.proofs.keywords.Stripping.{strip_same, stripped}
 
 -- ---- the code's symbols
 
-pub code_of : Symbol → code.Symbol
+pub code_of : Symbol77 → code.Symbol
 code_of (Char c) = variants.Char c
 code_of (Text t) = variants.Text t
 code_of Broken = variants.Broken
 
-abbrev pub in_code : List Symbol → List code.Symbol
+abbrev pub in_code : List Symbol77 → List code.Symbol
 in_code text = map code_of text
 
-symbol_back : (s : Symbol) → symbol_of (code_of s) ≡ s
+symbol_back : (s : Symbol77) → symbol_of (code_of s) ≡ s
 unfolding code_of
 symbol_back (Char c) = refl
 symbol_back (Text t) = refl
 symbol_back Broken = refl
 
-pub back : (text : List Symbol) → symbols_of (in_code text) ≡ text
+pub back : (text : List Symbol77) → symbols_of (in_code text) ≡ text
 back [] = refl
 back (s ∷ ss) = ap (λ q. q ∷ symbols_of (in_code ss)) (symbol_back s) ∙ ap (λ qs. s ∷ qs) (back ss)
 
-pub as_long : (text : List Symbol) → length (in_code text) ≡ length text
+pub as_long : (text : List Symbol77) → length (in_code text) ≡ length text
 as_long text = length-map text code_of
 
 -- ---- words
 
-pub record HasWords (text : List Symbol) : Type 0 where
-  pub words : List Word
-  pub are : Words text words
-  pub only : (vs : List Word) → Words text vs → words ≡ vs
+pub record HasWords (text : List Symbol77) : Type 0 where
+  pub words : List Word77
+  pub are : AreWords77 text words
+  pub only : (vs : List Word77) → AreWords77 text vs → words ≡ vs
 
-abbrev pub HasNoWords : List Symbol → Type 0
-HasNoWords text = (vs : List Word) → Words text vs → ⊥
+abbrev pub HasNoWords : List Symbol77 → Type 0
+HasNoWords text = (vs : List Word77) → AreWords77 text vs → ⊥
 
-abbrev pub WordsOf : List Symbol → Type 0
+abbrev pub WordsOf : List Symbol77 → Type 0
 WordsOf text = HasWords text ⊎ HasNoWords text
 
 no_front : (f : lexing.Front) → None ≡ Some f → ⊥
@@ -63,32 +64,32 @@ one_front f g e = cc
 nothing : HasWords []
 nothing = record { words = []; are = refl; only = only }
   where
-    only : (vs : List Word) → Words [] vs → [] ≡ vs
+    only : (vs : List Word77) → AreWords77 [] vs → [] ≡ vs
     only [] h = refl
     only (v ∷ vs) h = absurd (no_front _ (begun [] v h.0 h.1))
 
-module _ (text : List Symbol) (some : text ≡ [] → ⊥) where
+module _ (text : List Symbol77) (some : text ≡ [] → ⊥) where
   wordless : word text ≡ None → HasNoWords text
   wordless e [] h = some h
   wordless e (v ∷ vs) h = no_front _ (sym e ∙ begun text v h.0 h.1)
 
   module _ (f : lexing.Front) (e : word text ≡ Some f) where
-    same_front : (v : Word) (rest : List Symbol) → Begins text v rest → f ≡ record { word = v; rest = rest }
+    same_front : (v : Word77) (rest : List Symbol77) → Begins77 text v rest → f ≡ record { word = v; rest = rest }
     same_front v rest h = one_front _ _ (sym e ∙ begun text v rest h)
 
     one_more : HasWords f.rest → HasWords text
     one_more k = record { words = f.word ∷ k.words; are = (f.rest, is_word text f e, k.are); only = only }
       where
-        only : (vs : List Word) → Words text vs → f.word ∷ k.words ≡ vs
+        only : (vs : List Word77) → AreWords77 text vs → f.word ∷ k.words ≡ vs
         only [] h = absurd (some h)
         only (v ∷ vs) h =
             let q = same_front v h.0 h.1 in
             ap (λ w. w ∷ k.words) (ap (λ (x : lexing.Front). x.word) q)
-            ∙ ap (λ ws. v ∷ ws) (k.only vs (subst (λ r. Words r vs) (sym (ap (λ (x : lexing.Front). x.rest) q)) h.2))
+            ∙ ap (λ ws. v ∷ ws) (k.only vs (subst (λ r. AreWords77 r vs) (sym (ap (λ (x : lexing.Front). x.rest) q)) h.2))
 
     no_more : HasNoWords f.rest → HasNoWords text
     no_more never [] h = some h
-    no_more never (v ∷ vs) h = never vs (subst (λ r. Words r vs) (sym (ap (λ (x : lexing.Front). x.rest) (same_front v h.0 h.1))) h.2)
+    no_more never (v ∷ vs) h = never vs (subst (λ r. AreWords77 r vs) (sym (ap (λ (x : lexing.Front). x.rest) (same_front v h.0 h.1))) h.2)
 
     shorter : length f.rest < length text
     shorter =
@@ -101,34 +102,34 @@ module _ (text : List Symbol) (some : text ≡ [] → ⊥) where
     with_more (inl k) = inl (one_more k)
     with_more (inr never) = inr (no_more never)
 
-  by_front : (o : Option lexing.Front) → word text ≡ o → ((rest : List Symbol) → length rest < length text → WordsOf rest) → WordsOf text
+  by_front : (o : Option lexing.Front) → word text ≡ o → ((rest : List Symbol77) → length rest < length text → WordsOf rest) → WordsOf text
   by_front None e on = inr (wordless e)
   by_front (Some f) e on = with_more f e (on f.rest (shorter f e))
 
-some_symbol : (s : Symbol) (ss : List Symbol) → s ∷ ss ≡ [] → ⊥
+some_symbol : (s : Symbol77) (ss : List Symbol77) → s ∷ ss ≡ [] → ⊥
 some_symbol s ss e = cc
 
-word_step : (text : List Symbol) → ((rest : List Symbol) → length rest < length text → WordsOf rest) → WordsOf text
+word_step : (text : List Symbol77) → ((rest : List Symbol77) → length rest < length text → WordsOf rest) → WordsOf text
 word_step [] on = inl nothing
 word_step (s ∷ ss) on = by_front (s ∷ ss) (some_symbol s ss) (word (s ∷ ss)) refl on
 
-words_within : (n : ℕ) (text : List Symbol) → length text ≤ n → WordsOf text
+words_within : (n : ℕ) (text : List Symbol77) → length text ≤ n → WordsOf text
 words_within zero text l = word_step text (λ rest k. absurd (omega arith))
 words_within (suc n) text l = word_step text (λ rest k. words_within n rest (omega arith))
 
-pub words_of : (text : List Symbol) → WordsOf text
+pub words_of : (text : List Symbol77) → WordsOf text
 words_of text = words_within (length text) text (omega arith)
 
 -- ---- characters that pass a test
 
-pub record IsSplit (p : ℕ → Bool) (text : List Symbol) : Type 0 where
+pub record IsSplit (p : ℕ → Bool) (text : List Symbol77) : Type 0 where
   pub front : List ℕ
-  pub rest : List Symbol
-  pub same : text ≡ chars front ++ rest
+  pub rest : List Symbol77
+  pub same : text ≡ chars77 front ++ rest
   pub passes : Pass p front
-  pub stops : Stops p rest
+  pub stops : Stops77 p rest
 
-pub split : (p : ℕ → Bool) (text : List Symbol) → IsSplit p text
+pub split : (p : ℕ → Bool) (text : List Symbol77) → IsSplit p text
 split p [] = record { front = []; rest = []; same = refl; passes = tt; stops = tt }
 split p (Char c ∷ ss) = by (p c) refl (split p ss)
   where
@@ -138,7 +139,7 @@ split p (Char c ∷ ss) = by (p c) refl (split p ss)
 split p (Text t ∷ ss) = record { front = []; rest = Text t ∷ ss; same = refl; passes = tt; stops = tt }
 split p (Broken ∷ ss) = record { front = []; rest = Broken ∷ ss; same = refl; passes = tt; stops = tt }
 
-pub split_only : (p : ℕ → Bool) (text : List Symbol) (k : IsSplit p text) (xs : List ℕ) (r : List Symbol) → Pass p xs → Stops p r → text ≡ chars xs ++ r → (k.front ≡ xs) × (k.rest ≡ r)
+pub split_only : (p : ℕ → Bool) (text : List Symbol77) (k : IsSplit p text) (xs : List ℕ) (r : List Symbol77) → Pass p xs → Stops77 p r → text ≡ chars77 xs ++ r → (k.front ≡ xs) × (k.rest ≡ r)
 split_only p text k xs r h s e = run_same p k.front xs k.rest r k.passes h k.stops s (sym k.same ∙ e)
 
 pub at_most : (n m : ℕ) → (n ≤ m) ⊎ (m < n)
@@ -150,28 +151,28 @@ at_most n m = by (nat_le n m) refl
 
 -- ---- labels
 
-pub record HasLabel (text : List Symbol) : Type 0 where
+pub record HasLabel (text : List Symbol77) : Type 0 where
   pub label : List ℕ
-  pub rest : List Symbol
-  pub is_label : IsLabel label
-  pub same : text ≡ chars label ++ rest
-  pub whole : Stops is_digit rest
+  pub rest : List Symbol77
+  pub is_label : IsLabel77 label
+  pub same : text ≡ chars77 label ++ rest
+  pub whole : Stops77 is_digit rest
 
-abbrev pub HasNoLabel : List Symbol → Type 0
-HasNoLabel text = (l : List ℕ) (r : List Symbol) → IsLabel l → Stops is_digit r → text ≡ chars l ++ r → ⊥
+abbrev pub HasNoLabel : List Symbol77 → Type 0
+HasNoLabel text = (l : List ℕ) (r : List Symbol77) → IsLabel77 l → Stops77 is_digit r → text ≡ chars77 l ++ r → ⊥
 
 digits_pass : (l : List ℕ) → IsDigits l → Pass is_digit l
 digits_pass [] h = absurd h
 digits_pass (c ∷ cs) h = h
 
-pub label_only : (text : List Symbol) (k : HasLabel text) (l : List ℕ) (r : List Symbol) → IsLabel l → Stops is_digit r → text ≡ chars l ++ r → (k.label ≡ l) × (k.rest ≡ r)
+pub label_only : (text : List Symbol77) (k : HasLabel text) (l : List ℕ) (r : List Symbol77) → IsLabel77 l → Stops77 is_digit r → text ≡ chars77 l ++ r → (k.label ≡ l) × (k.rest ≡ r)
 label_only text k l r h s e = run_same is_digit k.label l k.rest r (digits_pass k.label k.is_label.0) (digits_pass l h.0) k.whole s (sym k.same ∙ e)
 
 digits_or_none : (xs : List ℕ) → Pass is_digit xs → IsDigits xs ⊎ (IsDigits xs → ⊥)
 digits_or_none [] h = inr (λ k. k)
 digits_or_none (c ∷ cs) h = inl h
 
-pub label : (text : List Symbol) → HasLabel text ⊎ HasNoLabel text
+pub label : (text : List Symbol77) → HasLabel text ⊎ HasNoLabel text
 label text = by (split is_digit text)
   where
     by_length : (k : IsSplit is_digit text) → IsDigits k.front → (length k.front ≤ 5) ⊎ (5 < length k.front) → HasLabel text ⊎ HasNoLabel text
@@ -189,16 +190,16 @@ label text = by (split is_digit text)
 
 -- ---- conditions
 
-pub record HasCondition (text : List Symbol) : Type 0 where
-  pub condition : List Symbol
-  pub rest : List Symbol
+pub record HasCondition (text : List Symbol77) : Type 0 where
+  pub condition : List Symbol77
+  pub rest : List Symbol77
   pub is : IsConditional text condition rest
-  pub only : (c r : List Symbol) → IsConditional text c r → (condition ≡ c) × (rest ≡ r)
+  pub only : (c r : List Symbol77) → IsConditional text c r → (condition ≡ c) × (rest ≡ r)
 
-abbrev pub HasNoCondition : List Symbol → Type 0
-HasNoCondition text = (c r : List Symbol) → IsConditional text c r → ⊥
+abbrev pub HasNoCondition : List Symbol77 → Type 0
+HasNoCondition text = (c r : List Symbol77) → IsConditional text c r → ⊥
 
-letter : (text : List Symbol) → BeginsWithLetter text ⊎ (BeginsWithLetter text → ⊥)
+letter : (text : List Symbol77) → BeginsWithLetter text ⊎ (BeginsWithLetter text → ⊥)
 letter [] = inr (λ h. h)
 letter (Char c ∷ ss) = by (is_letter c) refl
   where
@@ -208,10 +209,10 @@ letter (Char c ∷ ss) = by (is_letter c) refl
 letter (Text t ∷ ss) = inr (λ h. h)
 letter (Broken ∷ ss) = inr (λ h. h)
 
-no_text : (q : List Symbol) → None ≡ Some q → ⊥
+no_text : (q : List Symbol77) → None ≡ Some q → ⊥
 no_text q e = cc
 
-one_text : (a b : List Symbol) → Some a ≡ Some b → a ≡ b
+one_text : (a b : List Symbol77) → Some a ≡ Some b → a ≡ b
 one_text a b e = cc
 
 no_halves : (h : Halves) → None ≡ Some h → ⊥
@@ -220,16 +221,16 @@ no_halves h e = cc
 one_halves : (h k : Halves) → Some h ≡ Some k → h ≡ k
 one_halves h k e = cc
 
-pub conditional : (text : List Symbol) → HasCondition text ⊎ HasNoCondition text
+pub conditional : (text : List Symbol77) → HasCondition text ⊎ HasNoCondition text
 conditional text = by_strip (strip (codes "IF(") text) refl
   where
-    opened_is : (opened : List Symbol) → strip (codes "IF(") text ≡ Some opened → (c r : List Symbol) (k : IsConditional text c r) → opened ≡ k.opened
+    opened_is : (opened : List Symbol77) → strip (codes "IF(") text ≡ Some opened → (c r : List Symbol77) (k : IsConditional text c r) → opened ≡ k.opened
     opened_is opened e c r k = one_text _ _ (sym e ∙ stripped (codes "IF(") text k.opened k.begins)
 
-    halves_are : (opened : List Symbol) → strip (codes "IF(") text ≡ Some opened → (c r : List Symbol) → IsConditional text c r → cut_at_close opened ≡ Some (record { inside = c; behind = r })
+    halves_are : (opened : List Symbol77) → strip (codes "IF(") text ≡ Some opened → (c r : List Symbol77) → IsConditional text c r → cut_at_close opened ≡ Some (record { inside = c; behind = r })
     halves_are opened e c r k = ap cut_at_close (opened_is opened e c r k) ∙ k.cut
 
-    by_letter : (opened : List Symbol) → strip (codes "IF(") text ≡ Some opened → (h : Halves) → cut_at_close opened ≡ Some h → BeginsWithLetter h.behind ⊎ (BeginsWithLetter h.behind → ⊥) → HasCondition text ⊎ HasNoCondition text
+    by_letter : (opened : List Symbol77) → strip (codes "IF(") text ≡ Some opened → (h : Halves) → cut_at_close opened ≡ Some h → BeginsWithLetter h.behind ⊎ (BeginsWithLetter h.behind → ⊥) → HasCondition text ⊎ HasNoCondition text
     by_letter opened e h f (inl l) = inl (record {
       condition = h.inside;
       rest = h.behind;
@@ -238,10 +239,10 @@ conditional text = by_strip (strip (codes "IF(") text) refl
     })
     by_letter opened e h f (inr lacks) = inr (λ c r k. lacks (subst BeginsWithLetter (sym (ap (λ (x : Halves). x.behind) (one_halves _ _ (sym f ∙ halves_are opened e c r k)))) k.letter))
 
-    by_cut : (opened : List Symbol) → strip (codes "IF(") text ≡ Some opened → (o : Option Halves) → cut_at_close opened ≡ o → HasCondition text ⊎ HasNoCondition text
+    by_cut : (opened : List Symbol77) → strip (codes "IF(") text ≡ Some opened → (o : Option Halves) → cut_at_close opened ≡ o → HasCondition text ⊎ HasNoCondition text
     by_cut opened e None f = inr (λ c r k. no_halves _ (sym f ∙ halves_are opened e c r k))
     by_cut opened e (Some h) f = by_letter opened e h f (letter h.behind)
 
-    by_strip : (o : Option (List Symbol)) → strip (codes "IF(") text ≡ o → HasCondition text ⊎ HasNoCondition text
+    by_strip : (o : Option (List Symbol77)) → strip (codes "IF(") text ≡ o → HasCondition text ⊎ HasNoCondition text
     by_strip None e = inr (λ c r k. no_text _ (sym e ∙ stripped (codes "IF(") text k.opened k.begins))
     by_strip (Some opened) e = by_cut opened e (cut_at_close opened) refl

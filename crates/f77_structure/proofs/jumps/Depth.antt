@@ -4,8 +4,8 @@ use Rattle.std.specs.List.{filter}
 use Rattle.std.proofs.lemmas.Bool.Decides.{nat_tests}
 use Rattle.std.proofs.lemmas.List.Elements.{filter-append}
 use Rattle.f77_grammar.specs.Statement77.{Labelled, Statement77, Test, If, EndIf, Do}
-use Rattle.f77_grammar.specs.program.Text.{stands_in, is_block_if, left_over, without_ended, ends_in, loop_ends_in}
-use Rattle.f77_grammar.specs.program.Limits.{opens_block, has_many_blocks}
+use Rattle.f77_grammar.specs.program.Text.{label_stands_in, is_block_if, left_over, without_ended, ends_in, loop_ends_in}
+use Rattle.f77_grammar.specs.program.Limits.{opens_block77, has_many_blocks}
 use Rattle.f77_structure.specs.declared.forms.Form.{Form}
 use Rattle.f77_structure.specs.declared.forms.Form.TheVariants as forms
 use Rattle.f77_grammar.specs.declared.syntax.statements.Labelled.{Labelled as Labelled'}
@@ -66,12 +66,12 @@ depth_more f n k h = omega arith
 
 -- ---- loops
 
-ends_as_lasts : (rest : List Labelled) (j : ℕ) (ends : ℕ → Option ℕ) → ((n : ℕ) → stands_in rest n ≡ is_from j (ends n)) → (s : Statement77) → ends_in rest s ≡ is_from j (end_of (form_of s) ends)
+ends_as_lasts : (rest : List Labelled) (j : ℕ) (ends : ℕ → Option ℕ) → ((n : ℕ) → label_stands_in rest n ≡ is_from j (ends n)) → (s : Statement77) → ends_in rest s ≡ is_from j (end_of (form_of s) ends)
 ends_as_lasts rest j ends h (Do (Some n) x a b c) = h n
 ends_as_lasts rest j ends h s = refl
 
 -- the loops that the definitions find open are those that last
-pub open_as_lasting : (rest : List Labelled) (j : ℕ) (ends : ℕ → Option ℕ) → ((n : ℕ) → stands_in rest n ≡ is_from j (ends n))
+pub open_as_lasting : (rest : List Labelled) (j : ℕ) (ends : ℕ → Option ℕ) → ((n : ℕ) → label_stands_in rest n ≡ is_from j (ends n))
     → (xs : List Labelled) → filter (loop_ends_in rest) xs ≡ filter (lasts ends j) xs
 open_as_lasting rest j ends h [] = refl
 open_as_lasting rest j ends h (x ∷ xs) =
@@ -145,7 +145,7 @@ pub with_end_fits : (es : List ℕ) (o : Option ℕ) → length (with_end es o) 
 with_end_fits es None = omega arith
 with_end_fits es (Some e) = omega (arith, length-append es (e ∷ []))
 
-opens_as_form : (s : Statement77) → opens_block s ≡ opens_form (form_of s)
+opens_as_form : (s : Statement77) → opens_block77 s ≡ opens_form (form_of s)
 opens_as_form (If c) = refl
 opens_as_form (Test c s) = refl
 opens_as_form (Do n x a b c) = refl
@@ -161,8 +161,8 @@ pub many_at : (xs : List Labelled') (i : ℕ) (x : Labelled') (ends : ℕ → Op
     → form ≡ form_of (statement_of x.statement) → n' ≡ n → es' ≡ filter (nat_le i) es
     → has_many_blocks (place_at (text_of xs) i (labelled_of x)) ≡ (opens_form form && nat_le 100 (n' + length es'))
 many_at xs i x ends form n n' es es' h e l p f a b d =
-    let behind : (k : ℕ) → stands_in (labelled_of x ∷ drop (i + 1) (text_of xs)) k ≡ is_from i (ends k) =
-    λ k. ap (λ rest. stands_in rest k) (sym (text_left xs i x h e)) ∙ stands_after xs ends l i k in
+    let behind : (k : ℕ) → label_stands_in (labelled_of x ∷ drop (i + 1) (text_of xs)) k ≡ is_from i (ends k) =
+    λ k. ap (λ rest. label_stands_in rest k) (sym (text_left xs i x h e)) ∙ stands_after xs ends l i k in
     let ifs : length (filter opens_if (without_ended (passed (text_of xs) i) 0)) ≡ n' = depth_as_kept (passed (text_of xs) i) 0 ∙ less_nothing (depth (passed (text_of xs) i)) ∙ sym (b ∙ p) in
     let loops : length (filter (loop_ends_in (labelled_of x ∷ drop (i + 1) (text_of xs))) (passed (text_of xs) i)) ≡ length es' =
     ap length (open_as_lasting (labelled_of x ∷ drop (i + 1) (text_of xs)) i ends behind (passed (text_of xs) i)) ∙ sym (f i (omega arith)) ∙ sym (ap length d) in

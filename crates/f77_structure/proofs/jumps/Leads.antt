@@ -5,7 +5,7 @@ use Rattle.std.proofs.lemmas.Grind.{reverse_onto}
 use Rattle.std.proofs.lemmas.List.{append-nil, drop-drop, length-map}
 use Rattle.std.proofs.lemmas.Bool.Decides.{nat_tests}
 use Rattle.f77_grammar.specs.Statement77.{Labelled, Statement77, Go, Declare, Dimension, Constants, ElseIf, Else, EndIf}
-use Rattle.f77_grammar.specs.program.Text.{Place, places_from, bears, is_label, stands_in, action, loop_ends_in, without_ended}
+use Rattle.f77_grammar.specs.program.Text.{Place77, places_from, bears, is_label, label_stands_in, action, loop_ends_in, without_ended}
 use Rattle.f77_grammar.specs.program.Jumps.{place_of_label, is_no_target, leads_wrongly, jumps_wrongly, has_wrong_jump}
 use Rattle.f77_structure.specs.declared.forms.Form.{Form}
 use Rattle.f77_structure.specs.declared.openings.OpenLoop.{OpenLoop}
@@ -49,7 +49,7 @@ both a b c d a' b' e f g = ap (λ t. (t || b) || c) e ∙ ap (λ t. (a' || t) ||
 
 -- what has been passed since the GO TO, which stands behind `at` statements, are the nearest m
 refused_at : (full : List Labelled) (x : Labelled) (after : List Labelled) (m at : ℕ) (ends : ℕ → Option ℕ) → m ≡ length full - suc at → at < length full
-    → ((n : ℕ) → stands_in (x ∷ after) n ≡ is_from (length full) (ends n))
+    → ((n : ℕ) → label_stands_in (x ∷ after) n ≡ is_from (length full) (ends n))
     → leads_wrongly (Some (record { before = take m full; here = x; after = after })) ≡ refuses (target_of ends full x) at
 refused_at full x after m at ends e h g =
     both (list_any is_arm (without_ended (take m full) 0)) (list_any (loop_ends_in (x ∷ after)) (take m full)) (is_no_target x.statement) (is_no_target_form (form_of x.statement))
@@ -63,7 +63,7 @@ refused_at full x after m at ends e h g =
 
 -- `ends` gives the last places of labels, where L statements stand before these
 abbrev EndsAmong : (ℕ → Option ℕ) → ℕ → List Labelled → Type 0
-EndsAmong ends L rest = (j n : ℕ) → stands_in (drop j rest) n ≡ is_from (L + j) (ends n)
+EndsAmong ends L rest = (j n : ℕ) → label_stands_in (drop j rest) n ≡ is_from (L + j) (ends n)
 
 among_tail : (ends : ℕ → Option ℕ) (L : ℕ) (x : Labelled) (xs : List Labelled) → EndsAmong ends L (x ∷ xs) → EndsAmong ends (suc L) xs
 among_tail ends L x xs h j n = h (suc j) n ∙ ap (λ k. is_from k (ends n)) (shifted L j)
@@ -71,14 +71,14 @@ among_tail ends L x xs h j n = h (suc j) n ∙ ap (λ k. is_from k (ends n)) (sh
     shifted : (L j : ℕ) → L + suc j ≡ suc L + j
     shifted L j = omega arith
 
-among_here : (ends : ℕ → Option ℕ) (L : ℕ) (rest : List Labelled) → EndsAmong ends L rest → (n : ℕ) → stands_in rest n ≡ is_from L (ends n)
+among_here : (ends : ℕ → Option ℕ) (L : ℕ) (rest : List Labelled) → EndsAmong ends L rest → (n : ℕ) → label_stands_in rest n ≡ is_from L (ends n)
 among_here ends L rest h n = h 0 n ∙ ap (λ k. is_from k (ends n)) (plain L)
   where
     plain : (L : ℕ) → L + 0 ≡ L
     plain L = omega arith
 
 leads : (n at : ℕ) (ends : ℕ → Option ℕ) (rest full : List Labelled) (m : ℕ) → m + suc at ≡ length full → EndsAmong ends (length full) rest
-    → leads_wrongly (find (λ (p : Place). bears n p.here) (places_from (take m full) rest)) ≡ leads_wrongly_to (first_target ends full rest n) at
+    → leads_wrongly (find (λ (p : Place77). bears n p.here) (places_from (take m full) rest)) ≡ leads_wrongly_to (first_target ends full rest n) at
 leads n at ends [] full m e h = refl
 leads n at ends (x ∷ xs) full m e h = cases (bears n x) (leads n at ends xs (x ∷ full) (suc m) (more m at (length full) e) (among_tail ends (length full) x xs h))
   where
@@ -86,8 +86,8 @@ leads n at ends (x ∷ xs) full m e h = cases (bears n x) (leads n at ends xs (x
     more m at L e = omega arith
 
     cases : (b : Bool)
-        → leads_wrongly (find (λ (p : Place). bears n p.here) (places_from (x ∷ take m full) xs)) ≡ leads_wrongly_to (first_target ends (x ∷ full) xs n) at
-        → leads_wrongly (cond b (Some (record { before = take m full; here = x; after = xs })) (find (λ (p : Place). bears n p.here) (places_from (x ∷ take m full) xs)))
+        → leads_wrongly (find (λ (p : Place77). bears n p.here) (places_from (x ∷ take m full) xs)) ≡ leads_wrongly_to (first_target ends (x ∷ full) xs n) at
+        → leads_wrongly (cond b (Some (record { before = take m full; here = x; after = xs })) (find (λ (p : Place77). bears n p.here) (places_from (x ∷ take m full) xs)))
         ≡ leads_wrongly_to (cond b (Some (target_of ends full x)) (first_target ends (x ∷ full) xs n)) at
     cases true ih = refused_at full x xs m at ends (omega arith) (omega arith) (among_here ends (length full) (x ∷ xs) h)
     cases false ih = ih
@@ -172,8 +172,8 @@ pub jump_at : (xs : List Labelled') (i : ℕ) (x : Labelled') (ends : ℕ → Op
 jump_at xs i x ends targets form h e l c a =
     let long : suc i ≡ length (passed (text_of xs) (i + 1)) = ap suc (sym (passed_length xs i h)) ∙ sym (ap length (text_passed xs i x h e)) in
     let one : i + 1 ≡ length (passed (text_of xs) (i + 1)) = omega (arith, long) in
-    let among : (j n : ℕ) → stands_in (drop j (drop (i + 1) (text_of xs))) n ≡ is_from (length (passed (text_of xs) (i + 1)) + j) (ends n) =
-    λ j n. ap (λ rest. stands_in rest n) (drop-drop j (i + 1) (text_of xs)) ∙ stands_after xs ends l (i + 1 + j) n ∙ ap (λ k. is_from (k + j) (ends n)) one in
+    let among : (j n : ℕ) → label_stands_in (drop j (drop (i + 1) (text_of xs))) n ≡ is_from (length (passed (text_of xs) (i + 1)) + j) (ends n) =
+    λ j n. ap (λ rest. label_stands_in rest n) (drop-drop j (i + 1) (text_of xs)) ∙ stands_after xs ends l (i + 1 + j) n ∙ ap (λ k. is_from (k + j) (ends n)) one in
     by_form (action (statement_of x.statement)) (drop (i + 1) (text_of xs)) targets i
     (λ n. leads n i ends (drop (i + 1) (text_of xs)) (passed (text_of xs) (i + 1)) 0 (nothing i ∙ long) among ∙ ap (λ o. leads_wrongly_to o i) (sym (c n)))
     ∙ ap (λ k. jumps_wrongly_to k targets i) (sym a)

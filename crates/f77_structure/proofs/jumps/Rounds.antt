@@ -8,13 +8,13 @@ use Rattle.tree.specs.Plain.{Expression, Named, Subscripts, no_subscripts, subsc
 use Rattle.tree.specs.declared.ops.Kind.{Kind}
 use Rattle.tree.specs.declared.ops.Kind.TheVariants.{Integer}
 use Rattle.f77_grammar.specs.Statement77.{Labelled, Statement77, Assign, Do, Read, Print}
-use Rattle.f77_grammar.specs.program.Text.{action, stands_in, ends_in, loop_ends_in}
+use Rattle.f77_grammar.specs.program.Text.{action, label_stands_in, ends_in, loop_ends_in}
 use Rattle.meaning.specs.Names.{is_among}
 use Rattle.f77_grammar.specs.program.Kinds.{same_kind}
-use Rattle.f77_grammar.specs.program.Uses.{Role, Title, Typed, Bounded, Defined, Valued, Target, Counter, Use, uses_in_text, stands, is_typed, is_bounded, is_defined, is_bare, type_of, type_in, or_integer}
+use Rattle.f77_grammar.specs.program.Uses.{Role, Title, Typed, Bounded, Defined, Valued, Target, Counter, Use77, uses_in_text, stands, is_typed, is_bounded, is_defined, is_bare_role, type_of, type_in, or_integer}
 use Rattle.f77_grammar.specs.declared.directions.Direction.{Direction}
 use Rattle.f77_grammar.specs.declared.directions.Direction.TheVariants.{Output, Input}
-use Rattle.f77_grammar.specs.program.DoVariables.{loop_variable, loop_variables, sets_one_of, reads_one_of, is_integer_scalar, is_wrong_variable, value_sets_one_of, misuses_in_item, misuses_in_items, misuses_variable, has_wrong_do_variable}
+use Rattle.f77_grammar.specs.program.DoVariables.{loop_variable, loop_variables, sets_one_of, reads_one_of, is_integer_variable, is_wrong_variable, value_sets_one_of, misuses_in_item, misuses_in_items, misuses_variable, has_wrong_do_variable}
 use Rattle.f77_grammar.specs.declared.syntax.statements.Labelled.{Labelled as Labelled'}
 use Rattle.f77_grammar.specs.syntax.Views.{labelled_of, text_of, statement_of}
 use Rattle.f77_grammar.specs.syntax.Walk.{passed, place_at}
@@ -51,7 +51,7 @@ one_loop : (b : Bool) (s : Labelled) (ss : List Labelled) (x : List ℕ)
 one_loop true s ss x = list_any-append (bytes_eq x) (loop_variable s.statement) (flat_map variable_in ss)
 one_loop false s ss x = refl
 
-loop_ends_from : (rest : List Labelled) (j : ℕ) (ends : ℕ → Option ℕ) → ((n : ℕ) → stands_in rest n ≡ is_from j (ends n)) → (s : Statement77) (x : List ℕ)
+loop_ends_from : (rest : List Labelled) (j : ℕ) (ends : ℕ → Option ℕ) → ((n : ℕ) → label_stands_in rest n ≡ is_from j (ends n)) → (s : Statement77) (x : List ℕ)
     → (ends_in rest s && is_among (loop_variable s) x) ≡ is_from j (end_with ends (loop_begun s) x)
 loop_ends_from rest j ends h (Do (Some n) y a b c) x = ap (λ t. t && (bytes_eq x y || false)) (h n) ∙ cases (bytes_eq x y) (is_from j (ends n)) refl
   where
@@ -66,7 +66,7 @@ loop_ends_from rest j ends h s x = nothing (is_among (loop_variable s) x)
     nothing t = refl
 
 -- a name is the variable of a loop round a place exactly where the last of its loops ends there or later
-loops_as_last : (rest : List Labelled) (j : ℕ) (ends : ℕ → Option ℕ) → ((n : ℕ) → stands_in rest n ≡ is_from j (ends n)) → (ss : List Labelled) (x : List ℕ)
+loops_as_last : (rest : List Labelled) (j : ℕ) (ends : ℕ → Option ℕ) → ((n : ℕ) → label_stands_in rest n ≡ is_from j (ends n)) → (ss : List Labelled) (x : List ℕ)
     → is_among (flat_map variable_in (filter (loop_ends_in rest) ss)) x ≡ is_from j (last_of ends ss x)
 loops_as_last rest j ends h [] x = refl
 loops_as_last rest j ends h (s ∷ ss) x =
@@ -105,7 +105,7 @@ kind_step f (Target (suc n)) false t = refl
 kind_step f Counter true t = refl
 kind_step f Counter false t = refl
 
-kind_after : (f : Facts) (us : List Use) (x : List ℕ) → (facts_of f us x).kind ≡ or_type f.kind (type_of us x)
+kind_after : (f : Facts) (us : List Use77) (x : List ℕ) → (facts_of f us x).kind ≡ or_type f.kind (type_of us x)
 kind_after f [] x = known f.kind
   where
     known : (o : Option Kind) → o ≡ or_type o None
@@ -118,10 +118,10 @@ five : (a b c d a' b' c' d' : Bool) (k k' : Option Kind) → a ≡ a' → b ≡ 
     → (((a || b || c) && not d) && not (b && not d) && same_kind (or_integer k) Integer) ≡ (((a' || b' || c') && not d') && not (b' && not d') && same_kind (or_integer k') Integer)
 five a b c d a' b' c' d' k k' e f g h m = cc
 
-scalar_as_known : (us : List Use) (x : List ℕ) → is_scalar_by (facts_of nothing_known us x) ≡ is_integer_scalar us x
+scalar_as_known : (us : List Use77) (x : List ℕ) → is_scalar_by (facts_of nothing_known us x) ≡ is_integer_variable us x
 scalar_as_known us x =
     five (is_some (facts_of nothing_known us x).kind) (is_some (facts_of nothing_known us x).dimensions) (facts_of nothing_known us x).bare (facts_of nothing_known us x).constant
-    (stands is_typed us x) (stands is_bounded us x) (stands is_bare us x) (stands is_defined us x) (facts_of nothing_known us x).kind (type_of us x)
+    (stands is_typed us x) (stands is_bounded us x) (stands is_bare_role us x) (stands is_defined us x) (facts_of nothing_known us x).kind (type_of us x)
     (typed_is us x) (bounded_is us x) (bare_is us x) (constant_is us x) (kind_after nothing_known us x)
 
 -- ---- statements
@@ -151,9 +151,9 @@ reads_same : (round : List ℕ → Bool) (around lists : List (List ℕ)) → Ro
 reads_same round around lists h (Named x ps) = sets_same round around lists h x ps
 reads_same round around lists h e = refl
 
-module _ (us : List Use) (scalar round : List ℕ → Bool) (known : (x : List ℕ) → scalar x ≡ is_integer_scalar us x) where
+module _ (us : List Use77) (scalar round : List ℕ → Bool) (known : (x : List ℕ) → scalar x ≡ is_integer_variable us x) where
   wrong_same : (around lists : List (List ℕ)) → RoundAs round around lists → (x : List ℕ) → is_wrong_variable us x around ≡ is_wrong_round scalar round x lists
-  wrong_same around lists h x = either_same (not (is_integer_scalar us x)) (is_among around x) (not (scalar x)) (is_round round lists x) (ap not (sym (known x))) (h x)
+  wrong_same around lists h x = either_same (not (is_integer_variable us x)) (is_among around x) (not (scalar x)) (is_round round lists x) (ap not (sym (known x))) (h x)
 
   value_same : (d : Direction) (around lists : List (List ℕ)) → RoundAs round around lists → (e : Expression) → value_sets_one_of d around e ≡ value_sets_round round d lists e
   value_same Output around lists h e = refl
@@ -197,8 +197,8 @@ pub misused_at : (xs : List Labelled') (i : ℕ) (x : Labelled') (ends : ℕ →
     → s ≡ action (statement_of x.statement)
     → has_wrong_do_variable (uses_in_text (text_of xs)) (place_at (text_of xs) i (labelled_of x)) ≡ misuses_statement (scalar_in v) (round_at v i) s
 misused_at xs i x ends v s h e l known lasts is =
-    let behind : (n : ℕ) → stands_in (labelled_of x ∷ drop (i + 1) (text_of xs)) n ≡ is_from i (ends n) =
-    λ n. ap (λ rest. stands_in rest n) (sym (text_left xs i x h e)) ∙ stands_after xs ends l i n in
+    let behind : (n : ℕ) → label_stands_in (labelled_of x ∷ drop (i + 1) (text_of xs)) n ≡ is_from i (ends n) =
+    λ n. ap (λ rest. label_stands_in rest n) (sym (text_left xs i x h e)) ∙ stands_after xs ends l i n in
     statement_same (uses_in_text (text_of xs)) (scalar_in v) (round_at v i) (λ y. ap is_scalar_by (known y) ∙ scalar_as_known (uses_in_text (text_of xs)) y)
     (loop_variables (place_at (text_of xs) i (labelled_of x)))
     (λ y. loops_as_last (labelled_of x ∷ drop (i + 1) (text_of xs)) i ends behind (passed (text_of xs) i) y ∙ ap (is_from i) (sym (lasts y)))

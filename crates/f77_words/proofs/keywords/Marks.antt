@@ -1,8 +1,8 @@
 -- What the words of a text do to the parentheses, and which signs stand outside these.
 use Rattle.std.proofs.Common.{◌≡◌, ℕ, zero, suc, Bool, true, false, List, [], ◌∷◌, ◌++◌, refl}
-use Rattle.f77_grammar.specs.expressions.Squeezing.{Symbol, Char}
+use Rattle.f77_grammar.specs.expressions.Squeezing.{Symbol77, Char}
 use Rattle.f77_grammar.specs.expressions.Words as words
-use Rattle.f77_grammar.specs.expressions.Words.{Word}
+use Rattle.f77_grammar.specs.expressions.Words.{Word77}
 
 -- How many parentheses are open, whether an equals sign stood outside them, whether a comma did behind one, and whether a parenthesis closed none
 pub record Marks : Type 0 where
@@ -18,7 +18,7 @@ pub data Mark : Type 0 where
   Equals : Mark
   Plain : Mark
 
-abbrev pub mark_of : Word → Mark
+abbrev pub mark_of : Word77 → Mark
 mark_of (words.Number n) = Plain
 mark_of words.Wide = Plain
 mark_of (words.Truth b) = Plain
@@ -33,7 +33,7 @@ mark_of words.Colon = Plain
 mark_of (words.Constant t) = Plain
 
 -- the symbol at a word's end that counts
-abbrev pub sign_of : Mark → List Symbol
+abbrev pub sign_of : Mark → List Symbol77
 sign_of Opening = Char 40 ∷ []
 sign_of Closing = Char 41 ∷ []
 sign_of Comma = Char 44 ∷ []
@@ -60,10 +60,10 @@ marked Comma m = comma_at m.inside m.equals m
 marked Equals m = equals_at m.inside m
 marked Plain m = m
 
-abbrev pub mark : Marks → Word → Marks
+abbrev pub mark : Marks → Word77 → Marks
 mark m w = marked (mark_of w) m
 
-abbrev pub marks : Marks → List Word → Marks
+abbrev pub marks : Marks → List Word77 → Marks
 marks m [] = m
 marks m (w ∷ ws) = marks (mark m w) ws
 
@@ -76,6 +76,6 @@ none = made 0 false false false
 abbrev pub deeper : Marks → Marks
 deeper m = record m { inside = suc m.inside }
 
-pub marks_append : (m : Marks) (a b : List Word) → marks m (a ++ b) ≡ marks (marks m a) b
+pub marks_append : (m : Marks) (a b : List Word77) → marks m (a ++ b) ≡ marks (marks m a) b
 marks_append m [] b = refl
 marks_append m (w ∷ a) b = marks_append (mark m w) a b

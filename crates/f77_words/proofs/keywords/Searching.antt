@@ -2,7 +2,7 @@
 use Rattle.std.proofs.Common.{◌≡◌, ℕ, zero, suc, ◌+◌, ◌-◌, ◌<◌, ◌≤◌, Bool, true, false, List, [], drop, length, get_or, refl, sym, ap, ◌∙◌, arith, add-one, subst}
 use Rattle.std.specs.Prelude.{◌||◌, ◌&&◌, if◌then◌else◌}
 use Rattle.std.proofs.lemmas.List.{drop_all, length-map}
-use Rattle.f77_grammar.specs.expressions.Squeezing.{Symbol, Char, Text, Broken}
+use Rattle.f77_grammar.specs.expressions.Squeezing.{Symbol77, Char, Text, Broken}
 use Rattle.f77_grammar.specs.statements.Recognition.{Bracket, Opening, Closing, Neither, bracket_of, is_equals, has_equals_by, has_equals_outside}
 use Rattle.f77_expressions.specs.declared.symbols.Symbol.{Symbol as Symbol'}
 use Rattle.f77_expressions.specs.Symbols.{symbol_of, symbols_of}
@@ -10,29 +10,29 @@ use Rattle.f77_words.specs.keywords.Outside.{character_is, equals_of, comma_of, 
 use Rattle.f77_words.proofs.keywords.Cutting.{symbols_at}
 
 -- What has been found in front of the i-th symbol, where so many parentheses are open there
-pub record IsSearchedTo (text : List Symbol) (i opened : ℕ) (equals comma : Bool) : Type 0 where
+pub record IsSearchedTo (text : List Symbol77) (i opened : ℕ) (equals comma : Bool) : Type 0 where
   pub equals_same : has_equals_outside text 0 ≡ (equals || has_equals_outside (drop i text) opened)
   pub comma_same : has_comma_outside text 0 false ≡ (comma || has_comma_outside (drop i text) opened equals)
 
-pub search_begun : (text : List Symbol) → IsSearchedTo text 0 0 false false
+pub search_begun : (text : List Symbol77) → IsSearchedTo text 0 0 false false
 search_begun text = record { equals_same = refl; comma_same = refl }
 
-abbrev EqualsHere : (text : List Symbol) (b : Bracket) (s : Symbol) (ss : List Symbol) (opened : ℕ) (equals : Bool) → Type 0
+abbrev EqualsHere : (text : List Symbol77) (b : Bracket) (s : Symbol77) (ss : List Symbol77) (opened : ℕ) (equals : Bool) → Type 0
 EqualsHere text b s ss opened equals = has_equals_outside text 0 ≡ (equals || has_equals_by b s (has_equals_outside ss) opened)
 
-abbrev CommaHere : (text : List Symbol) (b : Bracket) (s : Symbol) (ss : List Symbol) (opened : ℕ) (equals comma : Bool) → Type 0
+abbrev CommaHere : (text : List Symbol77) (b : Bracket) (s : Symbol77) (ss : List Symbol77) (opened : ℕ) (equals comma : Bool) → Type 0
 CommaHere text b s ss opened equals comma = has_comma_outside text 0 false ≡ (comma || has_comma_by b s (has_comma_outside ss) opened equals)
 
 equals_here : (xs : List Symbol') (i opened : ℕ) (equals comma : Bool) (x : Symbol') (b : Bracket) → i < length xs → x ≡ get_or xs i x → b ≡ bracket_of (symbol_of x)
     → IsSearchedTo (symbols_of xs) i opened equals comma → EqualsHere (symbols_of xs) b (symbol_of x) (drop (i + 1) (symbols_of xs)) opened equals
 equals_here xs i opened equals comma x b h e f searched =
-    searched.equals_same ∙ (ap (λ (q : List Symbol). equals || has_equals_outside q opened) (symbols_at xs i x h e)
+    searched.equals_same ∙ (ap (λ (q : List Symbol77). equals || has_equals_outside q opened) (symbols_at xs i x h e)
     ∙ ap (λ (q : Bracket). equals || has_equals_by q (symbol_of x) (has_equals_outside (drop (i + 1) (symbols_of xs))) opened) (sym f))
 
 comma_here : (xs : List Symbol') (i opened : ℕ) (equals comma : Bool) (x : Symbol') (b : Bracket) → i < length xs → x ≡ get_or xs i x → b ≡ bracket_of (symbol_of x)
     → IsSearchedTo (symbols_of xs) i opened equals comma → CommaHere (symbols_of xs) b (symbol_of x) (drop (i + 1) (symbols_of xs)) opened equals comma
 comma_here xs i opened equals comma x b h e f searched =
-    searched.comma_same ∙ (ap (λ (q : List Symbol). comma || has_comma_outside q opened equals) (symbols_at xs i x h e)
+    searched.comma_same ∙ (ap (λ (q : List Symbol77). comma || has_comma_outside q opened equals) (symbols_at xs i x h e)
     ∙ ap (λ (q : Bracket). comma || has_comma_by q (symbol_of x) (has_comma_outside (drop (i + 1) (symbols_of xs))) opened equals) (sym f))
 
 pub search_opening : (xs : List Symbol') (i opened : ℕ) (equals comma : Bool) (x : Symbol') → i < length xs → x ≡ get_or xs i x → Opening ≡ bracket_of (symbol_of x)
@@ -42,11 +42,11 @@ search_opening xs i opened equals comma x h e f searched = record {
   comma_same = rw (add-one opened) (comma_here xs i opened equals comma x Opening h e f searched);
 }
 
-equals_less : (text : List Symbol) (s : Symbol) (ss : List Symbol) (opened : ℕ) (equals : Bool) → EqualsHere text Closing s ss opened equals → has_equals_outside text 0 ≡ (equals || has_equals_outside ss (opened - 1))
+equals_less : (text : List Symbol77) (s : Symbol77) (ss : List Symbol77) (opened : ℕ) (equals : Bool) → EqualsHere text Closing s ss opened equals → has_equals_outside text 0 ≡ (equals || has_equals_outside ss (opened - 1))
 equals_less text s ss zero equals h = h
 equals_less text s ss (suc n) equals h = let e : suc n - 1 ≡ n = omega arith in rw e h
 
-comma_less : (text : List Symbol) (s : Symbol) (ss : List Symbol) (opened : ℕ) (equals comma : Bool) → CommaHere text Closing s ss opened equals comma
+comma_less : (text : List Symbol77) (s : Symbol77) (ss : List Symbol77) (opened : ℕ) (equals comma : Bool) → CommaHere text Closing s ss opened equals comma
     → has_comma_outside text 0 false ≡ (comma || has_comma_outside ss (opened - 1) equals)
 comma_less text s ss zero equals comma h = h
 comma_less text s ss (suc n) equals comma h = let e : suc n - 1 ≡ n = omega arith in rw e h
@@ -58,7 +58,7 @@ search_closing xs i opened equals comma x h e f searched = record {
   comma_same = comma_less (symbols_of xs) (symbol_of x) (drop (i + 1) (symbols_of xs)) opened equals comma (comma_here xs i opened equals comma x Closing h e f searched);
 }
 
-equals_sign : (s : Symbol) → is_equals s ≡ character_is 61 s
+equals_sign : (s : Symbol77) → is_equals s ≡ character_is 61 s
 equals_sign (Char c) = refl
 equals_sign (Text t) = refl
 equals_sign Broken = refl
@@ -82,11 +82,11 @@ search_outside xs i equals comma x h e f searched = record {
       ∙ grouped comma (equals && character_is 44 (symbol_of x)) (has_comma_outside (drop (i + 1) (symbols_of xs)) 0 (equals_of equals (symbol_of x)));
 }
 
-inside_equals : (text : List Symbol) (s : Symbol) (ss : List Symbol) (opened : ℕ) (equals : Bool) → 0 < opened → EqualsHere text Neither s ss opened equals → has_equals_outside text 0 ≡ (equals || has_equals_outside ss opened)
+inside_equals : (text : List Symbol77) (s : Symbol77) (ss : List Symbol77) (opened : ℕ) (equals : Bool) → 0 < opened → EqualsHere text Neither s ss opened equals → has_equals_outside text 0 ≡ (equals || has_equals_outside ss opened)
 inside_equals text s ss zero equals l h = absurd (omega arith)
 inside_equals text s ss (suc n) equals l h = h
 
-inside_comma : (text : List Symbol) (s : Symbol) (ss : List Symbol) (opened : ℕ) (equals comma : Bool) → 0 < opened → CommaHere text Neither s ss opened equals comma
+inside_comma : (text : List Symbol77) (s : Symbol77) (ss : List Symbol77) (opened : ℕ) (equals comma : Bool) → 0 < opened → CommaHere text Neither s ss opened equals comma
     → has_comma_outside text 0 false ≡ (comma || has_comma_outside ss opened equals)
 inside_comma text s ss zero equals comma l h = absurd (omega arith)
 inside_comma text s ss (suc n) equals comma l h = h
@@ -107,12 +107,12 @@ at_end xs i h = let l : length (symbols_of xs) ≤ i = rw (length-map xs symbol_
 
 pub search_equals : (xs : List Symbol') (i opened : ℕ) (equals comma : Bool) → length xs ≤ i → IsSearchedTo (symbols_of xs) i opened equals comma → equals ≡ has_equals_outside (symbols_of xs) 0
 search_equals xs i opened equals comma h searched =
-    sym (searched.equals_same ∙ (ap (λ (q : List Symbol). equals || has_equals_outside q opened) (at_end xs i h) ∙ or_false equals))
+    sym (searched.equals_same ∙ (ap (λ (q : List Symbol77). equals || has_equals_outside q opened) (at_end xs i h) ∙ or_false equals))
 
 pub search_comma : (xs : List Symbol') (i opened : ℕ) (equals comma : Bool) → length xs ≤ i → IsSearchedTo (symbols_of xs) i opened equals comma → comma ≡ has_comma_outside (symbols_of xs) 0 false
 search_comma xs i opened equals comma h searched =
-    sym (searched.comma_same ∙ (ap (λ (q : List Symbol). comma || has_comma_outside q opened equals) (at_end xs i h) ∙ or_false comma))
+    sym (searched.comma_same ∙ (ap (λ (q : List Symbol77). comma || has_comma_outside q opened equals) (at_end xs i h) ∙ or_false comma))
 
-pub searched_as : {text : List Symbol} {i n m : ℕ} {a b c d : Bool} → n ≡ m → a ≡ b → c ≡ d → IsSearchedTo text i m b d → IsSearchedTo text i n a c
+pub searched_as : {text : List Symbol77} {i n m : ℕ} {a b c d : Bool} → n ≡ m → a ≡ b → c ≡ d → IsSearchedTo text i m b d → IsSearchedTo text i n a c
 searched_as {text = text} {i = i} {m = m} {a = a} {b = b} {c = c} e f g h =
     subst (λ (q : ℕ). IsSearchedTo text i q a c) (sym e) (subst (λ (q : Bool). IsSearchedTo text i m q c) (sym f) (subst (λ (q : Bool). IsSearchedTo text i m b q) (sym g) h))

@@ -5,7 +5,7 @@ use Rattle.std.proofs.lemmas.Bool.{both_ways, eqb-true}
 use Rattle.std.specs.Result.{IsErrAnd}
 use Rattle.std.specs.Prelude.{Some, None}
 use Rattle.f77_grammar.specs.expressions.Words as words
-use Rattle.f77_grammar.specs.expressions.Words.{Word}
+use Rattle.f77_grammar.specs.expressions.Words.{Word77}
 use Rattle.f77_grammar.specs.statements.Controls.{Control, IsControl, written_control}
 use Rattle.reading.specs.declared.stops.Stop.{Stop}
 use Rattle.reading.specs.declared.stops.Stop.TheVariants.{Syntax, Memory}
@@ -26,7 +26,7 @@ use Rattle.f77_words.proofs.lists.Complete as complete
 use Rattle.f77_words.proofs.lists.Complete.{control_is_read}
 use Rattle.f77_words.proofs.lists.Sound.{control_found}
 
-made : (m : DoControl) (rest : List Word) (k : Control) → control_of m rest ≡ complete.control_of k rest → IsControlOf m k
+made : (m : DoControl) (rest : List Word77) (k : Control) → control_of m rest ≡ complete.control_of k rest → IsControlOf m k
 made m rest k e = record {
   variable = ap (λ (q : reader.ReadControl). q.variable) e;
   first = ap (λ (q : reader.ReadControl). q.first) e;
@@ -35,29 +35,29 @@ made m rest k e = record {
   depth = ap (λ (q : reader.ReadControl). q.depth) e ∙ omega arith;
 }
 
-pub whole_found : (ws rest : List Word) (m : DoControl) → reader.control ws ≡ Some (control_of m rest) → rest ≡ [] → IsWholeControl ws m
+pub whole_found : (ws rest : List Word77) (m : DoControl) → reader.control ws ≡ Some (control_of m rest) → rest ≡ [] → IsWholeControl ws m
 whole_found ws rest m h e =
     let f = control_found ws (control_of m rest) h in
-    record { control = f.control; good = f.good; is = made m rest f.control f.is; same = f.text_is ∙ (ap (λ (q : List Word). written_control f.control ++ q) e ∙ append-nil (written_control f.control)) }
+    record { control = f.control; good = f.good; is = made m rest f.control f.is; same = f.text_is ∙ (ap (λ (q : List Word77). written_control f.control ++ q) e ∙ append-nil (written_control f.control)) }
 
-pub whole_is_read : (ws : List Word) (k : Control) → IsControl k → ws ≡ written_control k → reader.control ws ≡ Some (complete.control_of k [])
+pub whole_is_read : (ws : List Word77) (k : Control) → IsControl k → ws ≡ written_control k → reader.control ws ≡ Some (complete.control_of k [])
 whole_is_read ws k h e = ap reader.control (e ∙ sym (append-nil (written_control k))) ∙ control_is_read k [] h tt
 
-pub whole_only : (ws rest : List Word) (m : DoControl) (k : Control) → reader.control ws ≡ Some (control_of m rest) → rest ≡ [] → IsControl k → ws ≡ written_control k → IsControlOf m k
+pub whole_only : (ws rest : List Word77) (m : DoControl) (k : Control) → reader.control ws ≡ Some (control_of m rest) → rest ≡ [] → IsControl k → ws ≡ written_control k → IsControlOf m k
 whole_only ws rest m k h n g e =
     let r = sym h ∙ whole_is_read ws k g e in
     let q : control_of m rest ≡ complete.control_of k [] = cc in made m [] k (sym (ap (control_of m) n) ∙ q)
 
-pub something_left : (ws rest : List Word) (m : DoControl) (k : Control) → reader.control ws ≡ Some (control_of m rest) → IsControl k → ws ≡ written_control k → rest ≡ []
+pub something_left : (ws rest : List Word77) (m : DoControl) (k : Control) → reader.control ws ≡ Some (control_of m rest) → IsControl k → ws ≡ written_control k → rest ≡ []
 something_left ws rest m k h g e =
     let r = sym h ∙ whole_is_read ws k g e in
     let q : control_of m rest ≡ complete.control_of k [] = cc in ap (λ (c : reader.ReadControl). c.rest) q
 
-pub nothing_read : (ws : List Word) → reader.control ws ≡ None → (k : Control) → IsControl k → ws ≡ written_control k → ⊥
+pub nothing_read : (ws : List Word77) → reader.control ws ≡ None → (k : Control) → IsControl k → ws ≡ written_control k → ⊥
 nothing_read ws h k g e = let r = sym h ∙ whole_is_read ws k g e in let q : ⊥ = cc in q
 
 -- nothing is read of a DO variable with its parameters, unless memory ran out
-pub not_read : (ws : List Word) (e : Stop) → Lacks e (reader.control ws) → (k : Control) → IsControl k → ws ≡ written_control k → Given {A = DoControl} (Err e) (λ m. IsControlOf m k)
+pub not_read : (ws : List Word77) (e : Stop) → Lacks e (reader.control ws) → (k : Control) → IsControl k → ws ≡ written_control k → Given {A = DoControl} (Err e) (λ m. IsControlOf m k)
 not_read ws Syntax h k g e = nothing_read ws h k g e
 not_read ws Memory h k g e = tt
 
@@ -79,7 +79,7 @@ some_left (t ∷ ts) h e = cc
 -- ---- the end of an implied DO list
 
 -- without a parenthesis that closes, no list ends
-not_closed : (fs : List reader.Frame) (k : reader.ReadControl) (ws : List Word) → ((rest : List Word) → ws ≡ words.Close ∷ rest → ⊥) → reader.ended fs k ws ≡ reader.Fail
+not_closed : (fs : List reader.Frame) (k : reader.ReadControl) (ws : List Word77) → ((rest : List Word77) → ws ≡ words.Close ∷ rest → ⊥) → reader.ended fs k ws ≡ reader.Fail
 not_closed [] k ws h = refl
 not_closed (f ∷ fs) k [] h = refl
 not_closed (f ∷ fs) k (words.Number x ∷ ws) h = refl
@@ -95,16 +95,16 @@ not_closed (f ∷ fs) k (words.Equals ∷ ws) h = refl
 not_closed (f ∷ fs) k (words.Colon ∷ ws) h = refl
 not_closed (f ∷ fs) k (words.Constant x ∷ ws) h = refl
 
-pub list_goes_on : (fs : List reader.Frame) (ws rest : List Word) (m : DoControl) → reader.control ws ≡ Some (control_of m rest) → ((after : List Word) → rest ≡ words.Close ∷ after → ⊥) → reader.repeat fs (reader.control ws) ≡ reader.Fail
+pub list_goes_on : (fs : List reader.Frame) (ws rest : List Word77) (m : DoControl) → reader.control ws ≡ Some (control_of m rest) → ((after : List Word77) → rest ≡ words.Close ∷ after → ⊥) → reader.repeat fs (reader.control ws) ≡ reader.Fail
 list_goes_on fs ws rest m h g = ap (reader.repeat fs) h ∙ not_closed fs (control_of m rest) rest g
 
 -- with one, the innermost list ends
-pub list_ends : (lists before : List ItemList) (l : ItemList) (m : DoControl) (ws rest after : List Word) (n : ℕ) (s : reader.Step)
+pub list_ends : (lists before : List ItemList) (l : ItemList) (m : DoControl) (ws rest after : List Word77) (n : ℕ) (s : reader.Step)
     → lists ≡ before ++ l ∷ [] → reader.control ws ≡ Some (control_of m rest) → rest ≡ words.Close ∷ after → n ≡ deeper (max l.depth m.depth)
     → reader.put (item_of (Turns l.items m.variable m.first m.last m.step)) n (stack before) after ≡ s → reader.repeat (stack lists) (reader.control ws) ≡ s
 list_ends lists before l m ws rest after n s e h r d p =
     ap (λ (fs : List reader.Frame). reader.repeat fs (reader.control ws)) (ap stack e ∙ stack_push before l)
-    ∙ (ap (reader.repeat (frame_of l ∷ stack before)) (h ∙ ap (λ (q : List Word). Some (control_of m q)) r)
+    ∙ (ap (reader.repeat (frame_of l ∷ stack before)) (h ∙ ap (λ (q : List Word77). Some (control_of m q)) r)
     ∙ (ap (λ (i : Item). reader.put i (deeper (max l.depth m.depth)) (stack before) after) (sym (item_of-turns l.items m.variable m.first m.last m.step))
     ∙ (ap (λ (k : ℕ). reader.put (item_of (Turns l.items m.variable m.first m.last m.step)) k (stack before) after) (sym d) ∙ p)))
 

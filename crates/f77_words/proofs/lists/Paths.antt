@@ -1,6 +1,6 @@
 -- Steps that lead from a state to another.
 use Rattle.std.proofs.Common.{◌≡◌, List, [], ◌∷◌, refl, sym, ◌∙◌, subst}
-use Rattle.f77_grammar.specs.expressions.Words.{Word}
+use Rattle.f77_grammar.specs.expressions.Words.{Word77}
 use Rattle.f77_grammar.specs.declared.directions.Direction.{Direction}
 use Rattle.f77_words.specs.lists.Reader.{Frame, State, Wants, Step, Go, Stop, Fail, none, step, start, Path, here, onward, Reaches}
 
@@ -11,10 +11,10 @@ joined d s t u (onward _ v _ e p) q = onward s v u e (joined d v t u p q)
 pub one_more : (d : Direction) (s t u : State) → Path d s t → step d t ≡ Go u → Path d s u
 one_more d s t u p e = joined d s t u p (onward t u u e (here u))
 
-pub started : (d : Direction) (ws : List Word) (fs : List Frame) → fs ≡ none ∷ [] → Path d (start ws) (Wants fs ws)
+pub started : (d : Direction) (ws : List Word77) (fs : List Frame) → fs ≡ none ∷ [] → Path d (start ws) (Wants fs ws)
 started d ws fs e = subst (λ (q : List Frame). Path d (start ws) (Wants q ws)) (sym e) (here (start ws))
 
-pub reaches : (d : Direction) (ws : List Word) (t : State) (end : Step) → Path d (start ws) t → step d t ≡ end → Reaches d ws end
+pub reaches : (d : Direction) (ws : List Word77) (t : State) (end : Step) → Path d (start ws) t → step d t ≡ end → Reaches d ws end
 reaches d ws t end p e = record { state = t; path = p; ends = e }
 
 -- nothing follows

@@ -1,13 +1,13 @@
 -- Words that are left out, at the front of a text.
 use Rattle.std.specs.Prelude.{ℕ, Bool, Option, Some, None, List, [], ◌∷◌, is_some, codes, if◌then◌else◌}
-use Rattle.f77_grammar.specs.expressions.Squeezing.{Symbol}
+use Rattle.f77_grammar.specs.expressions.Squeezing.{Symbol77}
 use Rattle.f77_expressions.specs.Lexing.{strip}
 
-abbrev pub begins_with : List ℕ → List Symbol → Bool
+abbrev pub begins_with : List ℕ → List Symbol77 → Bool
 begins_with word text = is_some (strip word text)
 
 -- the number of the first of the words with which the text begins
-abbrev pub listed : List (List ℕ × ℕ) → List Symbol → Option ℕ
+abbrev pub listed : List (List ℕ × ℕ) → List Symbol77 → Option ℕ
 listed [] text = None
 listed (w ∷ ws) text = if begins_with w.0 text then Some w.1 else listed ws text
 

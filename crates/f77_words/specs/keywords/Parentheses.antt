@@ -19,7 +19,7 @@ halves_of None = None
 halves_of (Some r) = Some (record { inside = symbols_of r.0.now; behind = symbols_of r.1.now })
 
 -- these two texts
-abbrev pub Gives : Option (Bor (List Symbol) × Bor (List Symbol)) → List squeezing.Symbol → List squeezing.Symbol
+abbrev pub Gives : Option (Bor (List Symbol) × Bor (List Symbol)) → List squeezing.Symbol77 → List squeezing.Symbol77
     → Type 0
 Gives None a b = ⊥
 Gives (Some r) a b = (symbols_of r.0.now ≡ a) × (symbols_of r.1.now ≡ b)

@@ -4,7 +4,7 @@ use Rattle.std.specs.Prelude.{ℕ, ◌+◌, ◌-◌, ◌≡◌, max, pos, Bool, 
 use Rattle.std.specs.Prelude.{Some, None, if◌then◌else◌}
 use Rattle.tree.specs.Plain.{Expression, Number, Item, Single, Constant, ImpliedDo, items}
 use Rattle.f77_grammar.specs.expressions.Words as words
-use Rattle.f77_grammar.specs.expressions.Words.{Word}
+use Rattle.f77_grammar.specs.expressions.Words.{Word77}
 use Rattle.f77_grammar.specs.declared.directions.Direction.{Direction}
 use Rattle.f77_grammar.specs.declared.directions.Direction.TheVariants.{Output, Input}
 use Rattle.f77_expressions.specs.TokenFronts.{begins_with_name}
@@ -24,22 +24,22 @@ added i d f = record { items = f.items ++ i ∷ []; depth = max f.depth d }
 
 -- the lists that are open, the innermost first, and the words that follow: an item is due, or has been read
 pub data State : Type 0 where
-  Wants : List Frame → List Word → State
-  Done : List Frame → List Word → State
+  Wants : List Frame → List Word77 → State
+  Done : List Frame → List Word77 → State
 
 pub data Step : Type 0 where
   Go : State → Step
   Stop : Frame → Step
   Fail : Step
 
-abbrev pub put : Item → ℕ → List Frame → List Word → Step
+abbrev pub put : Item → ℕ → List Frame → List Word77 → Step
 put i d [] ws = Fail
 put i d (f ∷ fs) ws = Go (Done (added i d f ∷ fs) ws)
 
 -- ---- an item
 
 -- a comma stands in the parenthesis before the words, and in none within it; `n` more are open
-abbrev pub holds_comma : ℕ → List Word → Bool
+abbrev pub holds_comma : ℕ → List Word77 → Bool
 holds_comma n [] = false
 holds_comma n (words.Open ∷ ws) = holds_comma (n + 1) ws
 holds_comma n (words.Head x ∷ ws) = holds_comma (n + 1) ws
@@ -48,37 +48,37 @@ holds_comma n (words.Comma ∷ ws) = if n == 0 then true else holds_comma n ws
 holds_comma n (w ∷ ws) = holds_comma n ws
 
 -- a parenthesis that holds a comma begins an implied DO list
-abbrev pub opens : List Word → Bool
+abbrev pub opens : List Word77 → Bool
 opens (words.Open ∷ ws) = holds_comma 0 ws
 opens ws = false
 
-abbrev pub may_stand : Direction → List Word → Operand → Bool
+abbrev pub may_stand : Direction → List Word77 → Operand → Bool
 may_stand Output ws m = true
 may_stand Input ws m = begins_with_name ws && (m.level == 10)
 
-abbrev pub value : Direction → List Word → List Frame → Option Read → Step
+abbrev pub value : Direction → List Word77 → List Frame → Option Read → Step
 value d ws fs None = Fail
 value d ws fs (Some r) =
     if may_stand d ws r.operand then put (Single r.operand.tree) r.operand.depth fs r.rest else Fail
 
-abbrev pub text : Direction → List ℕ → List Frame → List Word → Step
+abbrev pub text : Direction → List ℕ → List Frame → List Word77 → Step
 text Output t fs ws = put (Constant t) 0 fs ws
 text Input t fs ws = Fail
 
 -- an item that isn't an implied DO list
-abbrev pub simple : Direction → List Frame → List Word → Step
+abbrev pub simple : Direction → List Frame → List Word77 → Step
 simple d fs (words.Constant t ∷ ws) = text d t fs ws
 simple d fs ws = value d ws fs (expressions.read ws)
 
-abbrev pub open_list : List Frame → List Word → Step
+abbrev pub open_list : List Frame → List Word77 → Step
 open_list fs [] = Fail
 open_list fs (w ∷ ws) = Go (Wants (none ∷ fs) ws)
 
-abbrev pub begin_by : Direction → Bool → List Frame → List Word → Step
+abbrev pub begin_by : Direction → Bool → List Frame → List Word77 → Step
 begin_by d true fs ws = open_list fs ws
 begin_by d false fs ws = simple d fs ws
 
-abbrev pub begin : Direction → List Frame → List Word → Step
+abbrev pub begin : Direction → List Frame → List Word77 → Step
 begin d fs ws = begin_by d (opens ws) fs ws
 
 -- ---- a DO variable with its parameters
@@ -87,7 +87,7 @@ begin d fs ws = begin_by d (opens ws) fs ws
 pub record Bound : Type 0 where
   pub tree : Expression
   pub depth : ℕ
-  pub rest : List Word
+  pub rest : List Word77
 
 abbrev pub bound_of : Read → Bound
 bound_of r = record { tree = r.operand.tree; depth = r.operand.depth; rest = r.rest }
@@ -97,10 +97,10 @@ given None = None
 given (Some r) = Some (bound_of r)
 
 -- a step that is left out is 1
-abbrev pub no_step : List Word → Bound
+abbrev pub no_step : List Word77 → Bound
 no_step ws = record { tree = Number (pos 1); depth = 0; rest = ws }
 
-abbrev pub last_part : List Word → Option Bound
+abbrev pub last_part : List Word77 → Option Bound
 last_part (words.Comma ∷ ws) = given (expressions.read ws)
 last_part ws = Some (no_step ws)
 
@@ -110,7 +110,7 @@ pub record ReadControl : Type 0 where
   pub last : Expression
   pub step : Expression
   pub depth : ℕ
-  pub rest : List Word
+  pub rest : List Word77
 
 abbrev pub control_with : List ℕ → Operand → Operand → Bound → ReadControl
 control_with x a b c = record {
@@ -130,7 +130,7 @@ abbrev pub with_last : List ℕ → Operand → Option Read → Option ReadContr
 with_last x a None = None
 with_last x a (Some r) = with_step x a r.operand (last_part r.rest)
 
-abbrev pub behind_first : List ℕ → Operand → List Word → Option ReadControl
+abbrev pub behind_first : List ℕ → Operand → List Word77 → Option ReadControl
 behind_first x a (words.Comma ∷ ws) = with_last x a (expressions.read ws)
 behind_first x a ws = None
 
@@ -138,18 +138,18 @@ abbrev pub with_first : List ℕ → Option Read → Option ReadControl
 with_first x None = None
 with_first x (Some r) = behind_first x r.operand r.rest
 
-abbrev pub control : List Word → Option ReadControl
+abbrev pub control : List Word77 → Option ReadControl
 control (words.Name x ∷ (words.Equals ∷ ws)) = with_first x (expressions.read ws)
 control ws = None
 
 -- ---- what follows an item
 
-abbrev pub begins_control : List Word → Bool
+abbrev pub begins_control : List Word77 → Bool
 begins_control (words.Name x ∷ (words.Equals ∷ ws)) = true
 begins_control ws = false
 
 -- the parenthesis behind the control ends the innermost list
-abbrev pub ended : List Frame → ReadControl → List Word → Step
+abbrev pub ended : List Frame → ReadControl → List Word77 → Step
 ended (f ∷ fs) k (words.Close ∷ ws) =
     put (ImpliedDo (items f.items) k.variable k.first k.last k.step) (deeper (max f.depth k.depth)) fs ws
 ended fs k ws = Fail
@@ -158,7 +158,7 @@ abbrev pub repeat : List Frame → Option ReadControl → Step
 repeat fs None = Fail
 repeat fs (Some k) = ended fs k k.rest
 
-abbrev pub behind_comma : List Frame → List Word → Bool → Step
+abbrev pub behind_comma : List Frame → List Word77 → Bool → Step
 behind_comma fs ws true = repeat fs (control ws)
 behind_comma fs ws false = Go (Wants fs ws)
 
@@ -166,7 +166,7 @@ abbrev pub whole : List Frame → Step
 whole (f ∷ []) = Stop f
 whole fs = Fail
 
-abbrev pub follow : List Frame → List Word → Step
+abbrev pub follow : List Frame → List Word77 → Step
 follow fs [] = whole fs
 follow fs (words.Comma ∷ ws) = behind_comma fs ws (begins_control ws)
 follow fs ws = Fail
@@ -177,7 +177,7 @@ abbrev pub step : Direction → State → Step
 step d (Wants fs ws) = begin d fs ws
 step d (Done fs ws) = follow fs ws
 
-abbrev pub start : List Word → State
+abbrev pub start : List Word77 → State
 start ws = Wants (none ∷ []) ws
 
 -- steps lead from a state to another
@@ -186,7 +186,7 @@ pub data Path (d : Direction) : State → State → Type 0 where
   onward : (s t u : State) → step d s ≡ Go t → Path d t u → Path d s u
 
 -- the items, where steps lead to the end of the words
-pub record Reaches (d : Direction) (ws : List Word) (end : Step) : Type 0 where
+pub record Reaches (d : Direction) (ws : List Word77) (end : Step) : Type 0 where
   pub state : State
   pub path : Path d (start ws) state
   pub ends : step d state ≡ end

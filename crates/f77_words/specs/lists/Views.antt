@@ -5,7 +5,7 @@ use Rattle.std.specs.Borrow.{Bor}
 use Rattle.tree.specs.View.{expression_of, item_of}
 use Rattle.tree.specs.declared.exprs.Expr.{Expr}
 use Rattle.f77_grammar.specs.expressions.Words as words
-use Rattle.f77_grammar.specs.expressions.Words.{Word}
+use Rattle.f77_grammar.specs.expressions.Words.{Word77}
 use Rattle.f77_grammar.specs.declared.directions.Direction.{Direction}
 use Rattle.f77_expressions.specs.Views.{words_of}
 use Rattle.reading.specs.declared.stops.Stop.{Stop}
@@ -25,7 +25,7 @@ abbrev pub stack : List ItemList → List reader.Frame
 stack lists = reverse (map frame_of lists)
 
 -- an item is due, or has been read
-abbrev pub state_of : Bool → List ItemList → List Word → reader.State
+abbrev pub state_of : Bool → List ItemList → List Word77 → reader.State
 state_of true lists ws = reader.Wants (stack lists) ws
 state_of false lists ws = reader.Done (stack lists) ws
 
@@ -55,7 +55,7 @@ abbrev pub GivesBound : Result (Expr × ℕ × Bor (List Token)) Stop → Option
 GivesBound (Ok r) found = found ≡ Some (record { tree = expression_of r.0; depth = r.1; rest = words_of r.2.now })
 GivesBound (Err e) found = Lacks e found
 
-abbrev pub control_of : DoControl → List Word → reader.ReadControl
+abbrev pub control_of : DoControl → List Word77 → reader.ReadControl
 control_of k rest = record {
   variable = k.variable;
   first = expression_of k.first;
@@ -71,7 +71,7 @@ GivesControl (Err e) found = Lacks e found
 
 -- ---- and what reading gives
 
-abbrev pub Runs : Result ItemList Stop → Direction → List Word → Type 0
+abbrev pub Runs : Result ItemList Stop → Direction → List Word77 → Type 0
 Runs (Ok l) d ws = reader.Reaches d ws (reader.Stop (frame_of l))
 Runs (Err Syntax) d ws = reader.Reaches d ws reader.Fail
 Runs (Err Memory) d ws = Unit {0}
@@ -86,6 +86,6 @@ abbrev pub Ends : Result ItemList Stop → reader.Step → Type 0
 Ends (Ok l) step = step ≡ reader.Stop (frame_of l)
 Ends (Err e) step = Fails e step
 
-abbrev pub Opens : Option (Bor (List Token)) → List Word → Type 0
+abbrev pub Opens : Option (Bor (List Token)) → List Word77 → Type 0
 Opens (Some rest) ws = (reader.opens ws ≡ true) × (ws ≡ words.Open ∷ words_of rest.now)
 Opens None ws = reader.opens ws ≡ false

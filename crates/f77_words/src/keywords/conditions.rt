@@ -20,7 +20,7 @@ pub(crate) fn begins_with_letter(text: &[Symbol]) -> bool
 /// Of a block IF or a logical IF, the condition and what follows its parenthesis.
 pub fn conditional(text: &[Symbol]) -> Option<(&[Symbol], &[Symbol])>
     ensures found { IfSome result (λ r. IsConditional (symbols_of text.now) (symbols_of r.0.now) (symbols_of r.1.now)) }
-    ensures only { (condition rest : List squeezing.Symbol) → IsConditional (symbols_of text.now) condition rest
+    ensures only { (condition rest : List squeezing.Symbol77) → IsConditional (symbols_of text.now) condition rest
         → Gives result condition rest }
 {
     let opened = strip(b"IF(", text)?;

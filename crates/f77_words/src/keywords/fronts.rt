@@ -13,7 +13,7 @@ const LABEL: usize = 5;
 /// where six follow one another.
 pub fn label(text: &[Symbol]) -> Option<(u32, &[Symbol])>
     ensures found { IfSome result (λ r. IsLabelled (symbols_of text.now) r.0 (symbols_of r.1.now)) }
-    ensures only { (number : ℕ) (rest : List squeezing.Symbol) → IsLabelled (symbols_of text.now) number rest
+    ensures only { (number : ℕ) (rest : List squeezing.Symbol77) → IsLabelled (symbols_of text.now) number rest
         → GivesLabel result number rest }
 {
     let mut rest = text;
@@ -38,7 +38,7 @@ const NAME: usize = 6;
 // What follows the name at the front: 1 to 6 letters and digits, as many as there are, the first a letter.
 pub(crate) fn behind_name(text: &[Symbol]) -> Option<&[Symbol]>
     ensures found { IfSome result (λ r. IsNamed (symbols_of text.now) (symbols_of r.now)) }
-    ensures only { (rest : List squeezing.Symbol) → IsNamed (symbols_of text.now) rest → GivesRest result rest }
+    ensures only { (rest : List squeezing.Symbol77) → IsNamed (symbols_of text.now) rest → GivesRest result rest }
 {
     if !begins_with_letter(text) {
         return None;
@@ -58,7 +58,7 @@ pub(crate) fn behind_name(text: &[Symbol]) -> Option<&[Symbol]>
 // How many labels follow the one at the front, with a comma before each, and what follows them all.
 pub(crate) fn labels(text: &[Symbol]) -> Option<(usize, &[Symbol])>
     ensures found { IfSome result (λ r. IsLabelList (symbols_of text.now) r.0 (symbols_of r.1.now)) }
-    ensures only { (others : ℕ) (rest : List squeezing.Symbol) → IsLabelList (symbols_of text.now) others rest
+    ensures only { (others : ℕ) (rest : List squeezing.Symbol77) → IsLabelList (symbols_of text.now) others rest
         → GivesLabels result others rest }
 {
     let (_, mut rest) = label(text)?;

@@ -1,7 +1,7 @@
 //! Words that are left out of the profile.
 ghost use Rattle.std.specs.Prelude.{◌≡◌, ℕ, List, Some, IfSome, IsTrue, ◌↔◌, codes};
 ghost use Rattle.f77_grammar.specs.expressions.Squeezing as squeezing;
-ghost use Rattle.f77_grammar.specs.expressions.Spelling.{chars};
+ghost use Rattle.f77_grammar.specs.expressions.Spelling.{chars77};
 ghost use Rattle.f77_grammar.specs.statements.Recognition.{IsConditional, HasWord, words_left_out};
 ghost use Rattle.f77_expressions.specs.Symbols.{symbols_of};
 ghost use Rattle.f77_words.specs.keywords.Listed.{begins_with, listed, declarations, procedures, files_and_loops};
@@ -94,7 +94,7 @@ fn listed_word(text: &[Symbol]) -> Option<u8>
 
 // The number of the word or form, where the text is no block IF or logical IF.
 fn keyword_left_out(text: &[Symbol]) -> Option<u8>
-    requires { (condition rest : List squeezing.Symbol) → IsConditional (symbols_of text.now) condition rest → ⊥ }
+    requires { (condition rest : List squeezing.Symbol77) → IsConditional (symbols_of text.now) condition rest → ⊥ }
     ensures found { IfSome result (λ word. HasWord (symbols_of text.now) word) }
     ensures only { (word : ℕ) → HasWord (symbols_of text.now) word → result ≡ Some word }
 {
@@ -113,7 +113,7 @@ fn keyword_left_out(text: &[Symbol]) -> Option<u8>
 
 /// Whether the text is the word THEN.
 pub fn is_then(text: &[Symbol]) -> bool
-    ensures { IsTrue result ↔ (symbols_of text.now ≡ chars (codes "THEN")) }
+    ensures { IsTrue result ↔ (symbols_of text.now ≡ chars77 (codes "THEN")) }
 {
     match strip(b"THEN", text) {
         Some(rest) => rest.is_empty(),

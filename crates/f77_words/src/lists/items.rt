@@ -1,6 +1,6 @@
 //! Lists by themselves.
 ghost use Rattle.std.specs.Prelude.{◌≡◌, IfOk};
-ghost use Rattle.f77_grammar.specs.statements.Items.{ItemPhrases, AreItems, written_items};
+ghost use Rattle.f77_grammar.specs.statements.Items.{ItemPhrases77, AreItems77, written_items77};
 ghost use Rattle.f77_grammar.specs.declared.directions.Direction.TheVariants.{Output, Input};
 ghost use Rattle.f77_expressions.specs.Views.{words_of};
 ghost use Rattle.f77_words.specs.lists.Reading as reading;
@@ -22,7 +22,8 @@ pub fn read_items(alloc: Global, tokens: &[Token]) -> Result<ItemList, Stop>
     ensures found { IfOk result (reading.Is Output (words_of tokens.now)) }
 
     // What is so written is read, in one way alone.
-    ensures only { (is : ItemPhrases) → AreItems Output is → words_of tokens.now ≡ written_items is → Gives result is }
+    ensures only { (is : ItemPhrases77) → AreItems77 Output is → words_of tokens.now ≡ written_items77 is
+        → Gives result is }
 {
     run(alloc, Direction::Output, tokens)
 }
@@ -34,7 +35,8 @@ pub fn read_inputs(alloc: Global, tokens: &[Token]) -> Result<ItemList, Stop>
     ensures found { IfOk result (reading.Is Input (words_of tokens.now)) }
 
     // What is so written is read, in one way alone.
-    ensures only { (is : ItemPhrases) → AreItems Input is → words_of tokens.now ≡ written_items is → Gives result is }
+    ensures only { (is : ItemPhrases77) → AreItems77 Input is → words_of tokens.now ≡ written_items77 is
+        → Gives result is }
 {
     run(alloc, Direction::Input, tokens)
 }

@@ -5,8 +5,7 @@ ghost use Rattle.f77_grammar.specs.expressions.Words as words;
 ghost use Rattle.f77_expressions.specs.Reader as expressions;
 ghost use Rattle.f77_expressions.specs.Views.{words_of, operand_of};
 ghost use Rattle.f77_words.specs.lists.Reader as reader;
-ghost use Rattle.f77_words.specs.lists.Views.{stack, state_of, frame_of, Leaves, Turns, Ends, Opens};
-ghost use Rattle.f77_words.specs.lists.Views.{IsShorter, Runs};
+ghost use Rattle.f77_words.specs.lists.Views.{stack, state_of, frame_of, Leaves, Turns, Ends, Opens, IsShorter, Runs};
 
 use crate::lists::controls::{DoControl, begins_control, read_control};
 use crate::lists::lists::ItemList;
@@ -80,9 +79,9 @@ fn may_stand(direction: Direction, tokens: &[Token], operand: &Operand) -> bool
 // Puts an item of some depth into the innermost list.
 #[tactic(auto, using(crate::proofs::lists::Stacks::stacks))]
 fn put(lists: &mut Vec<ItemList>, item: Item, depth: u16) -> Result<(), Stop>
-    ensures ok { OnOk result ((ws : List words.Word) → reader.put (item_of item) depth (stack lists.old.items) ws
+    ensures ok { OnOk result ((ws : List words.Word77) → reader.put (item_of item) depth (stack lists.old.items) ws
         ≡ reader.Go (reader.Done (stack lists.new.items) ws)) }
-    ensures syntax { IsErrOf result Stop.Syntax → (ws : List words.Word)
+    ensures syntax { IsErrOf result Stop.Syntax → (ws : List words.Word77)
         → reader.put (item_of item) depth (stack lists.old.items) ws ≡ reader.Fail }
 {
     let Some(list) = lists.pop() else {
@@ -120,9 +119,9 @@ fn text(
     lists: &mut Vec<ItemList>,
     text: &Seq<u8>,
 ) -> Result<(), Stop>
-    ensures ok { OnOk result ((ws : List words.Word) → reader.text direction text.now
+    ensures ok { OnOk result ((ws : List words.Word77) → reader.text direction text.now
         (stack lists.old.items) ws ≡ reader.Go (reader.Done (stack lists.new.items) ws)) }
-    ensures syntax { IsErrOf result Stop.Syntax → (ws : List words.Word)
+    ensures syntax { IsErrOf result Stop.Syntax → (ws : List words.Word77)
         → reader.text direction text.now (stack lists.old.items) ws ≡ reader.Fail }
 {
     match direction {

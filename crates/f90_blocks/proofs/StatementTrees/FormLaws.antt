@@ -12,11 +12,12 @@ use Rattle.tree.specs.declared.stmts.Mark.{Mark}
 use Rattle.tree.specs.declared.stmts.Stmt.TheVariants as stmts
 use Rattle.tree.proofs.Equations.{statement_of-masked, statement_of-allocate, statement_of-deallocate}
 use Rattle.f90_grammar.specs.Blocks as grammar
-use Rattle.f90_grammar.specs.Blocks.{at, reference_in}
+use Rattle.f90_grammar.specs.Blocks.{placed_form}
+use Rattle.reading.specs.Signs.{reference_in}
 use Rattle.f90_grammar.specs.Blocks.IsSimple.{masks, allocates, deallocates}
 use Rattle.f90_grammar.specs.Forms as forms
-use Rattle.f90_grammar.specs.Forms.{Form}
-use Rattle.f90_grammar.specs.Phrases.{Phrase, tree_of}
+use Rattle.f90_grammar.specs.Forms.{Form90}
+use Rattle.f90_grammar.specs.Phrases.{Phrase90, tree_of}
 use Rattle.f90_grammar.specs.Reading.{takes_mark}
 use Rattle.f90_expressions.specs.Reading.{IsMadeOf}
 use Rattle.f90_expressions.specs.declared.nodes.Expression.{Expression as Read}
@@ -32,22 +33,22 @@ use Rattle.f90_blocks.specs.statement_trees.Results.{IsLeftOf, Gives, AreBoundTr
 use Rattle.f90_blocks.specs.declared.statement_trees.nodes.StatementTree.{StatementTree}
 use Rattle.f90_blocks.specs.declared.statement_trees.nodes.StatementTree.TheVariants as trees
 
-all_held : (function : List ℕ → Option Intrinsic) (es : List Phrase)
-    → tree.expressions (held_trees function es) ≡ held_all (tree.expressions (grammar.trees (tree_of function) es))
+all_held : (function : List ℕ → Option Intrinsic) (es : List Phrase90)
+    → tree.expressions (held_trees function es) ≡ held_all (tree.expressions (grammar.trees_by (tree_of function) es))
 all_held function [] = refl
 all_held function (e ∷ es) = ap (tree.expression (held (tree_of function e))) (all_held function es)
 
 module _ (function : List ℕ → Option Intrinsic) (line : ℕ) where
-  abbrev Given : Option Mark → Form → StatementTree → Type 0
-  Given m f t = Gives function (at line m f) (Some t)
+  abbrev Given : Option Mark → Form90 → StatementTree → Type 0
+  Given m f t = Gives function (placed_form line m f) (Some t)
 
   abbrev IsTree : Read → Expr → Type 0
-  IsTree e x = (p : Phrase) → IsMadeOf e p → expression_of x ≡ held (tree_of function p)
+  IsTree e x = (p : Phrase90) → IsMadeOf e p → expression_of x ≡ held (tree_of function p)
 
-  without_mark : (m : Option Mark) (f : Form) → IsMarkOf m f → takes_mark f ≡ false → at line m f ≡ at line None f
-  without_mark m f k t = ap (λ (q : Option Mark). at line q f) (k t)
+  without_mark : (m : Option Mark) (f : Form90) → IsMarkOf m f → takes_mark f ≡ false → placed_form line m f ≡ placed_form line None f
+  without_mark m f k t = ap (λ (q : Option Mark). placed_form line q f) (k t)
 
-  pub masked_given : (m : Option Mark) (p l r : Phrase) (mask : Expr) (left : Ref) (right : Expr)
+  pub masked_given : (m : Option Mark) (p l r : Phrase90) (mask : Expr) (left : Ref) (right : Expr)
       → expression_of mask ≡ held (tree_of function p) → IsLeftOf function l (Some left)
       → expression_of right ≡ held (tree_of function r)
       → Given m (forms.Where p l r) (trees.Simple (stmts.Masked line m mask left right))
@@ -62,26 +63,26 @@ module _ (function : List ℕ → Option Intrinsic) (line : ℕ) where
     ap not h.0,
   )
 
-  renamed : (m : Option Mark) (x y : List ℕ) (a b : Phrase) (c : Option Phrase) → x ≡ y
-      → IsMarkOf m (forms.Do y a b c) → at line m (forms.Do y a b c) ≡ at line None (forms.Do x a b c)
+  renamed : (m : Option Mark) (x y : List ℕ) (a b : Phrase90) (c : Option Phrase90) → x ≡ y
+      → IsMarkOf m (forms.Do y a b c) → placed_form line m (forms.Do y a b c) ≡ placed_form line None (forms.Do x a b c)
   renamed m x y a b c e k = without_mark m (forms.Do y a b c) k refl
-      ∙ ap (λ (q : List ℕ). at line None (forms.Do q a b c)) (sym e)
+      ∙ ap (λ (q : List ℕ). placed_form line None (forms.Do q a b c)) (sym e)
 
-  pub do_given : (m : Option Mark) (x : List ℕ) (bounds : Bounds) (r : Expr × Expr × Expr) (f : Form)
+  pub do_given : (m : Option Mark) (x : List ℕ) (bounds : Bounds) (r : Expr × Expr × Expr) (f : Form90)
       → IsStatementOf (statements.Do x bounds) f → IsMarkOf m f
-      → ((a b : Phrase) (c : Option Phrase) → AreBoundsOf bounds a b c → AreBoundTrees function a b c r)
+      → ((a b : Phrase90) (c : Option Phrase90) → AreBoundsOf bounds a b c → AreBoundTrees function a b c r)
       → Given m f (trees.Do x r.0 r.1 r.2)
   do_given m x bounds r (forms.Do y a b c) h k t =
       let made = t a b c h.1 in ((a, b, c, renamed m x y a b c h.0 k, made.first, made.last, made.step), refl)
   do_given m x bounds r f h k t = absurd h
 
-  pub allocate_given : (m : Option Mark) (x : List ℕ) (es : List Phrase) (made : List Expr) → m ≡ None
+  pub allocate_given : (m : Option Mark) (x : List ℕ) (es : List Phrase90) (made : List Expr) → m ≡ None
       → map expression_of made ≡ held_trees function es
       → Given m (forms.Allocate x es) (trees.Simple (stmts.Allocate line x made))
   allocate_given m x es made k h =
       subst (λ (q : Option Mark). Given q (forms.Allocate x es) (trees.Simple (stmts.Allocate line x made))) (sym k) (
         record {
-          statement = tree.Allocate line x (tree.expressions (grammar.trees (tree_of function) es));
+          statement = tree.Allocate line x (tree.expressions (grammar.trees_by (tree_of function) es));
           is = allocates line x es;
           same = statement_of-allocate line x made ∙ ap (tree.Allocate line x) (ap tree.expressions h
               ∙ all_held function es);
@@ -89,7 +90,7 @@ module _ (function : List ℕ → Option Intrinsic) (line : ℕ) where
         refl,
       )
 
-  pub deallocate_given : (m : Option Mark) (x : List ℕ) (f : Form) → IsStatementOf (statements.Deallocate x) f
+  pub deallocate_given : (m : Option Mark) (x : List ℕ) (f : Form90) → IsStatementOf (statements.Deallocate x) f
       → IsMarkOf m f
       → Given m f (trees.Simple (stmts.Deallocate line x))
   deallocate_given m x (forms.Deallocate y) h k =
@@ -109,10 +110,10 @@ module _ (function : List ℕ → Option Intrinsic) (line : ℕ) where
 
 pub placed_as : (function : List ℕ
     → Option Intrinsic) (k : Placed) (p : grammar.Placed) (made : Option StatementTree) → IsPlacedOf k p
-    → Gives function (at k.line k.mark p.form) made
+    → Gives function (placed_form k.line k.mark p.form) made
     → Gives function p made
 placed_as function k p made h g =
-    let e : at k.line k.mark p.form ≡ p = ap₂ (λ (l : ℕ) (m : Option Mark). at l m p.form) h.line h.mark in
+    let e : placed_form k.line k.mark p.form ≡ p = ap₂ (λ (l : ℕ) (m : Option Mark). placed_form l m p.form) h.line h.mark in
     subst (λ (q : grammar.Placed). Gives function q made) e g
 
 pub mark_as : (k : Placed) (p : grammar.Placed) → IsPlacedOf k p → IsMarkOf p.mark p.form → IsMarkOf k.mark p.form

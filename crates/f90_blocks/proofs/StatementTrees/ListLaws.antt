@@ -11,8 +11,8 @@ use Rattle.tree.specs.declared.stmts.Item as code
 use Rattle.tree.specs.declared.stmts.Item.TheVariants as code_items
 use Rattle.tree.proofs.Equations.{item_of-one, item_of-text, item_of-turns}
 use Rattle.f90_grammar.specs.Items as items
-use Rattle.f90_grammar.specs.Items.{ItemPhrase, ItemPhrases, item_tree, item_trees, step_tree}
-use Rattle.f90_grammar.specs.Phrases.{Phrase, tree_of}
+use Rattle.f90_grammar.specs.Items.{ItemPhrase90, ItemPhrases90, item_tree90, item_trees90, step_tree90}
+use Rattle.f90_grammar.specs.Phrases.{Phrase90, tree_of}
 use Rattle.f90_expressions.specs.Reading.{IsMadeOf}
 use Rattle.f90_expressions.specs.declared.nodes.Expression.{Expression}
 use Rattle.f90_statement.specs.items.Flat.{Node, Of, Text, Turns, flat_item, flat_items}
@@ -30,17 +30,17 @@ items_held [] = refl
 items_held (t ∷ ts) = ap (tree.item (held_item t)) (items_held ts)
 
 module _ (function : List ℕ → Option Intrinsic) where
-  abbrev made : ItemPhrases → List Item
-  made is = map held_item (item_trees function is)
+  abbrev made : ItemPhrases90 → List Item
+  made is = map held_item (item_trees90 function is)
 
   grouped : (a b r : List Node) (l : Levels)
       → with_parts function ((a ++ b) ++ r) l ≡ with_parts function (a ++ (b ++ r)) l
   grouped a b r l = ap (λ (q : List Node). with_parts function q l) (append_assoc a b r)
 
   mutual
-    item_made : (i : ItemPhrase) (r : List Node) (is : List Item) (outer : List (List Item))
+    item_made : (i : ItemPhrase90) (r : List Node) (is : List Item) (outer : List (List Item))
         → with_parts function (flat_item i ++ r) (levels is outer)
-        ≡ with_parts function r (levels (is ++ held_item (item_tree function i) ∷ []) outer)
+        ≡ with_parts function r (levels (is ++ held_item (item_tree90 function i) ∷ []) outer)
     item_made (items.Of p) r is outer = refl
     item_made (items.Text t) r is outer = refl
     item_made (items.Loop ps x a b c) r is outer =
@@ -48,10 +48,10 @@ module _ (function : List ℕ → Option Intrinsic) where
         ∙ (items_made ps (Turns x a b c ∷ r) [] (is ∷ outer)
         ∙ ap (λ (q : tree.Items). with_parts function r
         (levels (is ++ tree.ImpliedDo q x (held (tree_of function a)) (held (tree_of function b)) (held
-        (step_tree function c)) ∷ []) outer))
-        (items_held (item_trees function ps)))
+        (step_tree90 function c)) ∷ []) outer))
+        (items_held (item_trees90 function ps)))
 
-    items_made : (ps : ItemPhrases) (r : List Node) (is : List Item) (outer : List (List Item))
+    items_made : (ps : ItemPhrases90) (r : List Node) (is : List Item) (outer : List (List Item))
         → with_parts function (flat_items ps ++ r) (levels is outer)
         ≡ with_parts function r (levels (is ++ made ps) outer)
     items_made (items.Sole i) r is outer = item_made i r is outer
@@ -60,18 +60,18 @@ module _ (function : List ℕ → Option Intrinsic) where
         ∙ (items_made ps (flat_item i ++ r) is outer
         ∙ (item_made i r (is ++ made ps) outer
         ∙ ap (λ (q : List Item). with_parts function r (levels q outer))
-        (append_assoc is (made ps) (held_item (item_tree function i) ∷ [])
-        ∙ ap (λ (q : List Item). is ++ q) (sym (map_push held_item (item_trees function ps) (item_tree function i))))))
+        (append_assoc is (made ps) (held_item (item_tree90 function i) ∷ [])
+        ∙ ap (λ (q : List Item). is ++ q) (sym (map_push held_item (item_trees90 function ps) (item_tree90 function i))))))
 
-  pub list_made : (ps : ItemPhrases) → (with_parts function (flat_items ps) (levels [] [])).inner ≡ made ps
+  pub list_made : (ps : ItemPhrases90) → (with_parts function (flat_items ps) (levels [] [])).inner ≡ made ps
   list_made ps =
       ap (λ (q : List Node). (with_parts function q (levels [] [])).inner) (sym (append-nil (flat_items ps)))
       ∙ ap (λ (l : Levels). l.inner) (items_made ps [] [] [])
 
-  pub whole_list : (ps : ItemPhrases) (made_items : List code.Item)
+  pub whole_list : (ps : ItemPhrases90) (made_items : List code.Item)
       → map item_of made_items ≡ (with_parts function (flat_items ps) (levels [] [])).inner
-      → tree.items (map item_of made_items) ≡ held_items (tree.items (item_trees function ps))
-  whole_list ps made_items e = ap tree.items (e ∙ list_made ps) ∙ items_held (item_trees function ps)
+      → tree.items (map item_of made_items) ≡ held_items (tree.items (item_trees90 function ps))
+  whole_list ps made_items e = ap tree.items (e ∙ list_made ps) ∙ items_held (item_trees90 function ps)
 
   pub one_more : (ns : List Node) (n : Node) (l : Levels)
       → with_parts function (ns ++ n ∷ []) l ≡ with_part function n (with_parts function ns l)
@@ -99,7 +99,7 @@ moved is before made i e h = h ∙ ap (λ (q : List code.Item). map item_of q ++
 module _ (function : List ℕ → Option Intrinsic) where
   pub value_made : (e : Expression) (x : Expr) (is before more : List code.Item) (outer : List (List code.Item))
       (part : Node) → IsNodeOf (node_variants.Value e) part
-      → ((p : Phrase) → IsMadeOf e p → expression_of x ≡ held (tree_of function p)) → before ≡ is
+      → ((p : Phrase90) → IsMadeOf e p → expression_of x ≡ held (tree_of function p)) → before ≡ is
       → map item_of more ≡ map item_of before ++ item_of (code_items.One x) ∷ []
       → levels_seen more outer ≡ with_part function part (levels_seen is outer)
   value_made e x is before more outer (Of p) n t b h =
@@ -117,12 +117,12 @@ module _ (function : List ℕ → Option Intrinsic) where
   text_made t u is before more outer part n e b h = absurd n
 
   -- the item that an implied DO list is
-  abbrev list_item : List code.Item → List ℕ → Phrase → Phrase → Option Phrase → Item
+  abbrev list_item : List code.Item → List ℕ → Phrase90 → Phrase90 → Option Phrase90 → Item
   list_item is x a b c = tree.ImpliedDo (tree.items (map item_of is)) x (held (tree_of function a)) (held
-      (tree_of function b)) (held (step_tree function c))
+      (tree_of function b)) (held (step_tree90 function c))
 
-  turns_tree : (is before : List code.Item) (x y : List ℕ) (r : Expr × Expr × Expr) (a b : Phrase)
-      (c : Option Phrase) → before ≡ is → x ≡ y → AreBoundTrees function a b c r
+  turns_tree : (is before : List code.Item) (x y : List ℕ) (r : Expr × Expr × Expr) (a b : Phrase90)
+      (c : Option Phrase90) → before ≡ is → x ≡ y → AreBoundTrees function a b c r
       → item_of (code_items.Turns before x r.0 r.1 r.2) ≡ list_item is y a b c
   turns_tree is before x y r a b c e f h =
       by before x (expression_of r.0) (expression_of r.1) (expression_of r.2)
@@ -131,13 +131,13 @@ module _ (function : List ℕ → Option Intrinsic) where
       by : (q : List code.Item) (z : List ℕ) (u v w : tree.Expression)
           → item_of (code_items.Turns before x r.0 r.1 r.2) ≡ tree.ImpliedDo (tree.items (map item_of q)) z u v w
           → q ≡ is → z ≡ y → u ≡ held (tree_of function a) → v ≡ held (tree_of function b)
-          → w ≡ held (step_tree function c)
+          → w ≡ held (step_tree90 function c)
           → item_of (code_items.Turns before x r.0 r.1 r.2) ≡ list_item is y a b c
       by q z u v w t g h i j k = cc
 
   pub list_ended : (x : List ℕ) (k : Bounds) (r : Expr × Expr × Expr) (is before outside more : List code.Item)
       (old new : List (List code.Item)) (part : Node)
-      → IsNodeOf (node_variants.Turns x k) part → ((a b : Phrase) (c : Option Phrase) → AreBoundsOf k a b c
+      → IsNodeOf (node_variants.Turns x k) part → ((a b : Phrase90) (c : Option Phrase90) → AreBoundsOf k a b c
       → AreBoundTrees function a b c r) → before ≡ is
       → old ≡ new ++ outside ∷ [] → map item_of more
       ≡ map item_of outside ++ item_of (code_items.Turns before x r.0 r.1 r.2) ∷ []
@@ -151,7 +151,7 @@ module _ (function : List ℕ → Option Intrinsic) where
 
   pub list_alone : (x : List ℕ) (k : Bounds) (r : Expr × Expr × Expr) (is before none more : List code.Item)
       (old new : List (List code.Item)) (part : Node)
-      → IsNodeOf (node_variants.Turns x k) part → ((a b : Phrase) (c : Option Phrase) → AreBoundsOf k a b c
+      → IsNodeOf (node_variants.Turns x k) part → ((a b : Phrase90) (c : Option Phrase90) → AreBoundsOf k a b c
       → AreBoundTrees function a b c r) → before ≡ is → old ≡ [] → new ≡ []
       → none ≡ [] → map item_of more ≡ map item_of none ++ item_of (code_items.Turns before x r.0 r.1 r.2) ∷ []
       → levels_seen more new ≡ with_part function part (levels_seen is old)

@@ -10,11 +10,12 @@ use Rattle.tree.specs.Plain as tree
 use Rattle.tree.specs.Plain.{Expression, Subscript, Loops}
 use Rattle.tree.specs.declared.functions.Intrinsic.{Intrinsic}
 use Rattle.tree.specs.declared.functions.Intrinsic.TheVariants as intrinsics
-use Rattle.f90_grammar.specs.Contents.{has_wide_literal, part_has_wide_literal, parts_have_wide_literal}
+use Rattle.f90_grammar.specs.Contents.{has_wide_literal90, part_has_wide_literal, parts_have_wide_literal}
 use Rattle.f90_grammar.specs.Contents.{values_have_wide_literal, turn_has_wide_literal}
 use Rattle.f90_grammar.specs.Phrases as phrases
-use Rattle.f90_grammar.specs.Phrases.{Phrase, tree_of, tree_of_part, trees_of_parts, trees_of_values, looped, called}
-use Rattle.f90_grammar.specs.Phrases.{signed, argument_of, arguments_of, list_in}
+use Rattle.f90_grammar.specs.Phrases.{Phrase90, tree_of, tree_of_part, trees_of_parts, trees_of_values, looped, called}
+use Rattle.f90_grammar.specs.Phrases.{arguments90_of, list_in}
+use Rattle.reading.specs.Signs.{signed, argument_of}
 use Rattle.f90_trees.specs.Building.{held_number}
 use Rattle.f90_blocks.specs.statement_trees.Uncut.{IsNarrow, AreNarrow, IsNarrowSubscript, AreNarrowSubscripts, AreNarrowLoops}
 use Rattle.f90_blocks.specs.statement_trees.Uncut.{LiteralsStay}
@@ -57,7 +58,7 @@ narrow_argument (tree.Only e) h = h
 narrow_argument (tree.Section a b c) h = h.0
 
 narrow_arguments : (ss : List Subscript) → AllByRecursion IsNarrowSubscript ss
-    → AreNarrow (tree.expressions (arguments_of ss))
+    → AreNarrow (tree.expressions (arguments90_of ss))
 narrow_arguments [] h = tt
 narrow_arguments (s ∷ ss) h = (narrow_argument s h.0, narrow_arguments ss h.1)
 
@@ -104,7 +105,7 @@ narrow_sign Negation e h = h
 
 module _ (f : List ℕ → Option Intrinsic) where
   mutual
-    narrow : (p : Phrase) → has_wide_literal p ≡ false → IsNarrow (tree_of f p)
+    narrow : (p : Phrase90) → has_wide_literal90 p ≡ false → IsNarrow (tree_of f p)
     narrow (phrases.Literal t) h = narrow_number (phrases.value_of_digits t) h
     narrow (phrases.Truth b) h = tt
     narrow (phrases.Name x) h = tt
@@ -115,20 +116,20 @@ module _ (f : List ℕ → Option Intrinsic) where
     narrow (phrases.Values ps) h = (narrow_list (trees_of_values f ps) (narrow_each ps h), tt)
     narrow (phrases.Looped t) h = narrow_turn t tree.no_loops h tt
 
-    narrow_part : (p : phrases.Part) → part_has_wide_literal p ≡ false → IsNarrowSubscript (tree_of_part f p)
+    narrow_part : (p : phrases.ListPart) → part_has_wide_literal p ≡ false → IsNarrowSubscript (tree_of_part f p)
     narrow_part (phrases.Value p) h = narrow p h
     narrow_part (phrases.Range a b) h = (narrow a (left _ _ h), narrow b (right _ _ h), refl)
     narrow_part (phrases.Strided a b c) h =
         (narrow a (left _ _ h), narrow b (left _ _ (right _ _ h)), narrow c (right _ _ (right _ _ h)))
 
-    narrow_parts : (ps : phrases.Parts) → parts_have_wide_literal ps ≡ false
+    narrow_parts : (ps : phrases.ListParts) → parts_have_wide_literal ps ≡ false
         → AllByRecursion IsNarrowSubscript (trees_of_parts f ps)
     narrow_parts (phrases.One p) h = (narrow_part p h, tt)
     narrow_parts (phrases.Then ps p) h =
         all_more IsNarrowSubscript (trees_of_parts f ps) (tree_of_part f p) (narrow_parts ps (left _ _ h))
         (narrow_part p (right _ _ h))
 
-    narrow_each : (ps : phrases.Phrases) → values_have_wide_literal ps ≡ false
+    narrow_each : (ps : phrases.Phrases90) → values_have_wide_literal ps ≡ false
         → AllByRecursion IsNarrow (trees_of_values f ps)
     narrow_each (phrases.Sole p) h = (narrow p h, tt)
     narrow_each (phrases.More ps p) h =

@@ -9,9 +9,9 @@ use Rattle.tree.specs.declared.exprs.Expr as code
 use Rattle.tree.specs.declared.exprs.Expr.TheVariants as exprs
 use Rattle.tree.specs.declared.functions.Intrinsic.{Intrinsic}
 use Rattle.tree.proofs.Equations.{expression_of-int}
-use Rattle.f90_grammar.specs.Blocks.{trees}
-use Rattle.f90_grammar.specs.Items.{step_tree}
-use Rattle.f90_grammar.specs.Phrases.{Phrase}
+use Rattle.f90_grammar.specs.Blocks.{trees_by}
+use Rattle.f90_grammar.specs.Items.{step_tree90}
+use Rattle.f90_grammar.specs.Phrases.{Phrase90}
 use Rattle.f90_expressions.specs.declared.nodes.Expression as read
 use Rattle.f90_statement.specs.items.Flat.{flat_items}
 use Rattle.f90_statement.specs.items.Reading.{IsListOf}
@@ -32,12 +32,12 @@ if_ok P Q (Err e) f h = h
 
 -- ---- trees
 
-trees_last : (f : Phrase → Expression) (ps : List Phrase) (p : Phrase) → trees f (ps ++ p ∷ []) ≡ trees f ps ++ f p ∷ []
+trees_last : (f : Phrase90 → Expression) (ps : List Phrase90) (p : Phrase90) → trees_by f (ps ++ p ∷ []) ≡ trees_by f ps ++ f p ∷ []
 trees_last f [] p = refl
 trees_last f (q ∷ ps) p = ap (λ (es : List Expression). f q ∷ es) (trees_last f ps p)
 
 module _ (function : List ℕ → Option Intrinsic) where
-  pub trees_more : (done : List Phrase) (p : Phrase) (made new : List code.Expr) (x : code.Expr)
+  pub trees_more : (done : List Phrase90) (p : Phrase90) (made new : List code.Expr) (x : code.Expr)
       → new ≡ made ++ x ∷ [] → expression_of x ≡ held_tree function p
       → map expression_of made ≡ held_trees function done → map expression_of new ≡ held_trees function (done ++ p ∷ [])
   trees_more done p made new x n e h =
@@ -46,11 +46,11 @@ module _ (function : List ℕ → Option Intrinsic) where
       ∙ (ap₂ (λ (es : List Expression) (q : Expression). es ++ q ∷ []) h e
       ∙ sym (trees_last (held_tree function) done p)))
 
-  pub step_none : (s : Option read.Expression) (c : Option Phrase) → s ≡ None → IsStepOf s c
-      → expression_of (exprs.Int (pos 1)) ≡ held (step_tree function c)
+  pub step_none : (s : Option read.Expression) (c : Option Phrase90) → s ≡ None → IsStepOf s c
+      → expression_of (exprs.Int (pos 1)) ≡ held (step_tree90 function c)
   step_none s c q h = by c (subst (λ (o : Option read.Expression). IsStepOf o c) q h)
     where
-      by : (d : Option Phrase) → IsStepOf None d → expression_of (exprs.Int (pos 1)) ≡ held (step_tree function d)
+      by : (d : Option Phrase90) → IsStepOf None d → expression_of (exprs.Int (pos 1)) ≡ held (step_tree90 function d)
       by (Some p) k = absurd k
       by None k = expression_of-int (pos 1)
 

@@ -8,8 +8,8 @@ use Rattle.tree.specs.declared.exprs.Expr.TheVariants as exprs
 use Rattle.tree.specs.declared.exprs.Ref.{Ref}
 use Rattle.tree.specs.declared.functions.Intrinsic.{Intrinsic}
 use Rattle.tree.proofs.Equations.{expression_of-item}
-use Rattle.f90_grammar.specs.Blocks.{reference_in}
-use Rattle.f90_grammar.specs.Phrases.{Phrase, tree_of}
+use Rattle.reading.specs.Signs.{reference_in}
+use Rattle.f90_grammar.specs.Phrases.{Phrase90, tree_of}
 use Rattle.f90_trees.specs.Building.{held}
 use Rattle.f90_blocks.specs.statement_trees.Executable.{is_named}
 use Rattle.f90_blocks.specs.statement_trees.Held.{held_reference}
@@ -52,7 +52,7 @@ reference_held (tree.Transpose a) = refl
 reference_held (tree.Reshape a es) = refl
 reference_held (tree.Reduce r a) = refl
 
-pub left_is : (function : List ℕ → Option Intrinsic) (l : Phrase) (e : Expression) (made : Option Ref)
+pub left_is : (function : List ℕ → Option Intrinsic) (l : Phrase90) (e : Expression) (made : Option Ref)
     → IsNamedBy e made → e ≡ held (tree_of function l) → IsLeftOf function l made
 left_is function l e (Some r) h k =
     let t = tree_of function l in

@@ -5,10 +5,10 @@ use Rattle.tree.specs.Plain as tree
 use Rattle.tree.specs.Plain.{Expression, Reference, Statement}
 use Rattle.tree.specs.declared.functions.Intrinsic.{Intrinsic}
 use Rattle.tree.specs.declared.stmts.Stmt.{Stmt}
-use Rattle.f90_grammar.specs.Blocks.{Placed, IsSimple, at}
+use Rattle.f90_grammar.specs.Blocks.{Placed, IsSimple, placed_form}
 use Rattle.f90_grammar.specs.Blocks.IsSimple.{assigns, masks, goes, stops, reads, reads_nothing, prints, prints_nothing}
 use Rattle.f90_grammar.specs.Blocks.IsSimple.{allocates, deallocates}
-use Rattle.f90_grammar.specs.Forms.{Form}
+use Rattle.f90_grammar.specs.Forms.{Form90}
 use Rattle.f90_blocks.specs.statement_trees.Held.{held_statement, IsHeldStmtOf, IsHeldDone, IsHeldTreeOf}
 use Rattle.f90_blocks.specs.statement_trees.Held.{IsHeldForm}
 use Rattle.f90_blocks.specs.statement_trees.Trees.{IsStmtOf, IsDone, IsTreeOf}
@@ -46,7 +46,7 @@ module _ (function : List ℕ → Option Intrinsic) where
   done_whole p (Some s) h k = stmt_whole p s h k
   done_whole p None h k = h
 
-  at_form : (f g : Form) → f ≡ g → IsHeldForm function f → IsHeldForm function g
+  at_form : (f g : Form90) → f ≡ g → IsHeldForm function f → IsHeldForm function g
   at_form f g e h = subst (IsHeldForm function) e h
 
   form_of : (p q : Placed) → p ≡ q → p.form ≡ q.form
@@ -56,7 +56,7 @@ module _ (function : List ℕ → Option Intrinsic) where
       → IsTreeOf function p t
   tree_whole p (Simple s) h k = stmt_whole p s h k
   tree_whole p (Test e s) h k =
-      let j = at_form _ _ h.2 k in (h.0, h.1, h.2, h.3 ∙ j.0, done_whole (at p.line p.mark h.1) s h.4 j.1)
+      let j = at_form _ _ h.2 k in (h.0, h.1, h.2, h.3 ∙ j.0, done_whole (placed_form p.line p.mark h.1) s h.4 j.1)
   tree_whole p (If e) h k = (h.0, h.1, h.2 ∙ at_form _ _ (form_of _ _ h.1) k)
   tree_whole p (ElseIf e) h k = (h.0, h.1, h.2 ∙ at_form _ _ (form_of _ _ h.1) k)
   tree_whole p Else h k = h

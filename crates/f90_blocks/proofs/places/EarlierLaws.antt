@@ -3,16 +3,16 @@ use Rattle.std.proofs.Common.{◌≡◌, ◌⊎◌, inl, inr, ⊎_elim, ℕ, ◌
 use Rattle.std.specs.Prelude.{◌↔◌}
 use Rattle.std.proofs.lemmas.Bool.{cases_lt}
 use Rattle.f90_grammar.specs.Blocks.{Placed}
-use Rattle.f90_grammar.specs.Order.{Place, IsPlaceIn}
+use Rattle.f90_grammar.specs.Order.{Place90, IsPlaceIn}
 use Rattle.f90_blocks.specs.places.First.{FindsFirst, IsFirstPlace, earlier}
 
-module _ (ps : List Placed) (F G : Place → Type 0) where
-  abbrev Either : Place → Type 0
+module _ (ps : List Placed) (F G : Place90 → Type 0) where
+  abbrev Either : Place90 → Type 0
   Either p = F p ⊎ G p
 
   -- nothing of the other stands before
-  abbrev NoneBefore : (Place → Type 0) → ℕ → Type 0
-  NoneBefore H i = (q : Place) → IsPlaceIn ps q → H q → i ≤ length q.before
+  abbrev NoneBefore : (Place90 → Type 0) → ℕ → Type 0
+  NoneBefore H i = (q : Place90) → IsPlaceIn ps q → H q → i ≤ length q.before
 
   left_first : (i : ℕ) → IsFirstPlace ps F i → NoneBefore G i → IsFirstPlace ps Either i
   left_first i h later = record {
@@ -66,7 +66,7 @@ module _ (ps : List Placed) (F G : Place → Type 0) where
   first_of_two (Some i) (Some j) h k = one_of_two i j h k
 
   -- the first place of the one is that of the other where both hold at the same places
-  pub same_first : (a : Option ℕ) → ((p : Place) → F p ↔ G p) → FindsFirst ps F a → FindsFirst ps G a
+  pub same_first : (a : Option ℕ) → ((p : Place90) → F p ↔ G p) → FindsFirst ps F a → FindsFirst ps G a
   same_first None same none = λ q here g. none q here ((same q).1 g)
   same_first (Some i) same h = record {
     place = h.place;

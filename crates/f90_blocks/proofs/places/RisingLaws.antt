@@ -5,7 +5,7 @@ use Rattle.std.specs.List.{AllByRecursion}
 use Rattle.std.specs.Str.Lines.{lines}
 use Rattle.std.proofs.lemmas.List.{length-append}
 use Rattle.tree.specs.declared.stmts.Mark.{Mark}
-use Rattle.f90_grammar.specs.FreeForm.{FreeStatement, Block, AreStatements, written_block, written_piece}
+use Rattle.f90_grammar.specs.FreeForm.{FreeStatement, CommentedPiece, AreStatements, written_block, written_piece}
 use Rattle.f90_grammar.specs.FreeForm.AreStatements.{ends, begins}
 use Rattle.f90_grammar.specs.Blocks.{Placed}
 use Rattle.f90_grammar.specs.Reading.{HaveForms}
@@ -44,7 +44,7 @@ lines_of ss = map (λ (s : FreeStatement). s.line) ss
 abbrev places_lines : List Placed → List ℕ
 places_lines ps = map (λ (p : Placed). p.line) ps
 
-longer : (b : Block) (bs : List Block) → length b.comments < length (flat_map written_block (b ∷ bs))
+longer : (b : CommentedPiece) (bs : List CommentedPiece) → length b.comments < length (flat_map written_block (b ∷ bs))
 longer b bs =
     omega (
       arith,

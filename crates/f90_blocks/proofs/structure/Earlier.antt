@@ -3,7 +3,7 @@ use Rattle.std.proofs.Common.{◌≡◌, ⊎_elim, ℕ, ◌<◌, ◌≤◌, min,
 use Rattle.std.proofs.Common.{length, refl, arith, IsTrue}
 use Rattle.std.proofs.lemmas.Bool.{cases_lt}
 use Rattle.f90_grammar.specs.Blocks.{Placed}
-use Rattle.f90_grammar.specs.Order.{Place, IsPlaceIn}
+use Rattle.f90_grammar.specs.Order.{Place90, IsPlaceIn}
 use Rattle.f90_blocks.specs.places.First.{FindsFirst, IsFirstPlace}
 
 left_or : (a b : Bool) → IsTrue a → IsTrue (a || b)
@@ -18,13 +18,13 @@ either : {C : Type 0} (a b : Bool) → IsTrue (a || b) → (IsTrue a → C) → 
 either true b h f g = f refl
 either false b h f g = g h
 
-module _ (ps : List Placed) (f g : Place → Bool) where
-  abbrev Both : Place → Type 0
+module _ (ps : List Placed) (f g : Place90 → Bool) where
+  abbrev Both : Place90 → Type 0
   Both p = IsTrue (f p || g p)
 
   -- nothing of the other stands before
-  abbrev NoneBefore : (Place → Bool) → ℕ → Type 0
-  NoneBefore test i = (q : Place) → IsPlaceIn ps q → IsTrue (test q) → i ≤ length q.before
+  abbrev NoneBefore : (Place90 → Bool) → ℕ → Type 0
+  NoneBefore test i = (q : Place90) → IsPlaceIn ps q → IsTrue (test q) → i ≤ length q.before
 
   left_first : (i : ℕ) → IsFirstPlace ps (λ p. IsTrue (f p)) i → NoneBefore g i → IsFirstPlace ps Both i
   left_first i h later = record {

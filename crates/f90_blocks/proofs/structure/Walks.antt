@@ -6,7 +6,7 @@ use Rattle.std.proofs.lemmas.Bool.{cases_lt}
 use Rattle.std.proofs.lemmas.Bool.Decides.{nat_tests}
 use Rattle.std.proofs.lemmas.List.{drop_all, length-append}
 use Rattle.f90_grammar.specs.Blocks.{Placed}
-use Rattle.f90_grammar.specs.Order.{Place, IsPlaceIn, is_nothing}
+use Rattle.f90_grammar.specs.Order.{Place90, IsPlaceIn, is_nothing90}
 use Rattle.f90_blocks.specs.places.forms.Places.{IsPlacedOf}
 use Rattle.f90_blocks.specs.declared.places.forms.placing.Placed.{Placed as Made}
 use Rattle.f90_blocks.specs.places.First.{FindsFirst}
@@ -51,10 +51,10 @@ stands_at (y ∷ xs) (p ∷ ps) (suc i) x a l g =
       left = s.left;
     }
 
-abbrev placed_at : List Placed → Placed → List Placed → Place
+abbrev placed_at : List Placed → Placed → List Placed → Place90
 placed_at before here after = record { before = before; here = here; after = after }
 
-abbrev at : (ps : List Placed) (i : ℕ) (x : Made) → StandsAt ps i x → Place
+abbrev at : (ps : List Placed) (i : ℕ) (x : Made) → StandsAt ps i x → Place90
 at ps i x s = placed_at (take i ps) s.here (drop (suc i) ps)
 
 -- two places with as many statements before them are one
@@ -72,7 +72,7 @@ same_split (x ∷ xs) (y ∷ ys) p q us vs l e =
     let u : x ∷ xs ≡ y ∷ ys = cc in
     (u, r.1, r.2)
 
-same_place : (ps : List Placed) (p q : Place) → IsPlaceIn ps p → IsPlaceIn ps q → length p.before ≡ length q.before
+same_place : (ps : List Placed) (p q : Place90) → IsPlaceIn ps p → IsPlaceIn ps q → length p.before ≡ length q.before
     → p ≡ q
 same_place ps p q a b l =
     let r = same_split p.before q.before p.here q.here p.after q.after l (sym a ∙ b) in
@@ -88,8 +88,8 @@ same_place ps p q a b l =
         (ap (λ (z : Placed). placed_at ys z us) f ∙ ap (λ (zs : List Placed). placed_at ys y zs) g)
 
 -- where it doesn't hold at the i-th place, it holds further on or not at all
-further : (test : Place → Bool) (ps : List Placed) (i : ℕ) (x : Made) (s : StandsAt ps i x) → test (at ps i x s) ≡ false
-    → (q : Place) → IsPlaceIn ps q → IsTrue (test q) → i ≤ length q.before → i + 1 ≤ length q.before
+further : (test : Place90 → Bool) (ps : List Placed) (i : ℕ) (x : Made) (s : StandsAt ps i x) → test (at ps i x s) ≡ false
+    → (q : Place90) → IsPlaceIn ps q → IsTrue (test q) → i ≤ length q.before → i + 1 ≤ length q.before
 further test ps i x s wrong q here t l =
     ⊎_elim (λ (h : i < length q.before). omega arith) (λ (h : length q.before ≤ i). absurd (both (omega arith)))
     (cases_lt i (length q.before))
@@ -101,7 +101,7 @@ further test ps i x s wrong q here t l =
         cc
 
 -- how many statements there are
-counted : (xs : List Made) (ps : List Placed) (p : Place) → AreOf IsPlacedOf xs ps → IsPlaceIn ps p
+counted : (xs : List Made) (ps : List Placed) (p : Place90) → AreOf IsPlacedOf xs ps → IsPlaceIn ps p
     → length xs ≡ length p.before + 1 + length p.after
 counted xs ps p a h =
     let l : length xs ≡ length ps = same_length xs ps a in
@@ -111,12 +111,12 @@ counted xs ps p a h =
     omega arith
 
 -- the last statement is the one that has nothing behind it
-nothing_is : (ps : List Placed) → is_nothing ps ≡ (length ps == 0)
+nothing_is : (ps : List Placed) → is_nothing90 ps ≡ (length ps == 0)
 nothing_is [] = refl
 nothing_is (p ∷ ps) = grind (arith, nat_tests)
 
-pub last_is : (xs : List Made) (ps : List Placed) (p : Place) (i : ℕ) → AreOf IsPlacedOf xs ps → IsPlaceIn ps p
-    → length p.before ≡ i → (i + 1 == length xs) ≡ is_nothing p.after
+pub last_is : (xs : List Made) (ps : List Placed) (p : Place90) (i : ℕ) → AreOf IsPlacedOf xs ps → IsPlaceIn ps p
+    → length p.before ≡ i → (i + 1 == length xs) ≡ is_nothing90 p.after
 last_is xs ps p i a h n =
     let l : length xs ≡ length p.before + 1 + length p.after = counted xs ps p a h in
     let s : length xs ≡ i + 1 + length p.after = omega arith in
@@ -128,8 +128,8 @@ last_is xs ps p i a h n =
 -- ---- forwards
 
 -- it holds at none of the first i places, and this of the statements there
-pub record IsWalked (test : Place → Bool) (Behind : List Placed → Type 0) (ps : List Placed) (i : ℕ) : Type 0 where
-  pub searched : (p : Place) → IsPlaceIn ps p → IsTrue (test p) → i ≤ length p.before
+pub record IsWalked (test : Place90 → Bool) (Behind : List Placed → Type 0) (ps : List Placed) (i : ℕ) : Type 0 where
+  pub searched : (p : Place90) → IsPlaceIn ps p → IsTrue (test p) → i ≤ length p.before
   pub behind : Behind (take i ps)
 
 -- where nothing has to be known of them
@@ -137,11 +137,11 @@ abbrev pub Anything : List Placed → Type 0
 Anything before = Unit {0}
 
 -- what is known of the i-th statement decides the test
-abbrev pub Decides : (Place → Bool) → (List Placed → Type 0) → List Placed → ℕ → Made → Bool → Type 0
+abbrev pub Decides : (Place90 → Bool) → (List Placed → Type 0) → List Placed → ℕ → Made → Bool → Type 0
 Decides test Behind ps i x b =
-    (p : Place) → IsPlaceIn ps p → length p.before ≡ i → IsPlacedOf x p.here → Behind p.before → b ≡ test p
+    (p : Place90) → IsPlaceIn ps p → length p.before ≡ i → IsPlacedOf x p.here → Behind p.before → b ≡ test p
 
-module _ (test : Place → Bool) (Behind : List Placed → Type 0) (xs : List Made) (ps : List Placed) where
+module _ (test : Place90 → Bool) (Behind : List Placed → Type 0) (xs : List Made) (ps : List Placed) where
   pub begun : Behind [] → IsWalked test Behind ps 0
   begun h = record { searched = λ p here t. omega arith; behind = h }
 
@@ -180,24 +180,24 @@ module _ (test : Place → Bool) (Behind : List Placed → Type 0) (xs : List Ma
 -- ---- backwards
 
 -- the first of the places from the i-th on
-pub record IsFirstFrom (test : Place → Bool) (ps : List Placed) (i n : ℕ) : Type 0 where
-  pub place : Place
+pub record IsFirstFrom (test : Place90 → Bool) (ps : List Placed) (i n : ℕ) : Type 0 where
+  pub place : Place90
   pub in_text : IsPlaceIn ps place
   pub holds : IsTrue (test place)
   pub number : n ≡ length place.before
-  pub first : (other : Place) → IsPlaceIn ps other → IsTrue (test other) → i ≤ length other.before
+  pub first : (other : Place90) → IsPlaceIn ps other → IsTrue (test other) → i ≤ length other.before
       → n ≤ length other.before
 
-abbrev pub FindsFrom : (Place → Bool) → List Placed → ℕ → Option ℕ → Type 0
+abbrev pub FindsFrom : (Place90 → Bool) → List Placed → ℕ → Option ℕ → Type 0
 FindsFrom test ps i (Some n) = IsFirstFrom test ps i n
-FindsFrom test ps i None = (p : Place) → IsPlaceIn ps p → IsTrue (test p) → i ≤ length p.before → ⊥
+FindsFrom test ps i None = (p : Place90) → IsPlaceIn ps p → IsTrue (test p) → i ≤ length p.before → ⊥
 
-pub record IsWalkedBack (test : Place → Bool) (Ahead : List Placed
+pub record IsWalkedBack (test : Place90 → Bool) (Ahead : List Placed
     → Type 0) (ps : List Placed) (i : ℕ) (found : Option ℕ) : Type 0 where
   pub from : FindsFrom test ps i found
   pub ahead : Ahead (drop i ps)
 
-module _ (test : Place → Bool) (Ahead : List Placed → Type 0) (xs : List Made) (ps : List Placed) where
+module _ (test : Place90 → Bool) (Ahead : List Placed → Type 0) (xs : List Made) (ps : List Placed) where
   pub begun_back : (i : ℕ) → length xs ≤ i → AreOf IsPlacedOf xs ps → Ahead [] → IsWalkedBack test Ahead ps i None
   begun_back i l a h = record {
     from = λ p here t k.
@@ -209,7 +209,7 @@ module _ (test : Place → Bool) (Ahead : List Placed → Type 0) (xs : List Mad
   -- what is known of the i-th statement, and behind it, decides the test
   abbrev pub DecidesBack : ℕ → Made → Bool → Type 0
   DecidesBack i x b =
-      (p : Place) → IsPlaceIn ps p → length p.before ≡ i → IsPlacedOf x p.here → Ahead p.after → b ≡ test p
+      (p : Place90) → IsPlaceIn ps p → length p.before ≡ i → IsPlacedOf x p.here → Ahead p.after → b ≡ test p
 
   from_here : (i : ℕ) (x : Made) (b : Bool) (found : Option ℕ) (s : StandsAt ps i x) → b ≡ test (at ps i x s)
       → FindsFrom test ps (i + 1) found

@@ -4,7 +4,7 @@ use Rattle.tree.specs.Plain.{Item, Single, Constant, ImpliedDo, items}
 use Rattle.tree.specs.View.{item_of}
 use Rattle.tree.specs.declared.functions.Intrinsic.{Intrinsic}
 use Rattle.tree.specs.declared.stmts.Item as code
-use Rattle.f90_grammar.specs.Items.{step_tree}
+use Rattle.f90_grammar.specs.Items.{step_tree90}
 use Rattle.f90_grammar.specs.Phrases.{tree_of}
 use Rattle.f90_statement.specs.items.Flat.{Node, Of, Text, Begin, Turns}
 use Rattle.f90_trees.specs.Building.{held}
@@ -28,7 +28,7 @@ module _ (function : List ℕ → Option Intrinsic) where
   with_part Begin l = levels [] (l.inner ∷ l.outer)
   with_part (Turns x a b c) l =
       ended (ImpliedDo (items l.inner) x (held (tree_of function a)) (held (tree_of function b))
-      (held (step_tree function c))) l.outer
+      (held (step_tree90 function c))) l.outer
 
   abbrev pub with_parts : List Node → Levels → Levels
   with_parts [] l = l

@@ -7,9 +7,10 @@ use Rattle.tree.specs.declared.exprs.Ref.{Ref}
 use Rattle.tree.specs.declared.functions.Intrinsic.{Intrinsic}
 use Rattle.tree.specs.declared.stmts.Item.{Item}
 use Rattle.f90_grammar.specs.Blocks as grammar
-use Rattle.f90_grammar.specs.Blocks.{reference_in, trees}
-use Rattle.f90_grammar.specs.Items.{ItemPhrases, item_trees, step_tree}
-use Rattle.f90_grammar.specs.Phrases.{Phrase, tree_of}
+use Rattle.f90_grammar.specs.Blocks.{trees_by}
+use Rattle.reading.specs.Signs.{reference_in}
+use Rattle.f90_grammar.specs.Items.{ItemPhrases90, item_trees90, step_tree90}
+use Rattle.f90_grammar.specs.Phrases.{Phrase90, tree_of}
 use Rattle.f90_statement.specs.items.Reading.{IsListOf}
 use Rattle.f90_statement.specs.declared.items.nodes.ItemList.{ItemList}
 use Rattle.f90_statement.specs.items.parts.Bounds.{AreBoundsOf}
@@ -34,9 +35,9 @@ pub record AreOfSome {A B : Type 0} (is : A → B → Type 0) (made : List A) : 
   pub are_of : AreOf is made all
 
 pub record AreOfBounds (k : Bounds) : Type 0 where
-  pub first : Phrase
-  pub last : Phrase
-  pub step : Option Phrase
+  pub first : Phrase90
+  pub last : Phrase90
+  pub step : Option Phrase90
   pub are : AreBoundsOf k first last step
 
 abbrev pub IsOfList : Option ItemList → Type 0
@@ -60,27 +61,27 @@ IsNamedBy e (Some r) = (is_named e ≡ true) × (reference_of r ≡ reference_in
 IsNamedBy e None = is_named e ≡ false
 
 module _ (function : List ℕ → Option Intrinsic) where
-  abbrev pub held_tree : Phrase → Expression
+  abbrev pub held_tree : Phrase90 → Expression
   held_tree p = held (tree_of function p)
 
-  abbrev pub held_trees : List Phrase → List Expression
-  held_trees ps = trees held_tree ps
+  abbrev pub held_trees : List Phrase90 → List Expression
+  held_trees ps = trees_by held_tree ps
 
-  pub record AreBoundTrees (a b : Phrase) (c : Option Phrase) (r : Expr × Expr × Expr) : Type 0 where
+  pub record AreBoundTrees (a b : Phrase90) (c : Option Phrase90) (r : Expr × Expr × Expr) : Type 0 where
     pub first : expression_of r.0 ≡ held_tree a
     pub last : expression_of r.1 ≡ held_tree b
-    pub step : expression_of r.2 ≡ held (step_tree function c)
+    pub step : expression_of r.2 ≡ held (step_tree90 function c)
 
   -- a left side
-  abbrev pub IsLeftOf : Phrase → Option Ref → Type 0
+  abbrev pub IsLeftOf : Phrase90 → Option Ref → Type 0
   IsLeftOf l (Some r) =
       (is_call function l ≡ false) × (reference_of r ≡ held_reference (reference_in (tree_of function l)))
   IsLeftOf l None = is_call function l ≡ true
 
   -- the items of a list
   abbrev pub IsListed : Option ItemList → List Item → Type 0
-  IsListed (Some l) made = (is : ItemPhrases) → IsListOf l is
-      → items (map item_of made) ≡ held_items (items (item_trees function is))
+  IsListed (Some l) made = (is : ItemPhrases90) → IsListOf l is
+      → items (map item_of made) ≡ held_items (items (item_trees90 function is))
   IsListed None made = made ≡ []
 
   abbrev pub IsDeedOf : grammar.Placed → Deed → Type 0

@@ -3,16 +3,15 @@ use Rattle.std.specs.Prelude.{◌≡◌, ℕ, false, Option, Some, None, List, [
 use Rattle.tree.specs.View.{expression_of, statement_of}
 use Rattle.tree.specs.declared.functions.Intrinsic.{Intrinsic}
 use Rattle.tree.specs.declared.stmts.Stmt.{Stmt}
-use Rattle.f90_grammar.specs.Phrases.{Phrase, tree_of, value_of_digits}
-use Rattle.f90_grammar.specs.Items.{step_tree}
+use Rattle.f90_grammar.specs.Phrases.{Phrase90, tree_of, value_of_digits}
+use Rattle.f90_grammar.specs.Items.{step_tree90}
 use Rattle.f90_grammar.specs.Forms as forms
-use Rattle.f90_grammar.specs.Forms.{Form}
-use Rattle.f90_grammar.specs.Blocks.{Placed, IsSimple, at}
-use Rattle.f90_grammar.specs.Order.{is_executable}
+use Rattle.f90_grammar.specs.Forms.{Form90}
+use Rattle.f90_grammar.specs.Blocks.{Placed, IsSimple, placed_form}
+use Rattle.f90_grammar.specs.Order.{is_executable90}
 use Rattle.f90_blocks.specs.declared.statement_trees.nodes.StatementTree.{StatementTree}
 use Rattle.f90_blocks.specs.declared.statement_trees.nodes.StatementTree.TheVariants.{Simple, Test, If, ElseIf, Else}
-use Rattle.f90_blocks.specs.declared.statement_trees.nodes.StatementTree.TheVariants.{EndIf}
-use Rattle.f90_blocks.specs.declared.statement_trees.nodes.StatementTree.TheVariants.{Do, EndDo, Continue}
+use Rattle.f90_blocks.specs.declared.statement_trees.nodes.StatementTree.TheVariants.{EndIf, Do, EndDo, Continue}
 
 -- whichever labels are named: none of them stands in such a statement
 abbrev pub IsStmtOf : (List ℕ → Option Intrinsic) → Placed → Stmt → Type 0
@@ -27,24 +26,24 @@ IsDone function p None = p.form ≡ forms.Continue []
 abbrev pub IsTreeOf : (List ℕ → Option Intrinsic) → Placed → StatementTree → Type 0
 IsTreeOf function p (Simple s) = IsStmtOf function p s
 IsTreeOf function p (Test e s) =
-    (q : Phrase) × (f : Form) × (p.form ≡ forms.Test q f) × (expression_of e ≡ tree_of function q)
-    × IsDone function (at p.line p.mark f) s
+    (q : Phrase90) × (f : Form90) × (p.form ≡ forms.Test q f) × (expression_of e ≡ tree_of function q)
+    × IsDone function (placed_form p.line p.mark f) s
 IsTreeOf function p (If e) =
-    (q : Phrase) × (p ≡ at p.line None (forms.If q)) × (expression_of e ≡ tree_of function q)
+    (q : Phrase90) × (p ≡ placed_form p.line None (forms.If q)) × (expression_of e ≡ tree_of function q)
 IsTreeOf function p (ElseIf e) =
-    (q : Phrase) × (p ≡ at p.line None (forms.ElseIf q)) × (expression_of e ≡ tree_of function q)
-IsTreeOf function p Else = p ≡ at p.line None forms.Else
-IsTreeOf function p EndIf = p ≡ at p.line None forms.EndIf
+    (q : Phrase90) × (p ≡ placed_form p.line None (forms.ElseIf q)) × (expression_of e ≡ tree_of function q)
+IsTreeOf function p Else = p ≡ placed_form p.line None forms.Else
+IsTreeOf function p EndIf = p ≡ placed_form p.line None forms.EndIf
 IsTreeOf function p (Do x a b c) =
-    (q r : Phrase) × (s : Option Phrase) × (p ≡ at p.line None (forms.Do x q r s))
+    (q r : Phrase90) × (s : Option Phrase90) × (p ≡ placed_form p.line None (forms.Do x q r s))
     × (expression_of a ≡ tree_of function q) × (expression_of b ≡ tree_of function r)
-    × (expression_of c ≡ step_tree function s)
-IsTreeOf function p EndDo = p ≡ at p.line None forms.EndDo
-IsTreeOf function p (Continue None) = p ≡ at p.line None (forms.Continue [])
+    × (expression_of c ≡ step_tree90 function s)
+IsTreeOf function p EndDo = p ≡ placed_form p.line None forms.EndDo
+IsTreeOf function p (Continue None) = p ≡ placed_form p.line None (forms.Continue [])
 IsTreeOf function p (Continue (Some n)) =
-    (d : ℕ) × (ds : List ℕ) × (p ≡ at p.line None (forms.Continue (d ∷ ds))) × (n ≡ value_of_digits (d ∷ ds))
+    (d : ℕ) × (ds : List ℕ) × (p ≡ placed_form p.line None (forms.Continue (d ∷ ds))) × (n ≡ value_of_digits (d ∷ ds))
 
 -- none where the statement isn't executable
 abbrev pub IsTreeIn : (List ℕ → Option Intrinsic) → Option StatementTree → Placed → Type 0
 IsTreeIn function (Some t) p = IsTreeOf function p t
-IsTreeIn function None p = is_executable p.form ≡ false
+IsTreeIn function None p = is_executable90 p.form ≡ false

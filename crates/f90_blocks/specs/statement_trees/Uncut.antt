@@ -5,8 +5,8 @@ use Rattle.tree.specs.Plain.{Expression, Expressions, Subscript, Subscripts, Loo
 use Rattle.tree.specs.declared.functions.Intrinsic.{Intrinsic}
 use Rattle.tree.specs.declared.ops.Kind.{Kind}
 use Rattle.meaning.specs.Typed90.{HasKind}
-use Rattle.f90_grammar.specs.Contents.{has_wide_literal}
-use Rattle.f90_grammar.specs.Phrases.{Phrase, tree_of}
+use Rattle.f90_grammar.specs.Contents.{has_wide_literal90}
+use Rattle.f90_grammar.specs.Phrases.{Phrase90, tree_of}
 use Rattle.f90_trees.specs.Building.{held, held_number}
 
 -- no literal is too great
@@ -73,7 +73,7 @@ abbrev mutual
 
 -- the literals of an expression that has none that is too great are held as they are
 abbrev pub LiteralsStay : Type 0
-LiteralsStay = (function : List ℕ → Option Intrinsic) (p : Phrase) → has_wide_literal p ≡ false
+LiteralsStay = (function : List ℕ → Option Intrinsic) (p : Phrase90) → has_wide_literal90 p ≡ false
     → IsNarrow (tree_of function p)
 
 -- a tree is held as it is if it or what is held of it has a kind

@@ -1,7 +1,7 @@
 //! The trees of several expressions, of left sides and of the parameters of loops.
 ghost use Rattle.std.specs.Prelude.{◌≡◌, List, Option, IfOk, map};
-ghost use Rattle.f90_grammar.specs.Items.{step_tree};
-ghost use Rattle.f90_grammar.specs.Phrases.{Phrase};
+ghost use Rattle.f90_grammar.specs.Items.{step_tree90};
+ghost use Rattle.f90_grammar.specs.Phrases.{Phrase90};
 ghost use Rattle.f90_expressions.specs.Reading.{IsMadeOf};
 ghost use Rattle.f90_statement.specs.items.parts.Bounds.{IsStepOf, AreBoundsOf};
 ghost use Rattle.f90_statement.specs.Views.{AreOf};
@@ -9,8 +9,7 @@ ghost use Rattle.f90_trees.specs.Building.{held};
 ghost use Rattle.f90_trees.specs.Hiding.{function_in};
 ghost use Rattle.f90_trees.specs.Trees.{IsOfPhrase};
 ghost use Rattle.f90_blocks.specs.statement_trees.Results.{IsOf, AreOfSome, AreOfBounds, held_trees, AreBoundTrees};
-ghost use Rattle.f90_blocks.specs.statement_trees.Results.{IsLeftOf};
-ghost use Rattle.f90_blocks.specs.statement_trees.Results.{IsNamedBy};
+ghost use Rattle.f90_blocks.specs.statement_trees.Results.{IsLeftOf, IsNamedBy};
 ghost use Rattle.tree.specs.View.{expression_of};
 
 use f90_expressions::Expression;
@@ -26,7 +25,7 @@ pub(crate) fn trees(
     functions: &Functions,
 ) -> Result<Seq<Expr>, Memory>
     requires { AreOfSome IsMadeOf expressions.now }
-    ensures { (ps : List Phrase) → AreOf IsMadeOf expressions.now ps → IfOk result (λ made.
+    ensures { (ps : List Phrase90) → AreOf IsMadeOf expressions.now ps → IfOk result (λ made.
         map expression_of made ≡ held_trees (function_in functions.now) ps) }
 {
     let mut made = Seq::new(alloc);
@@ -63,7 +62,7 @@ pub(crate) fn left_side(
     functions: &Functions,
 ) -> Result<Option<Ref>, Memory>
     requires { IsOfPhrase expression.now }
-    ensures { (l : Phrase) → IsMadeOf expression.now l → IfOk result (λ made.
+    ensures { (l : Phrase90) → IsMadeOf expression.now l → IfOk result (λ made.
         IsLeftOf (function_in functions.now) l made) }
 {
     Ok(named(tree(alloc, expression, functions)?))
@@ -72,8 +71,8 @@ pub(crate) fn left_side(
 // The tree of a step, which is 1 where none is written.
 fn step(alloc: Global, step: &Option<Expression>, functions: &Functions) -> Result<Expr, Memory>
     requires { IsOf IsStepOf step.now }
-    ensures { (c : Option Phrase) → IsStepOf step.now c → IfOk result (λ made.
-        expression_of made ≡ held (step_tree (function_in functions.now) c)) }
+    ensures { (c : Option Phrase90) → IsStepOf step.now c → IfOk result (λ made.
+        expression_of made ≡ held (step_tree90 (function_in functions.now) c)) }
 {
     match step {
         Some(expression) => tree(alloc, expression, functions),
@@ -88,7 +87,7 @@ pub(crate) fn parameters(
     functions: &Functions,
 ) -> Result<(Expr, Expr, Expr), Memory>
     requires { AreOfBounds bounds.now }
-    ensures { (a b : Phrase) (c : Option Phrase) → AreBoundsOf bounds.now a b c → IfOk result (λ made.
+    ensures { (a b : Phrase90) (c : Option Phrase90) → AreBoundsOf bounds.now a b c → IfOk result (λ made.
         AreBoundTrees (function_in functions.now) a b c made) }
 {
     let first = tree(alloc, &bounds.first, functions)?;

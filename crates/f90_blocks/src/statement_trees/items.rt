@@ -2,7 +2,7 @@
 ghost use Rattle.std.specs.Prelude.{◌≡◌, [], ◌∷◌, ◌++◌, List, IfOk, map};
 ghost use Rattle.tree.specs.Plain.{items};
 ghost use Rattle.tree.specs.View.{item_of};
-ghost use Rattle.f90_grammar.specs.Items.{ItemPhrases, item_trees};
+ghost use Rattle.f90_grammar.specs.Items.{ItemPhrases90, item_trees90};
 ghost use Rattle.f90_statement.specs.items.Flat as flats;
 ghost use Rattle.f90_statement.specs.items.Reading.{IsListOf};
 ghost use Rattle.f90_statement.specs.items.Views.{IsNodeOf};
@@ -80,8 +80,8 @@ pub(crate) fn trees_of_items(
     functions: &Functions,
 ) -> Result<Seq<Item>, Memory>
     requires { IsOf IsListOf list.now }
-    ensures { (is : ItemPhrases) → IsListOf list.now is → IfOk result (λ made.
-        items (map item_of made) ≡ held_items (items (item_trees (function_in functions.now) is))) }
+    ensures { (is : ItemPhrases90) → IsListOf list.now is → IfOk result (λ made.
+        items (map item_of made) ≡ held_items (items (item_trees90 (function_in functions.now) is))) }
 {
     made(alloc, list.nodes.as_slice(), functions)
 }

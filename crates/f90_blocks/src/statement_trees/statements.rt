@@ -1,10 +1,10 @@
 //! Statements with their trees.
 ghost use Rattle.std.specs.Prelude.{◌≡◌, List, Option, IfOk, IfSome, None};
 ghost use Rattle.f90_grammar.specs.Blocks as grammar;
-ghost use Rattle.f90_grammar.specs.Blocks.{at};
+ghost use Rattle.f90_grammar.specs.Blocks.{placed_form};
 ghost use Rattle.f90_grammar.specs.Forms as forms;
-ghost use Rattle.f90_grammar.specs.Forms.{Form};
-ghost use Rattle.f90_grammar.specs.Phrases.{Phrase};
+ghost use Rattle.f90_grammar.specs.Forms.{Form90};
+ghost use Rattle.f90_grammar.specs.Phrases.{Phrase90};
 ghost use Rattle.f90_expressions.specs.Reading.{IsMadeOf};
 ghost use Rattle.f90_blocks.specs.places.forms.Places.{IsPlacedOf};
 ghost use Rattle.f90_statement.specs.Views.{AreOf, IsActionOf, IsStatementOf};
@@ -13,8 +13,7 @@ ghost use Rattle.f90_trees.specs.Trees.{IsOfPhrase};
 ghost use Rattle.f90_blocks.specs.statement_trees.Executable.{IsMarkOf, IsMarked};
 ghost use Rattle.f90_blocks.specs.statement_trees.Held.{IsHeldForm};
 ghost use Rattle.f90_blocks.specs.statement_trees.Results.{IsOf, AreOfSome, IsOfList, IsListed, IsDeedOf, IsAlone};
-ghost use Rattle.f90_blocks.specs.statement_trees.Results.{IsTested};
-ghost use Rattle.f90_blocks.specs.statement_trees.Results.{Gives};
+ghost use Rattle.f90_blocks.specs.statement_trees.Results.{IsTested, Gives};
 ghost use Rattle.f90_blocks.specs.statement_trees.Trees.{IsTreeOf};
 
 use crate::places::forms::Placed;
@@ -46,8 +45,8 @@ fn assignment(
 ) -> Result<Deed, Memory>
     requires variable { IsOfPhrase variable.now }
     requires value { IsOfPhrase value.now }
-    ensures { (l r : Phrase) → IsMadeOf variable.now l → IsMadeOf value.now r → IfOk result (λ deed.
-        IsDeedOf (function_in functions.now) (at line mark (forms.Assign l r)) deed) }
+    ensures { (l r : Phrase90) → IsMadeOf variable.now l → IsMadeOf value.now r → IfOk result (λ deed.
+        IsDeedOf (function_in functions.now) (placed_form line mark (forms.Assign l r)) deed) }
 {
     let Some(left) = left_side(alloc, variable, functions)? else {
         return Ok(Deed::IsCall);
@@ -74,8 +73,8 @@ fn masked(
     requires mask { IsOfPhrase mask.now }
     requires variable { IsOfPhrase variable.now }
     requires value { IsOfPhrase value.now }
-    ensures { (p l r : Phrase) → IsMadeOf mask.now p → IsMadeOf variable.now l → IsMadeOf value.now r
-        → IfOk result (λ made. Gives (function_in functions.now) (at line mark (forms.Where p l r)) made) }
+    ensures { (p l r : Phrase90) → IsMadeOf mask.now p → IsMadeOf variable.now l → IsMadeOf value.now r
+        → IfOk result (λ made. Gives (function_in functions.now) (placed_form line mark (forms.Where p l r)) made) }
 {
     let Some(left) = left_side(alloc, variable, functions)? else {
         return Ok(None);
@@ -115,8 +114,8 @@ fn allocate(
     functions: &Functions,
 ) -> Result<Option<StatementTree>, Memory>
     requires { AreOfSome IsMadeOf extents.now }
-    ensures { (es : List Phrase) → AreOf IsMadeOf extents.now es → (m : Option Mark) → m ≡ None → IfOk result (λ made.
-        Gives (function_in functions.now) (at line m (forms.Allocate name es)) made) }
+    ensures { (es : List Phrase90) → AreOf IsMadeOf extents.now es → (m : Option Mark) → m ≡ None → IfOk result (λ made.
+        Gives (function_in functions.now) (placed_form line m (forms.Allocate name es)) made) }
 {
     let extents = trees(alloc, extents, functions)?;
     Ok(Some(StatementTree::Simple(Stmt::Allocate {
@@ -135,8 +134,8 @@ fn act(
     functions: &Functions,
 ) -> Result<Deed, Memory>
     requires { IsOf IsActionOf action.now }
-    ensures { (f : Form) → IsActionOf action.now f → IsMarkOf mark f → IfOk result (λ deed.
-        IsDeedOf (function_in functions.now) (at line mark f) deed) }
+    ensures { (f : Form90) → IsActionOf action.now f → IsMarkOf mark f → IfOk result (λ deed.
+        IsDeedOf (function_in functions.now) (placed_form line mark f) deed) }
 {
     match action {
         Action::Assign(variable, value) => {
@@ -189,8 +188,8 @@ fn tree_at(
     functions: &Functions,
 ) -> Result<Option<StatementTree>, Memory>
     requires { IsOf IsStatementOf statement.now }
-    ensures { (f : Form) → IsStatementOf statement.now f → IsMarkOf mark f → IfOk result (λ made.
-        Gives (function_in functions.now) (at line mark f) made) }
+    ensures { (f : Form90) → IsStatementOf statement.now f → IsMarkOf mark f → IfOk result (λ made.
+        Gives (function_in functions.now) (placed_form line mark f) made) }
 {
     match statement {
         Statement::Act(action) => Ok(alone(act(alloc, line, mark, action, functions)?)),

@@ -2,10 +2,10 @@
 ghost use Rattle.std.specs.Prelude.{◌≡◌, ◌∷◌, [], ◌&&◌, List, IsTrue, IfOk, OnOk, length, map, nat_le};
 ghost use Rattle.tree.specs.Limits as limits;
 ghost use Rattle.f90_grammar.specs.Blocks as grammar;
-ghost use Rattle.f90_grammar.specs.Bounds.{opens_block};
-ghost use Rattle.f90_grammar.specs.Forms.{Form};
+ghost use Rattle.f90_grammar.specs.Bounds.{opens_block90};
+ghost use Rattle.f90_grammar.specs.Forms.{Form90};
 ghost use Rattle.f90_grammar.specs.Order as order;
-ghost use Rattle.f90_grammar.specs.Order.{Place, opened_by, blocks_round, closes_wrongly};
+ghost use Rattle.f90_grammar.specs.Order.{Place90, opened_by, blocks_round, closes_wrongly};
 ghost use Rattle.f90_blocks.specs.places.forms.Places.{IsPlacedOf};
 ghost use Rattle.f90_blocks.specs.places.First.{FindsFirst};
 ghost use Rattle.f90_statement.specs.Views.{AreOf, IsStatementOf};
@@ -76,7 +76,7 @@ impl Blocks {
 
     /// The blocks behind the statement.
     fn pass(&mut self, statement: &Statement) -> Result<(), Memory>
-        ensures { OnOk result ((f : Form) (os : List order.Opened) → IsStatementOf statement.now f
+        ensures { OnOk result ((f : Form90) (os : List order.Opened) → IsStatementOf statement.now f
             → AreOpen self.old os → AreOpen self.new (opened_by f os)) }
     {
         match statement {
@@ -93,7 +93,7 @@ impl Blocks {
 
     /// An END IF, ELSE IF or ELSE doesn't stand in its block IF, or an END DO in its loop.
     fn are_closed_wrongly(&self, statement: &Statement) -> bool
-        ensures { (f : Form) (os : List order.Opened) → IsStatementOf statement.now f → AreOpen self.now os
+        ensures { (f : Form90) (os : List order.Opened) → IsStatementOf statement.now f → AreOpen self.now os
             → result ≡ closes_wrongly f os }
     {
         closes_wrongly(statement, self.innermost())
@@ -101,15 +101,15 @@ impl Blocks {
 
     /// The statement opens a block in as many as there may be.
     fn are_too_many(&self, statement: &Statement) -> bool
-        ensures { (f : Form) (os : List order.Opened) → IsStatementOf statement.now f → AreOpen self.now os
-            → result ≡ (opens_block f && nat_le limits.block_depth90 (length os)) }
+        ensures { (f : Form90) (os : List order.Opened) → IsStatementOf statement.now f → AreOpen self.now os
+            → result ≡ (opens_block90 f && nat_le limits.block_depth90 (length os)) }
     {
         opens_block(statement) && self.depth() >= BLOCK_DEPTH_90
     }
 }
 
 fn closes_wrongly(statement: &Statement, innermost: Option<Opened>) -> bool
-    ensures { (f : Form) (os : List order.Opened) → IsStatementOf statement.now f
+    ensures { (f : Form90) (os : List order.Opened) → IsStatementOf statement.now f
         → innermost ≡ first_of (map kind_of os) → result ≡ closes_wrongly f os }
 {
     match statement {
@@ -121,7 +121,7 @@ fn closes_wrongly(statement: &Statement, innermost: Option<Opened>) -> bool
 }
 
 fn opens_block(statement: &Statement) -> bool
-    ensures { (f : Form) → IsStatementOf statement.now f → result ≡ opens_block f }
+    ensures { (f : Form90) → IsStatementOf statement.now f → result ≡ opens_block90 f }
 {
     match statement {
         Statement::If(_) => true,
@@ -134,7 +134,7 @@ fn opens_block(statement: &Statement) -> bool
 /// The first statement that closes a block wrongly.
 pub fn first_wrong_closer(alloc: Global, text: &[Placed]) -> Result<Option<usize>, Memory>
     ensures { (ps : List grammar.Placed) → AreOf IsPlacedOf text.now ps
-        → IfOk result (λ found. FindsFirst ps (λ (p : Place). IsTrue (closes_wrongly p.here.form (blocks_round p)))
+        → IfOk result (λ found. FindsFirst ps (λ (p : Place90). IsTrue (closes_wrongly p.here.form (blocks_round p)))
         found) }
 {
     let mut blocks = Blocks::new(alloc);
@@ -150,7 +150,7 @@ pub fn first_wrong_closer(alloc: Global, text: &[Placed]) -> Result<Option<usize
 /// The first statement that opens a block in as many as there may be.
 pub fn first_deep_block(alloc: Global, text: &[Placed]) -> Result<Option<usize>, Memory>
     ensures { (ps : List grammar.Placed) → AreOf IsPlacedOf text.now ps
-        → IfOk result (λ found. FindsFirst ps (λ (p : Place). IsTrue (opens_block p.here.form
+        → IfOk result (λ found. FindsFirst ps (λ (p : Place90). IsTrue (opens_block90 p.here.form
         && nat_le limits.block_depth90 (length (blocks_round p)))) found) }
 {
     let mut blocks = Blocks::new(alloc);

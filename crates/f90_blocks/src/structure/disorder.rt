@@ -1,7 +1,7 @@
 //! The order of statements and their blocks.
 ghost use Rattle.std.specs.Prelude.{◌||◌, Bool, List, IsTrue, IfOk};
 ghost use Rattle.f90_grammar.specs.Blocks as grammar;
-ghost use Rattle.f90_grammar.specs.Order.{Place, is_disordered};
+ghost use Rattle.f90_grammar.specs.Order.{Place90, is_disordered};
 ghost use Rattle.f90_blocks.specs.places.forms.Places.{IsPlacedOf};
 ghost use Rattle.f90_blocks.specs.places.First.{FindsFirst};
 ghost use Rattle.f90_statement.specs.Views.{AreOf};
@@ -17,7 +17,7 @@ use tree::Memory;
 // The earlier of the first places of two things.
 #[tactic(auto, using(crate::proofs::structure::Earlier::earlier_laws))]
 fn earlier(a: Option<usize>, b: Option<usize>) -> Option<usize>
-    ensures { (ps : List grammar.Placed) (f g : Place → Bool) → FindsFirst ps (λ p. IsTrue (f p)) a
+    ensures { (ps : List grammar.Placed) (f g : Place90 → Bool) → FindsFirst ps (λ p. IsTrue (f p)) a
         → FindsFirst ps (λ p. IsTrue (g p)) b → FindsFirst ps (λ p. IsTrue (f p || g p)) result }
 {
     match (a, b) {

@@ -1,8 +1,8 @@
 //! Blocks that stay open.
 ghost use Rattle.std.specs.Prelude.{◌≡◌, ◌+◌, ◌^◌, ◌<◌, ◌≤◌, List, [], ◌∷◌, Some, IsTrue, if◌then◌else◌};
 ghost use Rattle.f90_grammar.specs.Blocks as grammar;
-ghost use Rattle.f90_grammar.specs.Forms.{Form};
-ghost use Rattle.f90_grammar.specs.Order.{Place, stays_open};
+ghost use Rattle.f90_grammar.specs.Forms.{Form90};
+ghost use Rattle.f90_grammar.specs.Order.{Place90, stays_open90};
 ghost use Rattle.f90_blocks.specs.places.forms.Places.{IsPlacedOf};
 ghost use Rattle.f90_blocks.specs.places.First.{FindsFirst};
 ghost use Rattle.f90_statement.specs.Views.{AreOf, IsStatementOf};
@@ -51,8 +51,8 @@ impl Ends {
     }
 
     fn leave_open(self, statement: &Statement) -> bool
-        ensures { (f : Form) (after : List grammar.Placed) → IsStatementOf statement.now f → AreFree self after
-            → result ≡ stays_open f after }
+        ensures { (f : Form90) (after : List grammar.Placed) → IsStatementOf statement.now f → AreFree self after
+            → result ≡ stays_open90 f after }
     {
         match statement {
             Statement::If(_) => self.ifs == 0,
@@ -72,7 +72,7 @@ fn here_if(here: bool, place: usize, later: Option<usize>) -> Option<usize>
 /// The first block IF without an END IF, or loop without an END DO.
 pub fn first_open(text: &[Placed]) -> Option<usize>
     ensures { (ps : List grammar.Placed) → AreOf IsPlacedOf text.now ps
-        → FindsFirst ps (λ (p : Place). IsTrue (stays_open p.here.form p.after)) result }
+        → FindsFirst ps (λ (p : Place90). IsTrue (stays_open90 p.here.form p.after)) result }
 {
     let mut found = None;
     let mut ends = Ends { ifs: 0, loops: 0 };

@@ -1,9 +1,9 @@
 //! Labels: none is 0, and none stands twice.
 ghost use Rattle.std.specs.Prelude.{◌≡◌, ℕ, ◌==◌, ◌||◌, ◌++◌, List, [], ◌∷◌, IsTrue, IfOk, OnOk};
 ghost use Rattle.f90_grammar.specs.Blocks as grammar;
-ghost use Rattle.f90_grammar.specs.Forms.{Form};
-ghost use Rattle.f90_grammar.specs.Order.{Place};
-ghost use Rattle.f90_grammar.specs.Surroundings.{label_in, is_wrong_label};
+ghost use Rattle.f90_grammar.specs.Forms.{Form90};
+ghost use Rattle.f90_grammar.specs.Order.{Place90};
+ghost use Rattle.f90_grammar.specs.Surroundings.{label_digits_in, is_wrong_label90};
 ghost use Rattle.f90_blocks.specs.places.forms.Places.{IsPlacedOf};
 ghost use Rattle.f90_blocks.specs.places.First.{FindsFirst};
 ghost use Rattle.f90_statement.specs.Views.{AreOf, IsStatementOf};
@@ -50,8 +50,9 @@ impl Labels {
 
     /// The statement has the label 0, or one of these.
     fn refuse(&self, statement: &Statement) -> bool
-        ensures { (before : List grammar.Placed) (f : Form) → IsStatementOf statement.now f → AreLabels self.now before
-            → result ≡ is_wrong_label before (label_in f) }
+        ensures { (before : List grammar.Placed) (f : Form90) → IsStatementOf statement.now f
+            → AreLabels self.now before
+            → result ≡ is_wrong_label90 before (label_digits_in f) }
     {
         match statement {
             Statement::Label(label) => *label == 0 || self.numbers.contains(label),
@@ -63,7 +64,8 @@ impl Labels {
 /// The first statement with the label 0, or with a label that stands before too.
 pub fn first_wrong_label(alloc: Global, text: &[Placed]) -> Result<Option<usize>, Memory>
     ensures { (ps : List grammar.Placed) → AreOf IsPlacedOf text.now ps
-        → IfOk result (λ found. FindsFirst ps (λ (p : Place). IsTrue (is_wrong_label p.before (label_in p.here.form)))
+        → IfOk result
+        (λ found. FindsFirst ps (λ (p : Place90). IsTrue (is_wrong_label90 p.before (label_digits_in p.here.form)))
         found) }
 {
     let mut labels = Labels::new(alloc);

@@ -1,8 +1,8 @@
 //! The name of the program.
 ghost use Rattle.std.specs.Prelude.{◌≡◌, List, IsTrue};
 ghost use Rattle.f90_grammar.specs.Blocks as grammar;
-ghost use Rattle.f90_grammar.specs.Forms.{Form};
-ghost use Rattle.f90_grammar.specs.Order.{Place, name_in, title_of, bears, is_misnamed};
+ghost use Rattle.f90_grammar.specs.Forms.{Form90};
+ghost use Rattle.f90_grammar.specs.Order.{Place90, name_in, title_in_text, bears_program_name, is_misnamed};
 ghost use Rattle.f90_blocks.specs.places.forms.Places.{IsPlacedOf};
 ghost use Rattle.f90_blocks.specs.places.First.{FindsFirst};
 ghost use Rattle.f90_statement.specs.Views.{AreOf, IsStatementOf};
@@ -12,7 +12,7 @@ use f90_statement::Statement;
 use tree::Name;
 
 fn name_in(statement: &Statement) -> Option<Name>
-    ensures { (f : Form) → IsStatementOf statement.now f → result ≡ name_in f }
+    ensures { (f : Form90) → IsStatementOf statement.now f → result ≡ name_in f }
 {
     match statement {
         Statement::Program(name) => Some(*name),
@@ -21,7 +21,7 @@ fn name_in(statement: &Statement) -> Option<Name>
 }
 
 fn title_of(text: &[Placed]) -> Option<Name>
-    ensures { (ps : List grammar.Placed) → AreOf IsPlacedOf text.now ps → result ≡ title_of ps }
+    ensures { (ps : List grammar.Placed) → AreOf IsPlacedOf text.now ps → result ≡ title_in_text ps }
 {
     match text.first() {
         Some(placed) => name_in(&placed.statement),
@@ -30,7 +30,7 @@ fn title_of(text: &[Placed]) -> Option<Name>
 }
 
 fn bears(title: &Option<Name>, name: &Name) -> bool
-    ensures { result ≡ bears title.now name.now }
+    ensures { result ≡ bears_program_name title.now name.now }
 {
     match title {
         Some(title) => title == name,
@@ -39,7 +39,7 @@ fn bears(title: &Option<Name>, name: &Name) -> bool
 }
 
 fn is_misnamed(title: &Option<Name>, statement: &Statement) -> bool
-    ensures { (f : Form) → IsStatementOf statement.now f → result ≡ is_misnamed title.now f }
+    ensures { (f : Form90) → IsStatementOf statement.now f → result ≡ is_misnamed title.now f }
 {
     match statement {
         Statement::EndProgram(Some(name)) => !bears(title, name),
@@ -50,7 +50,7 @@ fn is_misnamed(title: &Option<Name>, statement: &Statement) -> bool
 /// The first END PROGRAM with a name that isn't the program's.
 pub fn first_misnamed(text: &[Placed]) -> Option<usize>
     ensures { (ps : List grammar.Placed) → AreOf IsPlacedOf text.now ps
-        → FindsFirst ps (λ (p : Place). IsTrue (is_misnamed (title_of ps) p.here.form)) result }
+        → FindsFirst ps (λ (p : Place90). IsTrue (is_misnamed (title_in_text ps) p.here.form)) result }
 {
     let title = title_of(text);
     for (i, placed) in text.iter().enumerate() {

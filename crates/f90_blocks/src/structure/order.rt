@@ -1,8 +1,9 @@
 //! The parts of a program: PROGRAM, IMPLICIT NONE, declarations, executable statements, END.
 ghost use Rattle.std.specs.Prelude.{◌≡◌, ◌++◌, List, [], ◌∷◌, IsTrue};
 ghost use Rattle.f90_grammar.specs.Blocks as grammar;
-ghost use Rattle.f90_grammar.specs.Forms.{Form};
-ghost use Rattle.f90_grammar.specs.Order.{Place, is_nothing, is_title, is_end, is_executable, is_late, ends_wrongly};
+ghost use Rattle.f90_grammar.specs.Forms.{Form90};
+ghost use Rattle.f90_grammar.specs.Order.{Place90, is_nothing90, is_title, is_end90, is_executable90, is_late90};
+ghost use Rattle.f90_grammar.specs.Order.{ends_wrongly};
 ghost use Rattle.f90_blocks.specs.places.forms.Places.{IsPlacedOf};
 ghost use Rattle.f90_blocks.specs.places.First.{FindsFirst};
 ghost use Rattle.f90_statement.specs.Views.{AreOf, IsStatementOf};
@@ -21,7 +22,7 @@ struct Passed {
 }
 
 fn is_title(statement: &Statement) -> bool
-    ensures { (f : Form) → IsStatementOf statement.now f → result ≡ is_title f }
+    ensures { (f : Form90) → IsStatementOf statement.now f → result ≡ is_title f }
 {
     match statement {
         Statement::Program(_) => true,
@@ -30,7 +31,7 @@ fn is_title(statement: &Statement) -> bool
 }
 
 fn is_end(statement: &Statement) -> bool
-    ensures { (f : Form) → IsStatementOf statement.now f → result ≡ is_end f }
+    ensures { (f : Form90) → IsStatementOf statement.now f → result ≡ is_end90 f }
 {
     match statement {
         Statement::End => true,
@@ -40,7 +41,7 @@ fn is_end(statement: &Statement) -> bool
 }
 
 fn is_executable(statement: &Statement) -> bool
-    ensures { (f : Form) → IsStatementOf statement.now f → result ≡ is_executable f }
+    ensures { (f : Form90) → IsStatementOf statement.now f → result ≡ is_executable90 f }
 {
     match statement {
         Statement::Program(_) => false,
@@ -78,8 +79,8 @@ impl Passed {
 
     // PROGRAM, IMPLICIT NONE or a declaration comes too late.
     fn is_late(self, statement: &Statement) -> bool
-        ensures { (before : List grammar.Placed) (f : Form) → IsStatementOf statement.now f → IsPassed self before
-            → result ≡ is_late f before }
+        ensures { (before : List grammar.Placed) (f : Form90) → IsStatementOf statement.now f → IsPassed self before
+            → result ≡ is_late90 f before }
     {
         match statement {
             Statement::Program(_) => self.some,
@@ -93,7 +94,7 @@ impl Passed {
 /// The first PROGRAM, IMPLICIT NONE or declaration that comes too late.
 pub fn first_late(text: &[Placed]) -> Option<usize>
     ensures { (ps : List grammar.Placed) → AreOf IsPlacedOf text.now ps
-        → FindsFirst ps (λ (p : Place). IsTrue (is_late p.here.form p.before)) result }
+        → FindsFirst ps (λ (p : Place90). IsTrue (is_late90 p.here.form p.before)) result }
 {
     let mut passed = Passed::nothing();
     for (i, placed) in text.iter().enumerate() {
@@ -106,7 +107,7 @@ pub fn first_late(text: &[Placed]) -> Option<usize>
 }
 
 fn ends_wrongly(statement: &Statement, is_last: bool) -> bool
-    ensures { (f : Form) (after : List grammar.Placed) → IsStatementOf statement.now f → is_last ≡ is_nothing after
+    ensures { (f : Form90) (after : List grammar.Placed) → IsStatementOf statement.now f → is_last ≡ is_nothing90 after
         → result ≡ ends_wrongly f after }
 {
     let is_end = is_end(statement);
@@ -116,7 +117,7 @@ fn ends_wrongly(statement: &Statement, is_last: bool) -> bool
 /// The first END that isn't the last statement, or the last statement if it isn't END.
 pub fn first_wrong_end(text: &[Placed]) -> Option<usize>
     ensures { (ps : List grammar.Placed) → AreOf IsPlacedOf text.now ps
-        → FindsFirst ps (λ (p : Place). IsTrue (ends_wrongly p.here.form p.after)) result }
+        → FindsFirst ps (λ (p : Place90). IsTrue (ends_wrongly p.here.form p.after)) result }
 {
     for (i, placed) in text.iter().enumerate() {
         let is_last = i + 1 == text.len();

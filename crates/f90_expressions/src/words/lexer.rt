@@ -1,13 +1,13 @@
 //! The words of a statement.
 ghost use Rattle.std.specs.Prelude.{◌≡◌, ◌==◌, List, Some, IfOk, not};
 ghost use Rattle.f90_grammar.specs.Words as grammar;
-ghost use Rattle.f90_grammar.specs.Words.{HasWords, Words};
+ghost use Rattle.f90_grammar.specs.Words.{HasWords, AreWords90};
 ghost use Rattle.f90_expressions.specs.words.Lexing as lexing;
 ghost use Rattle.f90_expressions.specs.words.Symbols.{symbols_of};
 ghost use Rattle.f90_expressions.specs.words.Tokens.{word_of, words_of};
 ghost use Rattle.f90_expressions.specs.words.Fronts.{NextChar, BeginsWithLetter, BeginsWith, NameOption, DigitsResult};
-ghost use Rattle.f90_expressions.specs.words.Fronts.{Strips};
-ghost use Rattle.f90_expressions.specs.words.Fronts.{FrontOption, FrontResult, AfterChar, GivesWords};
+ghost use Rattle.f90_expressions.specs.words.Fronts.{Strips, FrontOption, FrontResult, AfterChar, GivesWords};
+ghost use Rattle.reading.specs.Characters as characters;
 
 use crate::words::symbols::{Symbol, symbols};
 use crate::words::tokens::Token;
@@ -16,27 +16,27 @@ use std::alloc::Global;
 use tree::{Name, Op, Seq, copy_text};
 
 fn is_digit(c: u8) -> bool
-    ensures { result ≡ grammar.is_digit c }
+    ensures { result ≡ characters.is_digit c }
 {
     c.is_ascii_digit()
 }
 
 fn is_letter(c: u8) -> bool
-    ensures { result ≡ grammar.is_letter c }
+    ensures { result ≡ characters.is_letter c }
 {
     c.is_ascii_uppercase()
 }
 
 // Of names.
 fn goes_on(c: u8) -> bool
-    ensures { result ≡ grammar.goes_on c }
+    ensures { result ≡ grammar.goes_on90 c }
 {
     is_letter(c) || is_digit(c) || c == b'_'
 }
 
 // The digit at the front, and what follows it.
 fn next_digit(text: &[Symbol]) -> Option<(u8, &[Symbol])>
-    ensures { NextChar grammar.is_digit result (symbols_of text.now) }
+    ensures { NextChar characters.is_digit result (symbols_of text.now) }
 {
     match text {
         [Symbol::Char(c), rest @ ..] if is_digit(*c) => Some((*c, rest)),
@@ -46,7 +46,7 @@ fn next_digit(text: &[Symbol]) -> Option<(u8, &[Symbol])>
 
 // The character of a name at the front, and what follows it.
 fn next_of_name(text: &[Symbol]) -> Option<(u8, &[Symbol])>
-    ensures { NextChar grammar.goes_on result (symbols_of text.now) }
+    ensures { NextChar grammar.goes_on90 result (symbols_of text.now) }
 {
     match text {
         [Symbol::Char(c), rest @ ..] if goes_on(*c) => Some((*c, rest)),
@@ -68,7 +68,7 @@ fn skip(text: &[Symbol]) -> &[Symbol]
 // The digits at the front, and what follows them.
 #[tactic(auto, using(crate::proofs::OfWords::RunLaws::numbering))]
 fn digits(alloc: Global, text: &[Symbol]) -> Result<(Seq<u8>, &[Symbol]), Stop>
-    ensures { DigitsResult result (lexing.run_of grammar.is_digit (symbols_of text.now)) }
+    ensures { DigitsResult result (lexing.run_of characters.is_digit (symbols_of text.now)) }
 {
     let mut digits = Seq::new(alloc);
     let mut rest = text;
@@ -81,7 +81,7 @@ fn digits(alloc: Global, text: &[Symbol]) -> Result<(Seq<u8>, &[Symbol]), Stop>
 
 // The number at the front, and what follows it, which is no character of a name.
 fn number(alloc: Global, text: &[Symbol]) -> Result<(Token, &[Symbol]), Stop>
-    ensures { FrontResult result (lexing.number (lexing.run_of grammar.is_digit (symbols_of text.now))) }
+    ensures { FrontResult result (lexing.number (lexing.run_of characters.is_digit (symbols_of text.now))) }
 {
     let (digits, rest) = digits(alloc, text)?;
     match next_of_name(rest) {
@@ -96,7 +96,7 @@ const NAME: usize = 31;
 #[tactic(auto, using(crate::proofs::OfWords::RunLaws::naming))]
 fn name(text: &[Symbol]) -> Option<(Name, &[Symbol])>
     requires { BeginsWithLetter (symbols_of text.now) }
-    ensures { NameOption result (lexing.run_of grammar.goes_on (symbols_of text.now)) }
+    ensures { NameOption result (lexing.run_of grammar.goes_on90 (symbols_of text.now)) }
 {
     let mut bytes = [0; NAME];
     let mut len = 0;
@@ -266,7 +266,7 @@ fn fixed_word(text: &[Symbol]) -> Option<(Token, &[Symbol])>
 // The word of characters at the front, and what follows it.
 fn word_of_chars(alloc: Global, text: &[Symbol], first: u8) -> Result<(Token, &[Symbol]), Stop>
     requires { BeginsWith first (symbols_of text.now) }
-    ensures { FrontResult result (lexing.word_by (grammar.is_digit first) (grammar.is_letter first)
+    ensures { FrontResult result (lexing.word_by (characters.is_digit first) (characters.is_letter first)
         (symbols_of text.now)) }
 {
     if is_digit(first) {
@@ -302,8 +302,8 @@ fn word(alloc: Global, text: &[Symbol]) -> Result<(Token, &[Symbol]), Stop>
 // The words of a text.
 #[tactic(auto, using(crate::proofs::OfWords::WordsLaws::wording))]
 fn words_in(alloc: Global, text: &[Symbol]) -> Result<Seq<Token>, Stop>
-    ensures found { IfOk result (λ tokens. Words (symbols_of text.now) (words_of tokens)) }
-    ensures only { (ws : List grammar.Word) → Words (symbols_of text.now) ws → GivesWords result ws }
+    ensures found { IfOk result (λ tokens. AreWords90 (symbols_of text.now) (words_of tokens)) }
+    ensures only { (ws : List grammar.Word90) → AreWords90 (symbols_of text.now) ws → GivesWords result ws }
 {
     let mut tokens = Seq::new(alloc);
     let mut rest = skip(text);
@@ -318,7 +318,7 @@ fn words_in(alloc: Global, text: &[Symbol]) -> Result<Seq<Token>, Stop>
 /// The words of a statement's characters, where they have some.
 pub fn words(alloc: Global, chars: &[u8]) -> Result<Seq<Token>, Stop>
     ensures found { IfOk result (λ tokens. HasWords chars.now (words_of tokens)) }
-    ensures only { (ws : List grammar.Word) → HasWords chars.now ws → GivesWords result ws }
+    ensures only { (ws : List grammar.Word90) → HasWords chars.now ws → GivesWords result ws }
 {
     let symbols = symbols(alloc, chars)?;
     words_in(alloc, symbols.as_slice())

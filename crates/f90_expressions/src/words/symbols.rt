@@ -1,7 +1,7 @@
 //! The symbols of a statement: blanks and ends of lines are gaps, letters are upper case, and each character constant
 //! is one symbol (ISO/IEC 1539:1991, sections 3.1, 3.3.1 and 4.3.2.1).
 ghost use Rattle.std.specs.Prelude.{◌≡◌, ◌∷◌, [], ◌++◌, IfOk, OnOk};
-ghost use Rattle.f90_grammar.specs.Words.{upper};
+ghost use Rattle.reading.specs.Characters.{upper};
 ghost use Rattle.f90_expressions.specs.words.Scanning.{scan, scan_one, scan_out, scan_in, scan_closing, scan_end};
 ghost use Rattle.f90_expressions.specs.words.Scanning.{with_front};
 ghost use Rattle.f90_expressions.specs.words.Scanning as scanning;

@@ -6,35 +6,35 @@ use Rattle.tree.specs.declared.functions.Intrinsic.{Intrinsic}
 use Rattle.meaning.specs.Blocks.{label_of, labels_of}
 use Rattle.f90_grammar.specs.Phrases.{value_of_digits}
 use Rattle.f90_grammar.specs.Forms as forms
-use Rattle.f90_grammar.specs.Forms.{Form}
-use Rattle.f90_grammar.specs.Blocks.{Placed, at, IsSimple, AreBlock, AreArms}
+use Rattle.f90_grammar.specs.Forms.{Form90}
+use Rattle.f90_grammar.specs.Blocks.{Placed, placed_form, IsSimple, AreBlock90, AreArms90}
 use Rattle.f90_grammar.specs.Blocks.IsSimple.{assigns, masks, goes, stops, reads, reads_nothing, prints, prints_nothing}
 use Rattle.f90_grammar.specs.Blocks.IsSimple.{allocates, deallocates}
-use Rattle.f90_grammar.specs.Blocks.AreBlock.{nothing, label, unnamed, simple, test, branch, loop}
-use Rattle.f90_grammar.specs.Blocks.AreArms.{ends, other, further}
-use Rattle.f90_grammar.specs.Order.{is_executable}
-use Rattle.f90_grammar.specs.Surroundings.{label_in}
+use Rattle.f90_grammar.specs.Blocks.AreBlock90.{nothing, label, unnamed, simple, test, branch, loop}
+use Rattle.f90_grammar.specs.Blocks.AreArms90.{ends, other, further}
+use Rattle.f90_grammar.specs.Order.{is_executable90}
+use Rattle.f90_grammar.specs.Surroundings.{label_digits_in}
 use Rattle.f90_laws.proofs.readings.Lists.{here, there, cases_of, not_both}
 use Rattle.f90_laws.specs.blocks.Places.{with_label, with_label_at, opened_since, labels_ahead}
 use Rattle.f90_laws.proofs.blocks.Endings.{executables, kept}
 
 -- ---- statements without a label that neither open nor close a block
 
-unlabelled : (f : Form) (k : ℕ) (ns : List ℕ) → label_in f ≡ [] → with_label_at k f ns ≡ ns
+unlabelled : (f : Form90) (k : ℕ) (ns : List ℕ) → label_digits_in f ≡ [] → with_label_at k f ns ≡ ns
 unlabelled f (suc k) ns e = refl
 unlabelled (forms.Continue []) zero ns e = refl
 unlabelled (forms.Continue (d ∷ digits)) zero ns e = absurd cc
 unlabelled f zero ns e = refl
 
-pub record IsPassed (f : Form) : Type 0 where
-  pub label : label_in f ≡ []
+pub record IsPassed (f : Form90) : Type 0 where
+  pub label : label_digits_in f ≡ []
   pub opens : (k : ℕ) → opened_since f k ≡ k
 
 pub passed : (p : Placed) (ps : List Placed) (k : ℕ) → IsPassed p.form → labels_ahead (p ∷ ps) k ≡ labels_ahead ps k
 passed p ps k h =
     unlabelled p.form k (labels_ahead ps (opened_since p.form k)) h.label ∙ ap (λ n. labels_ahead ps n) (h.opens k)
 
-idle_passed : (f : Form) → is_executable f ≡ false → IsPassed f
+idle_passed : (f : Form90) → is_executable90 f ≡ false → IsPassed f
 idle_passed (forms.Program x) e = record { label = refl; opens = λ k. refl }
 idle_passed forms.ImplicitNone e = record { label = refl; opens = λ k. refl }
 idle_passed (forms.Declare d a es) e = record { label = refl; opens = λ k. refl }
@@ -44,9 +44,9 @@ idle_passed f e = absurd cc
 
 pub ahead_kept : (ps back : List Placed) (k : ℕ) → labels_ahead (executables ps ++ back) k ≡ labels_ahead (ps ++ back) k
 ahead_kept [] back k = refl
-ahead_kept (p ∷ ps) back k = by (is_executable p.form) refl (λ n. ahead_kept ps back n)
+ahead_kept (p ∷ ps) back k = by (is_executable90 p.form) refl (λ n. ahead_kept ps back n)
   where
-    by : (b : Bool) → is_executable p.form ≡ b
+    by : (b : Bool) → is_executable90 p.form ≡ b
         → ((n : ℕ) → labels_ahead (executables ps ++ back) n ≡ labels_ahead (ps ++ back) n)
         → labels_ahead (kept b p (executables ps) ++ back) k ≡ labels_ahead (p ∷ (ps ++ back)) k
     by true e next = ap (λ ns. with_label_at k p.form ns) (next (opened_since p.form k))
@@ -80,7 +80,7 @@ module _ (function : List ℕ → Option Intrinsic) (is_target : ℕ → Bool) w
   -- ---- a block that is opened later
 
   mutual
-    pub block_passed : (ps : List Placed) (b : Block) → AreBlock function is_target ps b → (k : ℕ) (back : List Placed)
+    pub block_passed : (ps : List Placed) (b : Block) → AreBlock90 function is_target ps b → (k : ℕ) (back : List Placed)
         → labels_ahead (ps ++ back) (suc k) ≡ labels_ahead back (suc k)
     block_passed ps b nothing k back = refl
     block_passed ps b (label line digits rest more t h) k back = block_passed rest more h k back
@@ -94,27 +94,27 @@ module _ (function : List ℕ → Option Intrinsic) (is_target : ℕ → Bool) w
         ∙ (block_passed body first i (suc k) (arms ++ (rest ++ back))
         ∙ (arms_passed arms more_arms otherwise a (suc k) (rest ++ back) ∙ block_passed rest more h k back))
     block_passed ps b (loop line end x p q r body rest inner more i h) k back =
-        ap (λ xs. labels_ahead xs (suc (suc k))) (append_assoc body (at end None forms.EndDo ∷ rest) back)
-        ∙ (block_passed body inner i (suc k) (at end None forms.EndDo ∷ (rest ++ back))
+        ap (λ xs. labels_ahead xs (suc (suc k))) (append_assoc body (placed_form end None forms.EndDo ∷ rest) back)
+        ∙ (block_passed body inner i (suc k) (placed_form end None forms.EndDo ∷ (rest ++ back))
         ∙ block_passed rest more h k back)
 
-    pub arms_passed : (ps : List Placed) (ars : Arms) (b : Block) → AreArms function is_target ps ars b
+    pub arms_passed : (ps : List Placed) (ars : Arms) (b : Block) → AreArms90 function is_target ps ars b
         → (k : ℕ) (back : List Placed) → labels_ahead (ps ++ back) (suc k) ≡ labels_ahead back k
     arms_passed ps ars b (ends line) k back = refl
     arms_passed ps ars b (other line end body more i) k back =
-        ap (λ xs. labels_ahead xs (suc k)) (append_assoc body (at end None forms.EndIf ∷ []) back)
-        ∙ block_passed body more i k (at end None forms.EndIf ∷ back)
+        ap (λ xs. labels_ahead xs (suc k)) (append_assoc body (placed_form end None forms.EndIf ∷ []) back)
+        ∙ block_passed body more i k (placed_form end None forms.EndIf ∷ back)
     arms_passed ps ars b (further line p body rest first otherwise more i a) k back =
         ap (λ xs. labels_ahead xs (suc k)) (append_assoc body rest back)
         ∙ (block_passed body first i k (rest ++ back) ∙ arms_passed rest more otherwise a k back)
 
   -- the rest of a block IF, seen from the arm before it
-  pub arms_ahead : (ps : List Placed) (ars : Arms) (b : Block) → AreArms function is_target ps ars b
+  pub arms_ahead : (ps : List Placed) (ars : Arms) (b : Block) → AreArms90 function is_target ps ars b
       → (back : List Placed) → labels_ahead (ps ++ back) 0 ≡ labels_ahead back 0
   arms_ahead ps ars b (ends line) back = refl
   arms_ahead ps ars b (other line end body more i) back =
-      ap (λ xs. labels_ahead xs 1) (append_assoc body (at end None forms.EndIf ∷ []) back)
-      ∙ block_passed body more i 0 (at end None forms.EndIf ∷ back)
+      ap (λ xs. labels_ahead xs 1) (append_assoc body (placed_form end None forms.EndIf ∷ []) back)
+      ∙ block_passed body more i 0 (placed_form end None forms.EndIf ∷ back)
   arms_ahead ps ars b (further line p body rest first otherwise more i a) back =
       ap (λ xs. labels_ahead xs 1) (append_assoc body rest back)
       ∙ (block_passed body first i 0 (rest ++ back) ∙ arms_passed rest more otherwise a 0 back)
@@ -172,7 +172,7 @@ module _ (function : List ℕ → Option Intrinsic) (is_target : ℕ → Bool) w
 
   -- ---- the labels of a block, seen from before it
 
-  pub block_ahead : (ps : List Placed) (b : Block) → AreBlock function is_target ps b → (back : List Placed)
+  pub block_ahead : (ps : List Placed) (b : Block) → AreBlock90 function is_target ps b → (back : List Placed)
       → AreAlike (labels_of b ++ labels_ahead back 0) (labels_ahead (ps ++ back) 0)
   block_ahead ps b nothing back = alike_same (labels_ahead back 0)
   block_ahead ps b (label line digits rest more t h) back =
@@ -196,6 +196,6 @@ module _ (function : List ℕ → Option Intrinsic) (is_target : ℕ → Bool) w
       (block_ahead rest more h back)
   block_ahead ps b (loop line end x p q r body rest inner more i h) back =
       subst (λ ns. AreAlike (labels_of more ++ labels_ahead back 0) ns)
-      (sym (ap (λ xs. labels_ahead xs 1) (append_assoc body (at end None forms.EndDo ∷ rest) back)
-      ∙ block_passed body inner i 0 (at end None forms.EndDo ∷ (rest ++ back))))
+      (sym (ap (λ xs. labels_ahead xs 1) (append_assoc body (placed_form end None forms.EndDo ∷ rest) back)
+      ∙ block_passed body inner i 0 (placed_form end None forms.EndDo ∷ (rest ++ back))))
       (block_ahead rest more h back)

@@ -4,11 +4,11 @@ use Rattle.std.proofs.Common.{◌≡◌, ℕ, Bool, true, false, not, ◌||◌, 
 use Rattle.std.proofs.Common.{subst, ◌∙◌, append_assoc}
 use mathlib.Core.Path.{fun_ext}
 use Rattle.f90_grammar.specs.Forms as forms
-use Rattle.f90_grammar.specs.Forms.{Form}
+use Rattle.f90_grammar.specs.Forms.{Form90}
 use Rattle.f90_grammar.specs.Blocks.{Placed}
-use Rattle.f90_grammar.specs.Order.{Opened, opened_by, opened_behind, closes_wrongly, closes_if, has_end_if, closes_do}
-use Rattle.f90_grammar.specs.Order.{has_end_do, stays_open, is_executable}
-use Rattle.f90_grammar.specs.Order.{Place, IsPlaceIn, IsInOrder, blocks_round, title_of, is_misnamed, is_late}
+use Rattle.f90_grammar.specs.Order.{Opened, opened_by, opened_behind, closes_wrongly, closes_if, has_end_if90, closes_do}
+use Rattle.f90_grammar.specs.Order.{has_end_do, stays_open90, is_executable90}
+use Rattle.f90_grammar.specs.Order.{Place90, IsPlaceIn, IsInOrder, blocks_round, title_in_text, is_misnamed, is_late90}
 use Rattle.f90_grammar.specs.Order.{ends_wrongly}
 use Rattle.f90_laws.proofs.readings.Counts.{opened-append}
 use Rattle.f90_laws.proofs.readings.Lists.{left_false, right_false}
@@ -27,9 +27,9 @@ closed_right (x ∷ xs) ys h = closed_right xs ys h.1
 -- ---- statements that aren't executable neither open nor close
 
 abbrev pub executables : List Placed → List Placed
-executables ps = filter (λ (p : Placed). is_executable p.form) ps
+executables ps = filter (λ (p : Placed). is_executable90 p.form) ps
 
-pub idle_opens : (f : Form) (os : List Opened) → is_executable f ≡ false → opened_by f os ≡ os
+pub idle_opens : (f : Form90) (os : List Opened) → is_executable90 f ≡ false → opened_by f os ≡ os
 idle_opens (forms.Program x) os e = refl
 idle_opens forms.ImplicitNone os e = refl
 idle_opens (forms.Declare k a es) os e = refl
@@ -37,7 +37,7 @@ idle_opens forms.End os e = refl
 idle_opens (forms.EndProgram x) os e = refl
 idle_opens f os e = absurd cc
 
-idle_if : (f : Form) (more : ℕ → Bool) (k : ℕ) → is_executable f ≡ false → closes_if f more k ≡ more k
+idle_if : (f : Form90) (more : ℕ → Bool) (k : ℕ) → is_executable90 f ≡ false → closes_if f more k ≡ more k
 idle_if (forms.Program x) more k e = refl
 idle_if forms.ImplicitNone more k e = refl
 idle_if (forms.Declare d a es) more k e = refl
@@ -45,7 +45,7 @@ idle_if forms.End more k e = refl
 idle_if (forms.EndProgram x) more k e = refl
 idle_if f more k e = absurd cc
 
-idle_do : (f : Form) (more : ℕ → Bool) (k : ℕ) → is_executable f ≡ false → closes_do f more k ≡ more k
+idle_do : (f : Form90) (more : ℕ → Bool) (k : ℕ) → is_executable90 f ≡ false → closes_do f more k ≡ more k
 idle_do (forms.Program x) more k e = refl
 idle_do forms.ImplicitNone more k e = refl
 idle_do (forms.Declare d a es) more k e = refl
@@ -56,41 +56,41 @@ idle_do f more k e = absurd cc
 abbrev pub kept : Bool → Placed → List Placed → List Placed
 kept b p ps = cond b (p ∷ ps) ps
 
-if_kept : (ps : List Placed) → has_end_if (executables ps) ≡ has_end_if ps
+if_kept : (ps : List Placed) → has_end_if90 (executables ps) ≡ has_end_if90 ps
 if_kept [] = refl
-if_kept (p ∷ ps) = by (is_executable p.form) refl (if_kept ps)
+if_kept (p ∷ ps) = by (is_executable90 p.form) refl (if_kept ps)
   where
-    by : (b : Bool) → is_executable p.form ≡ b → has_end_if (executables ps) ≡ has_end_if ps
-        → has_end_if (kept b p (executables ps)) ≡ has_end_if (p ∷ ps)
+    by : (b : Bool) → is_executable90 p.form ≡ b → has_end_if90 (executables ps) ≡ has_end_if90 ps
+        → has_end_if90 (kept b p (executables ps)) ≡ has_end_if90 (p ∷ ps)
     by true e same = fun_ext (λ k. ap (λ g. closes_if p.form g k) same)
-    by false e same = same ∙ fun_ext (λ k. sym (idle_if p.form (has_end_if ps) k e))
+    by false e same = same ∙ fun_ext (λ k. sym (idle_if p.form (has_end_if90 ps) k e))
 
 do_kept : (ps : List Placed) → has_end_do (executables ps) ≡ has_end_do ps
 do_kept [] = refl
-do_kept (p ∷ ps) = by (is_executable p.form) refl (do_kept ps)
+do_kept (p ∷ ps) = by (is_executable90 p.form) refl (do_kept ps)
   where
-    by : (b : Bool) → is_executable p.form ≡ b → has_end_do (executables ps) ≡ has_end_do ps
+    by : (b : Bool) → is_executable90 p.form ≡ b → has_end_do (executables ps) ≡ has_end_do ps
         → has_end_do (kept b p (executables ps)) ≡ has_end_do (p ∷ ps)
     by true e same = fun_ext (λ k. ap (λ g. closes_do p.form g k) same)
     by false e same = same ∙ fun_ext (λ k. sym (idle_do p.form (has_end_do ps) k e))
 
-open_kept : (f : Form) (ps : List Placed) → stays_open f (executables ps) ≡ stays_open f ps
+open_kept : (f : Form90) (ps : List Placed) → stays_open90 f (executables ps) ≡ stays_open90 f ps
 open_kept (forms.If p) ps = ap (λ g. not (g 0)) (if_kept ps)
 open_kept (forms.Do x a b c) ps = ap (λ g. not (g 0)) (do_kept ps)
 open_kept f ps = refl
 
 pub close_kept : (os : List Opened) (ps : List Placed) → Close os ps → Close os (executables ps)
 close_kept os [] h = tt
-close_kept os (p ∷ ps) h = by (is_executable p.form) refl (λ o c. close_kept o ps c)
+close_kept os (p ∷ ps) h = by (is_executable90 p.form) refl (λ o c. close_kept o ps c)
   where
-    by : (b : Bool) → is_executable p.form ≡ b → ((o : List Opened) → Close o ps → Close o (executables ps))
+    by : (b : Bool) → is_executable90 p.form ≡ b → ((o : List Opened) → Close o ps → Close o (executables ps))
         → Close os (kept b p (executables ps))
     by true e next = (h.0, next (opened_by p.form os) h.1)
     by false e next = next os (subst (λ o. Close o ps) (idle_opens p.form os e) h.1)
 
 pub closed_kept : (ps : List Placed) → AreClosed ps → AreClosed (executables ps)
 closed_kept [] h = tt
-closed_kept (p ∷ ps) h = by (is_executable p.form) (closed_kept ps h.1)
+closed_kept (p ∷ ps) h = by (is_executable90 p.form) (closed_kept ps h.1)
   where
     by : (b : Bool) → AreClosed (executables ps) → AreClosed (kept b p (executables ps))
     by true next = (open_kept p.form ps ∙ h.0, next)
@@ -98,11 +98,11 @@ closed_kept (p ∷ ps) h = by (is_executable p.form) (closed_kept ps h.1)
 
 -- ---- what is asked at each place
 
-abbrev pub place : List Placed → Placed → List Placed → Place
+abbrev pub place : List Placed → Placed → List Placed → Place90
 place front p back = record { before = front; here = p; after = back }
 
 close_behind : (front rest : List Placed)
-    → ((p : Place) → IsPlaceIn (front ++ rest) p → closes_wrongly p.here.form (blocks_round p) ≡ false)
+    → ((p : Place90) → IsPlaceIn (front ++ rest) p → closes_wrongly p.here.form (blocks_round p) ≡ false)
     → Close (opened_behind [] front) rest
 close_behind front [] h = tt
 close_behind front (x ∷ xs) h = (
@@ -112,7 +112,7 @@ close_behind front (x ∷ xs) h = (
 )
 
 closed_behind : (front rest : List Placed)
-    → ((p : Place) → IsPlaceIn (front ++ rest) p → stays_open p.here.form p.after ≡ false) → AreClosed rest
+    → ((p : Place90) → IsPlaceIn (front ++ rest) p → stays_open90 p.here.form p.after ≡ false) → AreClosed rest
 closed_behind front [] h = tt
 closed_behind front (x ∷ xs) h = (
   h (place front x xs) refl,
@@ -121,13 +121,13 @@ closed_behind front (x ∷ xs) h = (
 )
 
 module _ (ps : List Placed) (order : IsInOrder ps) where
-  unfound : (p : Place) → IsPlaceIn ps p
-      → (closes_wrongly p.here.form (blocks_round p) ≡ false) × (stays_open p.here.form p.after ≡ false)
+  unfound : (p : Place90) → IsPlaceIn ps p
+      → (closes_wrongly p.here.form (blocks_round p) ≡ false) × (stays_open90 p.here.form p.after ≡ false)
   unfound p i =
       let f = p.here.form in
-      let a = is_misnamed (title_of ps) f || is_late f p.before || ends_wrongly f p.after in
+      let a = is_misnamed (title_in_text ps) f || is_late90 f p.before || ends_wrongly f p.after in
       let c = closes_wrongly f (blocks_round p) in
-      let s = stays_open f p.after in
+      let s = stays_open90 f p.after in
       (right_false a c (left_false (a || c) s (order.none p i)), right_false (a || c) s (order.none p i))
 
   pub order_closes : Close [] ps

@@ -6,10 +6,10 @@ use Rattle.tree.specs.Plain.{Declaration, Block}
 use Rattle.tree.specs.declared.functions.Intrinsic.{Intrinsic}
 use Rattle.meaning.specs.Blocks.{Surroundings, outermost}
 use Rattle.f90_grammar.specs.Forms as forms
-use Rattle.f90_grammar.specs.Forms.{Form}
+use Rattle.f90_grammar.specs.Forms.{Form90}
 use Rattle.f90_grammar.specs.Blocks.{Placed}
 use Rattle.f90_grammar.specs.Declared.{declarations_of, functions_in}
-use Rattle.f90_grammar.specs.Order.{Place, IsPlaceIn, Opened, opened_by, opened_behind, is_executable}
+use Rattle.f90_grammar.specs.Order.{Place90, IsPlaceIn, Opened, opened_by, opened_behind, is_executable90}
 use Rattle.f90_grammar.specs.Reading.{is_target_in}
 use Rattle.f90_grammar.specs.Surroundings.{StandsIn, line_of, AreBody, IsMisplaced}
 use Rattle.f90_grammar.specs.Surroundings.IsMisplaced.{HasWrongLabel, HasWrongSurroundings}
@@ -27,7 +27,7 @@ use Rattle.f90_laws.proofs.blocks.Wrong.{block_wrong}
 module _ (ds : List Declaration) (function : List ℕ → Option Intrinsic) where
   -- ---- statements that aren't executable suit any place
 
-  idle_suits : (f : Form) (w : Surroundings) → is_executable f ≡ false → SuitsPlace ds function f w
+  idle_suits : (f : Form90) (w : Surroundings) → is_executable90 f ≡ false → SuitsPlace ds function f w
   idle_suits (forms.Program x) w e = tt
   idle_suits forms.ImplicitNone w e = tt
   idle_suits (forms.Declare k a es) w e = tt
@@ -38,9 +38,9 @@ module _ (ds : List Declaration) (function : List ℕ → Option Intrinsic) wher
   wrong_kept : (os : List Opened) (ps : List Placed) (line : ℕ)
       → WrongIn ds function os ps [] line ↔ WrongIn ds function os (executables ps) [] line
   wrong_kept os [] line = same
-  wrong_kept os (p ∷ ps) line = by (is_executable p.form) refl (λ o. wrong_kept o ps line)
+  wrong_kept os (p ∷ ps) line = by (is_executable90 p.form) refl (λ o. wrong_kept o ps line)
     where
-      by : (b : Bool) → is_executable p.form ≡ b
+      by : (b : Bool) → is_executable90 p.form ≡ b
           → ((o : List Opened) → WrongIn ds function o ps [] line ↔ WrongIn ds function o (executables ps) [] line)
           → WrongIn ds function os (p ∷ ps) [] line ↔ WrongIn ds function os (kept b p (executables ps)) [] line
       by true e next =
@@ -55,7 +55,7 @@ module _ (ds : List Declaration) (function : List ℕ → Option Intrinsic) wher
   -- ---- places
 
   pub record WrongPlace (ps : List Placed) (line : ℕ) : Type 0 where
-    pub it : Place
+    pub it : Place90
     pub stands : IsPlaceIn ps it
     pub wrong : SuitsPlace ds function it.here.form (surroundings_of it) → ⊥
     pub at_line : line ≡ it.here.line
@@ -108,7 +108,7 @@ module _ (ps : List Placed) where
       (block_wrong ds function t es b h [] [] outermost line
       (record { variables = refl; ahead = alike_same function t [] }) named)
 
-  at_place : (line : ℕ) → IsMisplaced ps line → (p : Place) × IsPlaceIn ps p × IsWrongAt ps p × (line ≡ p.here.line)
+  at_place : (line : ℕ) → IsMisplaced ps line → (p : Place90) × IsPlaceIn ps p × IsWrongAt ps p × (line ≡ p.here.line)
   at_place line (HasWrongLabel p i t) = (p, i, inl t, refl)
   at_place line (HasWrongSurroundings b c w h s n) =
       let k = to_place ds function [] ps (line_of c) ((in_body b (line_of c) h).1 (bad_in ds b outermost c w s n)) in
@@ -118,7 +118,7 @@ module _ (ps : List Placed) where
   in_tree b line h m =
       subst (IsMisplaced ps) (sym m.at_line) (HasWrongSurroundings b m.it m.surroundings h m.stands m.wrong)
 
-  misplaced : (b : Block) (line : ℕ) (p : Place) → AreBody ps b → IsPlaceIn ps p → line ≡ p.here.line → IsWrongAt ps p
+  misplaced : (b : Block) (line : ℕ) (p : Place90) → AreBody ps b → IsPlaceIn ps p → line ≡ p.here.line → IsWrongAt ps p
       → IsMisplaced ps line
   misplaced b line p h i e (inl t) = subst (IsMisplaced ps) (sym e) (HasWrongLabel p i t)
   misplaced b line p h i e (inr n) =

@@ -10,14 +10,15 @@ use Rattle.tree.specs.declared.functions.Intrinsic.{Intrinsic}
 use Rattle.meaning.specs.Blocks.{Surroundings, within_loop, before_labels, labels_of}
 use Rattle.meaning.specs.Typed90.{IsDoVariable}
 use Rattle.f90_grammar.specs.Phrases.{tree_of, value_of_digits}
-use Rattle.f90_grammar.specs.Items.{Input, Output, item_trees}
+use Rattle.f90_grammar.specs.Items.{Input, Output, item_trees90}
 use Rattle.f90_grammar.specs.Forms as forms
-use Rattle.f90_grammar.specs.Forms.{Form}
-use Rattle.f90_grammar.specs.Blocks.{Placed, at, reference_in, IsSimple, AreBlock, AreArms}
+use Rattle.f90_grammar.specs.Forms.{Form90}
+use Rattle.f90_grammar.specs.Blocks.{Placed, placed_form, IsSimple, AreBlock90, AreArms90}
+use Rattle.reading.specs.Signs.{reference_in}
 use Rattle.f90_grammar.specs.Blocks.IsSimple.{assigns, masks, goes, stops, reads, reads_nothing, prints, prints_nothing}
 use Rattle.f90_grammar.specs.Blocks.IsSimple.{allocates, deallocates}
-use Rattle.f90_grammar.specs.Blocks.AreBlock.{nothing, label, unnamed, simple, test, branch, loop}
-use Rattle.f90_grammar.specs.Blocks.AreArms.{ends, other, further}
+use Rattle.f90_grammar.specs.Blocks.AreBlock90.{nothing, label, unnamed, simple, test, branch, loop}
+use Rattle.f90_grammar.specs.Blocks.AreArms90.{ends, other, further}
 use Rattle.f90_grammar.specs.Order.{Opened, InIf, InElse, InDo, opened_by, opened_behind}
 use Rattle.f90_grammar.specs.Surroundings.{StandsIn, StandsWithin, StandsInArms, line_of, SuitsSurroundings}
 use Rattle.f90_grammar.specs.Surroundings.{ItemsKeepVariables}
@@ -200,7 +201,7 @@ module _ (ds : List Declaration) (function : List ℕ → Option Intrinsic) wher
     IsNamed p = (n : ℕ) → goes_to n p.form ≡ true → is_target n ≡ true
 
     before_block : (ps : List Placed) (b : Block) (os : List Opened) (back : List Placed) (w : Surroundings)
-        → AreBlock function is_target ps b → Fits os back w → Fits os (ps ++ back) (before_labels (labels_of b) w)
+        → AreBlock90 function is_target ps b → Fits os back w → Fits os (ps ++ back) (before_labels (labels_of b) w)
     before_block ps b os back w h f =
         let own = labels_of b in
         let behind = labels_ahead back 0 in
@@ -211,7 +212,7 @@ module _ (ds : List Declaration) (function : List ℕ → Option Intrinsic) wher
         }
 
     before_arms : (ps : List Placed) (ars : Arms) (b : Block) (os : List Opened) (back : List Placed) (w : Surroundings)
-        → AreArms function is_target ps ars b → Fits os back w → Fits os (ps ++ back) w
+        → AreArms90 function is_target ps ars b → Fits os back w → Fits os (ps ++ back) w
     before_arms ps ars b os back w a f =
         record {
           variables = f.variables;
@@ -249,11 +250,11 @@ module _ (ds : List Declaration) (function : List ℕ → Option Intrinsic) wher
         let n = value_of_digits digits in not_both line l (goes_alike n os back w f (t n ((Decides-eqb n n).1 refl)))
     simple_wrong p c os back w line (stops l) f t = never line l
     simple_wrong p c os back w line (reads l is) f t =
-        let all = tree.items (item_trees function is) in
+        let all = tree.items (item_trees90 function is) in
         along (λ vs. (ItemsKeepVariables ds Input all vs → ⊥) × (line ≡ l)) f.variables
     simple_wrong p c os back w line (reads_nothing l) f t = not_both line l same
     simple_wrong p c os back w line (prints l is) f t =
-        let all = tree.items (item_trees function is) in
+        let all = tree.items (item_trees90 function is) in
         along (λ vs. (ItemsKeepVariables ds Output all vs → ⊥) × (line ≡ l)) f.variables
     simple_wrong p c os back w line (prints_nothing l) f t = not_both line l same
     simple_wrong p c os back w line (allocates l x es) f t = never line l
@@ -269,11 +270,11 @@ module _ (ds : List Declaration) (function : List ℕ → Option Intrinsic) wher
 
     -- before the end of the block that they stand in
     in_end : (os : List Opened) (end : ℕ) (back : List Placed) (w : Surroundings) → Fits os back w
-        → Fits os (at end None forms.EndDo ∷ back) w
+        → Fits os (placed_form end None forms.EndDo ∷ back) w
     in_end os end back w f = record { variables = f.variables; ahead = f.ahead }
 
     in_end_if : (os : List Opened) (end : ℕ) (back : List Placed) (w : Surroundings) → Fits os back w
-        → Fits os (at end None forms.EndIf ∷ back) w
+        → Fits os (placed_form end None forms.EndIf ∷ back) w
     in_end_if os end back w f = record { variables = f.variables; ahead = f.ahead }
 
     -- ---- both are the same
@@ -282,7 +283,7 @@ module _ (ds : List Declaration) (function : List ℕ → Option Intrinsic) wher
     AreNamed ps = AllByRecursion IsNamed ps
 
     mutual
-      pub block_wrong : (ps : List Placed) (b : Block) → AreBlock function is_target ps b
+      pub block_wrong : (ps : List Placed) (b : Block) → AreBlock90 function is_target ps b
           → (os : List Opened) (back : List Placed) (w : Surroundings) (line : ℕ) → Fits os back w → AreNamed ps
           → WrongIn os ps back line ↔ BadBlock ds b w line
       block_wrong ps b nothing os back w line f t = same
@@ -297,7 +298,7 @@ module _ (ds : List Declaration) (function : List ℕ → Option Intrinsic) wher
           (block_wrong rest more h os back w line f t.1))
       block_wrong ps b (test l m p g inner more rest i h) os back w line f t =
           or_both (and_then (turned (without_right (λ a. a) same))
-          (and_then (block_wrong (at l m g ∷ []) inner i os (rest ++ back) (before_labels (labels_of more) w) line
+          (and_then (block_wrong (placed_form l m g ∷ []) inner i os (rest ++ back) (before_labels (labels_of more) w) line
           (before_block rest more os back w h f) (t.0, tt))
           (turned (without_right (λ a. a) (without_right (λ a. a) same)))))
           (block_wrong rest more h os back w line f t.1)
@@ -325,7 +326,7 @@ module _ (ds : List Declaration) (function : List ℕ → Option Intrinsic) wher
           (and_then or_regrouped (or_both or_regrouped same))))
       block_wrong ps b (loop l end x p q r body rest inner more i h) os back w line f t =
           let u = before_labels (labels_of more) w in
-          let last = at end None forms.EndDo in
+          let last = placed_form end None forms.EndDo in
           let g = before_block rest more os back w h f in
           let to_rest = along (λ o. WrongIn o (last ∷ rest) back line)
           (block_keeps function is_target body inner (InDo x ∷ os) i) in
@@ -338,12 +339,12 @@ module _ (ds : List Declaration) (function : List ℕ → Option Intrinsic) wher
           (and_then (split (InDo x ∷ os) body (last ∷ rest) back line) (or_both in_body (and_then to_rest behind))))
           or_regrouped
 
-      pub arms_wrong : (ps : List Placed) (ars : Arms) (b : Block) → AreArms function is_target ps ars b
+      pub arms_wrong : (ps : List Placed) (ars : Arms) (b : Block) → AreArms90 function is_target ps ars b
           → (os : List Opened) (back : List Placed) (w : Surroundings) (line : ℕ) → Fits os back w → AreNamed ps
           → WrongIn (InIf ∷ os) ps back line ↔ (BadArms ds ars w line ⊎ BadBlock ds b w line)
       arms_wrong ps ars b (ends l) os back w line f t = or_both (never line l) same
       arms_wrong ps ars b (other l end body more i) os back w line f t =
-          let last = at end None forms.EndIf in
+          let last = placed_form end None forms.EndIf in
           let in_body = block_wrong body more i (InElse ∷ os) (last ∷ back) w line
           (in_end_if (InElse ∷ os) end back w (in_block InElse os back w refl f))
           (all_left IsNamed body (last ∷ []) t.1) in

@@ -13,11 +13,12 @@ use Rattle.meaning.specs.Typed90.{HasSomeKind, rank_of_subscript, rank_of_subscr
 use Rattle.meaning.specs.Items90.{IsInputItem, AreInputItems, IsOutputItem, AreOutputItems}
 use Rattle.f90_grammar.specs.FreeForm.{has_comment, is_open_behind}
 use Rattle.f90_grammar.specs.Words as words
-use Rattle.f90_grammar.specs.Words.{Word, Symbol, Symbols, IsName, IsInLine, IsEnded, doubled, doubled_one}
+use Rattle.f90_grammar.specs.Words.{Word90, Symbol90, Symbols, IsName90, IsInLine}
+use Rattle.reading.specs.Characters.{IsEnded, doubled, doubled_one}
 use Rattle.f90_grammar.specs.Words.Symbols.{constant}
-use Rattle.f90_grammar.specs.Phrases.{Phrase, Parts, One, Then, AreValues, written}
-use Rattle.f90_grammar.specs.Items.{ItemPhrase, Of, Text, Loop, ItemPhrases, Sole, More, Direction, Input, Output, IsVariable, IsStep, IsItem, AreItems, written_step, written_bounds, written_item, written_items}
-use Rattle.f90_grammar.specs.Printing.{is_one, phrase_of, part_of, more_parts}
+use Rattle.f90_grammar.specs.Phrases.{Phrase90, ListParts, One, Then, AreValues, written90}
+use Rattle.f90_grammar.specs.Items.{ItemPhrase90, Of, Text, Loop, ItemPhrases90, Sole, More, Direction, Input, Output, IsVariable, IsStep90, IsItem90, AreItems90, written_step90, written_bounds90, written_item90, written_items90}
+use Rattle.f90_grammar.specs.Printing.{is_one, phrase_of, list_part_of, more_parts}
 use Rattle.f90_grammar.specs.PrintedForms.{step_phrase, item_phrase, item_phrases, more_items}
 use Rattle.f90_grammar.specs.PrintedText.{step_text, bounds_text, constant_text, item_text, items_text}
 use Rattle.f90_laws.proofs.printed.Spelling.{Place, Start, After, IsFirst, Leads, join, open_word, close_word, comma_word, no_words, IsTidy, IsPrintable, all_append}
@@ -81,79 +82,79 @@ constant_leads (c ∷ cs) h = record {
 
 -- ---- items whose names are names
 
-abbrev pub StepIsWorded : Option Phrase → Type 0
+abbrev pub StepIsWorded : Option Phrase90 → Type 0
 StepIsWorded None = Unit {0}
 StepIsWorded (Some p) = IsWorded p
 
 abbrev mutual
-  pub ItemIsWorded : ItemPhrase → Type 0
+  pub ItemIsWorded : ItemPhrase90 → Type 0
   ItemIsWorded (Of p) = IsWorded p
   ItemIsWorded (Text t) = IsText t
-  ItemIsWorded (Loop is x a b c) = ItemsAreWorded is × IsName x × IsWorded a × IsWorded b × StepIsWorded c
+  ItemIsWorded (Loop is x a b c) = ItemsAreWorded is × IsName90 x × IsWorded a × IsWorded b × StepIsWorded c
 
-  pub ItemsAreWorded : ItemPhrases → Type 0
+  pub ItemsAreWorded : ItemPhrases90 → Type 0
   ItemsAreWorded (Sole i) = ItemIsWorded i
   ItemsAreWorded (More is i) = ItemsAreWorded is × ItemIsWorded i
 
-step_leads : (c : Option Phrase) → StepIsWorded c → Leads After After (step_text c) (written_step c)
+step_leads : (c : Option Phrase90) → StepIsWorded c → Leads After After (step_text c) (written_step90 c)
 step_leads None h = no_words
 step_leads (Some p) h = join comma_word (phrase_leads p h)
 
-bounds_words : (a b c : List Word) (x : List ℕ) → (words.Name x ∷ (words.Equals ∷ (a ++ words.Comma ∷ b))) ++ c ≡ words.Name x ∷ (words.Equals ∷ (a ++ words.Comma ∷ (b ++ c)))
+bounds_words : (a b c : List Word90) (x : List ℕ) → (words.Name x ∷ (words.Equals ∷ (a ++ words.Comma ∷ b))) ++ c ≡ words.Name x ∷ (words.Equals ∷ (a ++ words.Comma ∷ (b ++ c)))
 bounds_words a b c x = ap (λ t. words.Name x ∷ (words.Equals ∷ t)) (append_assoc a (words.Comma ∷ b) c)
 
-pub bounds_lead : (q : Place) → IsFirst q → (x : List ℕ) (a b : Phrase) (c : Option Phrase) → IsName x → IsWorded a → IsWorded b → StepIsWorded c
-    → Leads After q (bounds_text x a b c) (words.Name x ∷ (words.Equals ∷ written_bounds a b c))
+pub bounds_lead : (q : Place) → IsFirst q → (x : List ℕ) (a b : Phrase90) (c : Option Phrase90) → IsName90 x → IsWorded a → IsWorded b → StepIsWorded c
+    → Leads After q (bounds_text x a b c) (words.Name x ∷ (words.Equals ∷ written_bounds90 a b c))
 bounds_lead q f x a b c h k l m =
-    subst (λ t. Leads After q (bounds_text x a b c) t) (bounds_words (written a) (written b) (written_step c) x)
+    subst (λ t. Leads After q (bounds_text x a b c) t) (bounds_words (written90 a) (written90 b) (written_step90 c) x)
     (join (loop_leads q f x h (phrase_leads a k) (phrase_leads b l)) (step_leads c m))
 
 mutual
-  item_leads : (i : ItemPhrase) → ItemIsWorded i → Leads After Start (item_text i) (written_item i)
+  item_leads : (i : ItemPhrase90) → ItemIsWorded i → Leads After Start (item_text i) (written_item90 i)
   item_leads (Of p) h = phrase_leads p h
   item_leads (Text t) h = constant_leads t h
   item_leads (Loop is x a b c) h =
       subst (λ t. Leads After Start (item_text (Loop is x a b c)) (words.Open ∷ t))
-      (append_assoc (written_items is) (words.Comma ∷ (words.Name x ∷ (words.Equals ∷ written_bounds a b c))) (words.Close ∷ []))
+      (append_assoc (written_items90 is) (words.Comma ∷ (words.Name x ∷ (words.Equals ∷ written_bounds90 a b c))) (words.Close ∷ []))
       (join open_word (join (join (items_lead is h.0) (join comma_word (bounds_lead Start tt x a b c h.1 h.2 h.3 h.4))) close_word))
 
-  pub items_lead : (is : ItemPhrases) → ItemsAreWorded is → Leads After Start (items_text is) (written_items is)
+  pub items_lead : (is : ItemPhrases90) → ItemsAreWorded is → Leads After Start (items_text is) (written_items90 is)
   items_lead (Sole i) h = item_leads i h
   items_lead (More is i) h = join (items_lead is h.0) (join comma_word (item_leads i h.1))
 
 -- ---- what is printed for items
 
-abbrev pub ItemsAreGood : Direction → ItemPhrases → Type 0
-ItemsAreGood d is = AreItems d is × ItemsAreWorded is
+abbrev pub ItemsAreGood : Direction → ItemPhrases90 → Type 0
+ItemsAreGood d is = AreItems90 d is × ItemsAreWorded is
 
-abbrev ItemIsGood : Direction → ItemPhrase → Type 0
-ItemIsGood d i = IsItem d i × ItemIsWorded i
+abbrev ItemIsGood : Direction → ItemPhrase90 → Type 0
+ItemIsGood d i = IsItem90 d i × ItemIsWorded i
 
-abbrev pub StepIsGood : Option Phrase → Type 0
-StepIsGood c = IsStep c × StepIsWorded c
+abbrev pub StepIsGood : Option Phrase90 → Type 0
+StepIsGood c = IsStep90 c × StepIsWorded c
 
 pub step_good : (e : Expression) → IsGood (phrase_of e) → StepIsGood (step_phrase e)
 step_good e h = cond_both (is_one e) None (Some (phrase_of e)) StepIsGood (λ k. (tt, tt)) (λ k. h)
 
-loop_good : (d : Direction) (is : ItemPhrases) (x : List ℕ) (a b : Phrase) (c : Option Phrase) → ItemsAreGood d is → IsName x → IsGood a → IsGood b → StepIsGood c → ItemIsGood d (Loop is x a b c)
+loop_good : (d : Direction) (is : ItemPhrases90) (x : List ℕ) (a b : Phrase90) (c : Option Phrase90) → ItemsAreGood d is → IsName90 x → IsGood a → IsGood b → StepIsGood c → ItemIsGood d (Loop is x a b c)
 loop_good d is x a b c h n k l m = ((h.0, k.0, l.0, m.0), (h.1, n, k.1, l.1, m.1))
 
 -- a subscript of rank 0 isn't a section
-plain_part : (ps : Parts) (s : Subscript) → AreValues ps → (ds : List Declaration) → rank_of_subscript ds s ≡ 0 → AreValues (Then ps (part_of s))
+plain_part : (ps : ListParts) (s : Subscript) → AreValues ps → (ds : List Declaration) → rank_of_subscript ds s ≡ 0 → AreValues (Then ps (list_part_of s))
 plain_part ps (tree.Only e) h ds k = h
 plain_part ps (tree.Section a b c) h ds k = absurd (omega arith)
 
-first_part : (s : Subscript) (ds : List Declaration) → rank_of_subscript ds s ≡ 0 → AreValues (One (part_of s))
+first_part : (s : Subscript) (ds : List Declaration) → rank_of_subscript ds s ≡ 0 → AreValues (One (list_part_of s))
 first_part (tree.Only e) ds k = tt
 first_part (tree.Section a b c) ds k = absurd (omega arith)
 
-plain_parts : (ps : Parts) (ss : Subscripts) → AreValues ps → (ds : List Declaration) → rank_of_subscripts ds ss ≡ 0 → AreValues (more_parts ps ss)
+plain_parts : (ps : ListParts) (ss : Subscripts) → AreValues ps → (ds : List Declaration) → rank_of_subscripts ds ss ≡ 0 → AreValues (more_parts ps ss)
 plain_parts ps tree.no_subscripts h ds k = h
-plain_parts ps (tree.subscript s ss) h ds k = plain_parts (Then ps (part_of s)) ss (plain_part ps s h ds (omega arith)) ds (omega arith)
+plain_parts ps (tree.subscript s ss) h ds k = plain_parts (Then ps (list_part_of s)) ss (plain_part ps s h ds (omega arith)) ds (omega arith)
 
 variable : (x : List ℕ) (ss : Subscripts) (ds : List Declaration) → rank_of_subscripts ds ss ≡ 0 → IsVariable (phrase_of (tree.Named x ss))
 variable x tree.no_subscripts ds h = tt
-variable x (tree.subscript s ss) ds h = plain_parts (One (part_of s)) ss (first_part s ds (omega arith)) ds (omega arith)
+variable x (tree.subscript s ss) ds h = plain_parts (One (list_part_of s)) ss (first_part s ds (omega arith)) ds (omega arith)
 
 module _ (ds : List Declaration) (names : AllByRecursion IsDeclaration ds) where
   some_good : (e : Expression) → HasSomeKind ds e → IsGood (phrase_of e)
@@ -170,7 +171,7 @@ module _ (ds : List Declaration) (names : AllByRecursion IsDeclaration ds) where
         (more_output (Sole (item_phrase i)) is (x ∷ w) (output_good i (x ∷ w) h.5.0) h.5.1)
         (declared_name ds x _ names h.1.integer) (good ds names a Integer h.2.0) (good ds names b Integer h.3.0) (step_good c (good ds names c Integer h.4.0))
 
-    more_output : (ps : ItemPhrases) (is : Items) (around : List (List ℕ)) → ItemsAreGood Output ps → AreOutputItems ds is around → ItemsAreGood Output (more_items ps is)
+    more_output : (ps : ItemPhrases90) (is : Items) (around : List (List ℕ)) → ItemsAreGood Output ps → AreOutputItems ds is around → ItemsAreGood Output (more_items ps is)
     more_output ps tree.no_items w g h = g
     more_output ps (tree.item i is) w g h = let k = output_good i w h.0 in more_output (More ps (item_phrase i)) is w ((g.0, k.0), (g.1, k.1)) h.1
 
@@ -186,7 +187,7 @@ module _ (ds : List Declaration) (names : AllByRecursion IsDeclaration ds) where
         (more_input (Sole (item_phrase i)) is (x ∷ w) (input_good i (x ∷ w) h.5.0) h.5.1)
         (declared_name ds x _ names h.1.integer) (good ds names a Integer h.2.0) (good ds names b Integer h.3.0) (step_good c (good ds names c Integer h.4.0))
 
-    more_input : (ps : ItemPhrases) (is : Items) (around : List (List ℕ)) → ItemsAreGood Input ps → AreInputItems ds is around → ItemsAreGood Input (more_items ps is)
+    more_input : (ps : ItemPhrases90) (is : Items) (around : List (List ℕ)) → ItemsAreGood Input ps → AreInputItems ds is around → ItemsAreGood Input (more_items ps is)
     more_input ps tree.no_items w g h = g
     more_input ps (tree.item i is) w g h = let k = input_good i w h.0 in more_input (More ps (item_phrase i)) is w ((g.0, k.0), (g.1, k.1)) h.1
 

@@ -25,41 +25,42 @@ use Rattle.meaning.specs.SymbolicNames.{IsLongName, is_letter}
 use Rattle.meaning.specs.Profile90.{IsDeclaration}
 use Rattle.meaning.specs.Typed.{declared, number_of_arguments, IsLiteral}
 use Rattle.meaning.specs.Typed90.{HasKind, AreArguments, AreScalars, AreSubscripts, IsSubscript, AreLoops}
-use Rattle.f90_grammar.specs.Words.{IsName, IsDigits, Pass, is_digit, goes_on}
-use Rattle.f90_grammar.specs.Phrases.{Phrase, Paren, Joined, Value, Part, Parts, One, Then, Phrases, Sole, More, Turn, Innermost, Round, level, begins_with_sign, IsExpression, IsPart, AreParts, AreExpressions, IsTurn}
-use Rattle.f90_grammar.specs.Printing.{fit, unary_phrase, digits_of, is_one, section, phrase_of, part_of, more_parts, more_arguments, more_values, rounds}
+use Rattle.f90_grammar.specs.Words.{IsName90, goes_on90}
+use Rattle.reading.specs.Characters.{IsDigits, Pass, is_digit}
+use Rattle.f90_grammar.specs.Phrases.{Phrase90, Paren, Joined, Value, ListPart, ListParts, One, Then, Phrases90, Sole, More, Turn, Innermost, Round, phrase_level90, begins_with_sign90, IsExpression90, IsPart, AreParts, AreExpressions90, IsTurn}
+use Rattle.f90_grammar.specs.Printing.{fit, unary_phrase, digits_of, is_one, section_part, phrase_of, list_part_of, more_parts, more_arguments, more_values, rounds}
 use Rattle.f90_laws.proofs.printed.PhraseWords.{IsWorded, PartIsWorded, PartsAreWorded, ValuesAreWorded, TurnIsWorded}
 
 -- ---- names and numbers
 
-name_goes_on : (c : ℕ) → (is_letter c || is_digit c || c == 95) ≡ true → goes_on c ≡ true
+name_goes_on : (c : ℕ) → (is_letter c || is_digit c || c == 95) ≡ true → goes_on90 c ≡ true
 name_goes_on c h = grind (arith, nat_tests)
 
-name_passes : (cs : List ℕ) → list_all (λ c. is_letter c || is_digit c || c == 95) cs ≡ true → Pass goes_on cs
+name_passes : (cs : List ℕ) → list_all (λ c. is_letter c || is_digit c || c == 95) cs ≡ true → Pass goes_on90 cs
 name_passes [] h = tt
 name_passes (c ∷ cs) h = let k = and_parts (is_letter c || is_digit c || c == 95) (list_all (λ c. is_letter c || is_digit c || c == 95) cs) h in (name_goes_on c k.0, name_passes cs k.1)
 
-pub long_name : (x : List ℕ) → IsLongName x → IsName x
+pub long_name : (x : List ℕ) → IsLongName x → IsName90 x
 long_name [] h = let e = h.begins in absurd cc
 long_name (c ∷ cs) h =
     let within : length (c ∷ cs) ≤ 31 = h.within in
     (h.begins, name_passes cs (and_parts (is_letter c || is_digit c || c == 95) (list_all (λ c. is_letter c || is_digit c || c == 95) cs) h.goes_on).1, omega arith)
 
-passes_test : (cs : List ℕ) → list_all goes_on cs ≡ true → Pass goes_on cs
+passes_test : (cs : List ℕ) → list_all goes_on90 cs ≡ true → Pass goes_on90 cs
 passes_test [] h = tt
-passes_test (c ∷ cs) h = let k = and_parts (goes_on c) (list_all goes_on cs) h in (k.0, passes_test cs k.1)
+passes_test (c ∷ cs) h = let k = and_parts (goes_on90 c) (list_all goes_on90 cs) h in (k.0, passes_test cs k.1)
 
 -- of texts that are written out
-pub text_name : (c : ℕ) (cs : List ℕ) → is_letter c ≡ true → list_all goes_on cs ≡ true → nat_le (length cs) 30 ≡ true → IsName (c ∷ cs)
+pub text_name : (c : ℕ) (cs : List ℕ) → is_letter c ≡ true → list_all goes_on90 cs ≡ true → nat_le (length cs) 30 ≡ true → IsName90 (c ∷ cs)
 text_name c cs h g k = (h, passes_test cs g, leb-true (length cs) 30 k)
 
 -- a declared name is a name
-pub declared_name : (ds : List Declaration) (x : List ℕ) (P : Declaration → Type 0) → AllByRecursion IsDeclaration ds → IsSomeAnd (declared ds x) P → IsName x
+pub declared_name : (ds : List Declaration) (x : List ℕ) (P : Declaration → Type 0) → AllByRecursion IsDeclaration ds → IsSomeAnd (declared ds x) P → IsName90 x
 declared_name [] x P h g = absurd g
 declared_name (d ∷ ds) x P h g = by (bytes_eq d.name x) refl (declared_name ds x P h.1) g
   where
-    by : (b : Bool) → bytes_eq d.name x ≡ b → (IsSomeAnd (declared ds x) P → IsName x) → IsSomeAnd (cond b (Some d) (declared ds x)) P → IsName x
-    by true e more k = subst IsName ((bytes_eq-Decides d.name x).0 e) (long_name d.name h.0.name)
+    by : (b : Bool) → bytes_eq d.name x ≡ b → (IsSomeAnd (declared ds x) P → IsName90 x) → IsSomeAnd (cond b (Some d) (declared ds x)) P → IsName90 x
+    by true e more k = subst IsName90 ((bytes_eq-Decides d.name x).0 e) (long_name d.name h.0.name)
     by false e more k = more k
 
 digit : (n : ℕ) → n < 10 → is_digit (48 + n) ≡ true
@@ -80,42 +81,42 @@ literal_digits : (n : ℤ) → IsLiteral n → IsDigits (digits_of n)
 literal_digits (pos n) h = decimal_digits n h
 literal_digits (negsuc n) h = absurd h
 
-function_name : (f : Fun) → IsName (name_of_function f)
+function_name : (f : Fun) → IsName90 (name_of_function f)
 function_name Abs = text_name 65 (codes "BS") refl refl refl
 function_name Mod = text_name 77 (codes "OD") refl refl refl
 function_name Max = text_name 77 (codes "AX") refl refl refl
 function_name Min = text_name 77 (codes "IN") refl refl refl
 
-reduction_name : (r : Red) → IsName (name_of_reduction r)
+reduction_name : (r : Red) → IsName90 (name_of_reduction r)
 reduction_name Sum = text_name 83 (codes "UM") refl refl refl
 reduction_name MaxVal = text_name 77 (codes "AXVAL") refl refl refl
 reduction_name MinVal = text_name 77 (codes "INVAL") refl refl refl
 
 -- ---- phrases that are expressions and whose names are names
 
-abbrev pub IsGood : Phrase → Type 0
-IsGood p = IsExpression p × IsWorded p
+abbrev pub IsGood : Phrase90 → Type 0
+IsGood p = IsExpression90 p × IsWorded p
 
-abbrev PartIsGood : Part → Type 0
+abbrev PartIsGood : ListPart → Type 0
 PartIsGood p = IsPart p × PartIsWorded p
 
-abbrev PartsAreGood : Parts → Type 0
+abbrev PartsAreGood : ListParts → Type 0
 PartsAreGood ps = AreParts ps × PartsAreWorded ps
 
-abbrev ValuesAreGood : Phrases → Type 0
-ValuesAreGood ps = AreExpressions ps × ValuesAreWorded ps
+abbrev ValuesAreGood : Phrases90 → Type 0
+ValuesAreGood ps = AreExpressions90 ps × ValuesAreWorded ps
 
 abbrev TurnIsGood : Turn → Type 0
 TurnIsGood t = IsTurn t × TurnIsWorded t
 
-fit_good : (n : ℕ) (p : Phrase) → IsGood p → IsGood (fit n p)
-fit_good n p h = cond_both (nat_le n (level p)) p (Paren p) IsGood (λ e. h) (λ e. h)
+fit_good : (n : ℕ) (p : Phrase90) → IsGood p → IsGood (fit n p)
+fit_good n p h = cond_both (nat_le n (phrase_level90 p)) p (Paren p) IsGood (λ e. h) (λ e. h)
 
-fit_level : (n : ℕ) (p : Phrase) → n ≤ 10 → n ≤ level (fit n p)
-fit_level n p h = cond_both (nat_le n (level p)) p (Paren p) (λ q. n ≤ level q) (λ e. leb-true n (level p) e) (λ e. h)
+fit_level : (n : ℕ) (p : Phrase90) → n ≤ 10 → n ≤ phrase_level90 (fit n p)
+fit_level n p h = cond_both (nat_le n (phrase_level90 p)) p (Paren p) (λ q. n ≤ phrase_level90 q) (λ e. leb-true n (phrase_level90 p) e) (λ e. h)
 
-fit_unsigned : (n : ℕ) (p : Phrase) → begins_with_sign p ≡ false → begins_with_sign (fit n p) ≡ false
-fit_unsigned n p h = cond_both (nat_le n (level p)) p (Paren p) (λ q. begins_with_sign q ≡ false) (λ e. h) (λ e. refl)
+fit_unsigned : (n : ℕ) (p : Phrase90) → begins_with_sign90 p ≡ false → begins_with_sign90 (fit n p) ≡ false
+fit_unsigned n p h = cond_both (nat_le n (phrase_level90 p)) p (Paren p) (λ q. begins_with_sign90 q ≡ false) (λ e. h) (λ e. refl)
 
 left_within : (o : Op) → left_least o ≤ 10
 left_within Pow = omega arith
@@ -125,7 +126,7 @@ right_within : (o : Op) → right_least o ≤ 10
 right_within Pow = omega arith
 right_within o = omega arith
 
-section_good : (t : Bool) (a b c : Phrase) → IsGood a → IsGood b → IsGood c → PartIsGood (section t a b c)
+section_good : (t : Bool) (a b c : Phrase90) → IsGood a → IsGood b → IsGood c → PartIsGood (section_part t a b c)
 section_good true a b c h g k = ((h.0, g.0), (h.1, g.1))
 section_good false a b c h g k = ((h.0, g.0, k.0), (h.1, g.1, k.1))
 
@@ -140,9 +141,9 @@ may Eqv true h = let e = h refl in absurd cc
 may Neqv true h = let e = h refl in absurd cc
 may o true h = refl
 
-unary_good : (o : Op) (p : Phrase) → IsTrue (is_unary o) → (operand_kind o ≡ Logical → begins_with_sign p ≡ false) → IsGood p → IsGood (unary_phrase o p)
-unary_good Neg p h s g = let f = fit_good 8 p g in ((fit_level 8 p (omega arith), may Sub (begins_with_sign (fit 8 p)) (λ e. absurd cc), f.0), f.1)
-unary_good Not p h s g = let f = fit_good 6 p g in ((fit_level 6 p (omega arith), may Not (begins_with_sign (fit 6 p)) (λ e. fit_unsigned 6 p (s refl)), f.0), f.1)
+unary_good : (o : Op) (p : Phrase90) → IsTrue (is_unary o) → (operand_kind o ≡ Logical → begins_with_sign90 p ≡ false) → IsGood p → IsGood (unary_phrase o p)
+unary_good Neg p h s g = let f = fit_good 8 p g in ((fit_level 8 p (omega arith), may Sub (begins_with_sign90 (fit 8 p)) (λ e. absurd cc), f.0), f.1)
+unary_good Not p h s g = let f = fit_good 6 p g in ((fit_level 6 p (omega arith), may Not (begins_with_sign90 (fit 6 p)) (λ e. fit_unsigned 6 p (s refl)), f.0), f.1)
 unary_good o p h s g = absurd cc
 
 between : (o : Op) → IsTrue (not (is_unary o)) → IsTrue (stands_between o)
@@ -150,7 +151,7 @@ between Neg h = cc
 between Not h = cc
 between o h = refl
 
-joined_unsigned : (o : Op) (p q : Phrase) → Logical ≡ result_kind_of o → IsTrue (not (is_unary o)) → (operand_kind o ≡ Logical → begins_with_sign p ≡ false) → begins_with_sign (Joined o p q) ≡ false
+joined_unsigned : (o : Op) (p q : Phrase90) → Logical ≡ result_kind_of o → IsTrue (not (is_unary o)) → (operand_kind o ≡ Logical → begins_with_sign90 p ≡ false) → begins_with_sign90 (Joined o p q) ≡ false
 joined_unsigned Lt p q k h s = refl
 joined_unsigned Le p q k h s = refl
 joined_unsigned Eq p q k h s = refl
@@ -165,7 +166,7 @@ joined_unsigned Not p q k h s = absurd cc
 joined_unsigned o p q k h s = absurd cc
 
 module _ (ds : List Declaration) where
-  unsigned : (e : Expression) → HasKind ds e Logical → begins_with_sign (phrase_of e) ≡ false
+  unsigned : (e : Expression) → HasKind ds e Logical → begins_with_sign90 (phrase_of e) ≡ false
   unsigned (tree.Number n) h = let e : Logical ≡ Integer = h.1 in absurd cc
   unsigned (tree.Logic b) h = refl
   unsigned (tree.Named x tree.no_subscripts) h = refl
@@ -195,7 +196,7 @@ module _ (ds : List Declaration) (names : AllByRecursion IsDeclaration ds) where
     good (tree.Logic b) k h = (tt, tt)
     good (tree.Named x tree.no_subscripts) k h = (tt, declared_name ds x _ names h.0)
     good (tree.Named x (tree.subscript s ss)) k h =
-        let g = parts_good (One (part_of s)) ss (part_good s h.1.0) h.1.1 in
+        let g = parts_good (One (list_part_of s)) ss (part_good s h.1.0) h.1.1 in
         (g.0, (declared_name ds x _ names h.0, g.1))
     good (tree.Unary o a) k h =
         unary_good o (phrase_of a) h.0 (λ e. unsigned ds a (subst (HasKind ds a) e h.2)) (good a (operand_kind o) h.2)
@@ -206,7 +207,7 @@ module _ (ds : List Declaration) (names : AllByRecursion IsDeclaration ds) where
             between o h.0,
             fit_level (left_least o) (phrase_of a) (left_within o),
             fit_level (right_least o) (phrase_of b) (right_within o),
-            may o (begins_with_sign (fit (right_least o) (phrase_of b))) (λ e. fit_unsigned (right_least o) (phrase_of b) (unsigned ds b (subst (HasKind ds b) e h.3))),
+            may o (begins_with_sign90 (fit (right_least o) (phrase_of b))) (λ e. fit_unsigned (right_least o) (phrase_of b) (unsigned ds b (subst (HasKind ds b) e h.3))),
             l.0,
             r.0,
           ),
@@ -237,21 +238,21 @@ module _ (ds : List Declaration) (names : AllByRecursion IsDeclaration ds) where
         ((p.0, v.0), (text_name 82 (codes "ESHAPE") refl refl refl, (p.1, v.1)))
     good (tree.Reduce r a) k h = let p = good a Integer h.3 in (p.0, (reduction_name r, p.1))
 
-    part_good : (s : Subscript) → IsSubscript ds s → PartIsGood (part_of s)
+    part_good : (s : Subscript) → IsSubscript ds s → PartIsGood (list_part_of s)
     part_good (tree.Only e) h = good e Integer h.0
     part_good (tree.Section a b c) h =
         section_good (is_one c) (phrase_of a) (phrase_of b) (phrase_of c) (good a Integer h.0.0) (good b Integer h.1.0) (good c Integer h.2.0)
 
-    parts_good : (ps : Parts) (ss : Subscripts) → PartsAreGood ps → AreSubscripts ds ss → PartsAreGood (more_parts ps ss)
+    parts_good : (ps : ListParts) (ss : Subscripts) → PartsAreGood ps → AreSubscripts ds ss → PartsAreGood (more_parts ps ss)
     parts_good ps tree.no_subscripts g h = g
-    parts_good ps (tree.subscript s ss) g h = let p = part_good s h.0 in parts_good (Then ps (part_of s)) ss ((g.0, p.0), (g.1, p.1)) h.1
+    parts_good ps (tree.subscript s ss) g h = let p = part_good s h.0 in parts_good (Then ps (list_part_of s)) ss ((g.0, p.0), (g.1, p.1)) h.1
 
-    arguments_good : (ps : Parts) (es : Expressions) → PartsAreGood ps → AreArguments ds es → PartsAreGood (more_arguments ps es)
+    arguments_good : (ps : ListParts) (es : Expressions) → PartsAreGood ps → AreArguments ds es → PartsAreGood (more_arguments ps es)
     arguments_good ps tree.no_expressions g h = g
     arguments_good ps (tree.expression e es) g h =
         let p = good e Integer h.0 in arguments_good (Then ps (Value (phrase_of e))) es ((g.0, p.0), (g.1, p.1)) h.2
 
-    values_good : (ps : Phrases) (es : Expressions) (k : Kind) → ValuesAreGood ps → AreScalars ds es k → ValuesAreGood (more_values ps es)
+    values_good : (ps : Phrases90) (es : Expressions) (k : Kind) → ValuesAreGood ps → AreScalars ds es k → ValuesAreGood (more_values ps es)
     values_good ps tree.no_expressions k g h = g
     values_good ps (tree.expression e es) k g h =
         let p = good e k h.0.0 in values_good (More ps (phrase_of e)) es k ((g.0, p.0), (g.1, p.1)) h.1

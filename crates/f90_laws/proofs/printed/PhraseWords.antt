@@ -4,8 +4,10 @@ use Rattle.tree.specs.declared.ops.Op.{Op}
 use Rattle.tree.specs.declared.ops.Op.TheVariants.{Pow, Mul, Div, Neg, Add, Sub, Lt, Le, Eq, Ne, Gt, Ge, Not, And, Or, Eqv, Neqv}
 use Rattle.tree.specs.OperatorTable.{Sign, Plus, Minus, Negation, stands_between, spelling90_of}
 use Rattle.f90_grammar.specs.Words as words
-use Rattle.f90_grammar.specs.Words.{Word, Symbol, Char, IsName, IsDigits, truth_text}
-use Rattle.f90_grammar.specs.Phrases.{Phrase, Literal, Truth, Name, Listed, Paren, Signed, Joined, Values, Looped, Part, Value, Range, Strided, Parts, One, Then, Phrases, Sole, More, Turn, Innermost, Round, sign_word, written, written_part, written_parts, written_values, written_turn}
+use Rattle.f90_grammar.specs.Words.{Word90, Symbol90, Char, IsName90, truth_text}
+use Rattle.reading.specs.Characters.{IsDigits}
+use Rattle.reading.specs.Signs.{sign_word}
+use Rattle.f90_grammar.specs.Phrases.{Phrase90, Literal, Truth, Name, Listed, Paren, Signed, Joined, Values, Looped, ListPart, Value, Range, Strided, ListParts, One, Then, Phrases90, Sole, More, Turn, Innermost, Round, written90, written_part, written_parts, written_values, written_turn}
 use Rattle.f90_grammar.specs.PrintedText.{sign_text, phrase_text, part_text, parts_text, values_text, turn_text, in_parentheses, comma, loop_text}
 use Rattle.f90_laws.proofs.printed.Spelling.{Place, Start, Named, After, Leads, IsFirst, join, inside, word, start_blank, after_blank, comma_word, colon_word, open_word, close_word, open_list, close_list, equals_word, name_word, digits_word, head_word, stops_too, joint_41, joint_42, joint_61, no_open, is_joint}
 use Rattle.std.proofs.lemmas.Bool.{or_from}
@@ -13,43 +15,43 @@ use Rattle.std.proofs.lemmas.Bool.{or_from}
 -- ---- phrases whose names are names and whose literals are digits
 
 abbrev mutual
-  pub IsWorded : Phrase → Type 0
+  pub IsWorded : Phrase90 → Type 0
   IsWorded (Literal t) = IsDigits t
   IsWorded (Truth b) = Unit {0}
-  IsWorded (Name x) = IsName x
-  IsWorded (Listed x ps) = IsName x × PartsAreWorded ps
+  IsWorded (Name x) = IsName90 x
+  IsWorded (Listed x ps) = IsName90 x × PartsAreWorded ps
   IsWorded (Paren p) = IsWorded p
   IsWorded (Signed s p) = IsWorded p
   IsWorded (Joined o a b) = IsTrue (stands_between o) × IsWorded a × IsWorded b
   IsWorded (Values ps) = ValuesAreWorded ps
   IsWorded (Looped t) = TurnIsWorded t
 
-  pub PartIsWorded : Part → Type 0
+  pub PartIsWorded : ListPart → Type 0
   PartIsWorded (Value p) = IsWorded p
   PartIsWorded (Range a b) = IsWorded a × IsWorded b
   PartIsWorded (Strided a b c) = IsWorded a × IsWorded b × IsWorded c
 
-  pub PartsAreWorded : Parts → Type 0
+  pub PartsAreWorded : ListParts → Type 0
   PartsAreWorded (One p) = PartIsWorded p
   PartsAreWorded (Then ps p) = PartsAreWorded ps × PartIsWorded p
 
-  pub ValuesAreWorded : Phrases → Type 0
+  pub ValuesAreWorded : Phrases90 → Type 0
   ValuesAreWorded (Sole p) = IsWorded p
   ValuesAreWorded (More ps p) = ValuesAreWorded ps × IsWorded p
 
   pub TurnIsWorded : Turn → Type 0
-  TurnIsWorded (Innermost p x a b) = IsWorded p × IsName x × IsWorded a × IsWorded b
-  TurnIsWorded (Round t x a b) = TurnIsWorded t × IsName x × IsWorded a × IsWorded b
+  TurnIsWorded (Innermost p x a b) = IsWorded p × IsName90 x × IsWorded a × IsWorded b
+  TurnIsWorded (Round t x a b) = TurnIsWorded t × IsName90 x × IsWorded a × IsWorded b
 
 -- ---- operators
 
-operator : (p : Place) (w : Word) (cs : List ℕ) → Leads Start Named cs (w ∷ []) → Leads p After (codes " " ++ (cs ++ codes " ")) (w ∷ [])
+operator : (p : Place) (w : Word90) (cs : List ℕ) → Leads Start Named cs (w ∷ []) → Leads p After (codes " " ++ (cs ++ codes " ")) (w ∷ [])
 operator p w cs l = join after_blank (join l start_blank)
 
-unjoint_slash : (c : ℕ) → is_joint c ≡ false → words.Whole (words.Operator Div) (Char c ∷ [])
+unjoint_slash : (c : ℕ) → is_joint c ≡ false → words.IsWhole90 (words.Operator Div) (Char c ∷ [])
 unjoint_slash c h = or_from _ _ (joint_61 c h) (joint_41 c h)
 
-stops : (q : ℕ → Bool) → ((c : ℕ) → is_joint c ≡ false → q c ≡ false) → (ss : List Symbol) → words.Stops is_joint ss → words.Stops q ss
+stops : (q : ℕ → Bool) → ((c : ℕ) → is_joint c ≡ false → q c ≡ false) → (ss : List Symbol90) → words.Stops90 is_joint ss → words.Stops90 q ss
 stops q f ss h = stops_too is_joint q f ss h
 
 between : (p : Place) (o : Op) → IsTrue (stands_between o) → Leads p After (codes " " ++ (spelling90_of o ++ codes " ")) (words.Operator o ∷ [])
@@ -85,15 +87,15 @@ truth_leads false = word After Start (words.Truth false) (codes ".FALSE.") refl 
 joined_text : (a o b : List ℕ) → a ++ ((codes " " ++ (o ++ codes " ")) ++ b) ≡ a ++ (32 ∷ (o ++ (32 ∷ b)))
 joined_text a o b = ap (λ t. a ++ (32 ∷ t)) (append_assoc o (codes " ") b)
 
-pub loop_leads : {p : Place} {a b : List ℕ} {us vs : List Word} → (q : Place) → IsFirst q → (x : List ℕ) → IsName x → Leads After Start a us → Leads p Start b vs
+pub loop_leads : {p : Place} {a b : List ℕ} {us vs : List Word90} → (q : Place) → IsFirst q → (x : List ℕ) → IsName90 x → Leads After Start a us → Leads p Start b vs
     → Leads p q (loop_text x a b) (words.Name x ∷ (words.Equals ∷ (us ++ words.Comma ∷ vs)))
 loop_leads q f x h a b = join (name_word q f x h) (join equals_word (join a (join comma_word b)))
 
-turn_words : (p a b : List Word) (x : List ℕ) → (p ++ words.Comma ∷ (words.Name x ∷ (words.Equals ∷ (a ++ words.Comma ∷ b)))) ++ words.Close ∷ []
+turn_words : (p a b : List Word90) (x : List ℕ) → (p ++ words.Comma ∷ (words.Name x ∷ (words.Equals ∷ (a ++ words.Comma ∷ b)))) ++ words.Close ∷ []
     ≡ p ++ words.Comma ∷ (words.Name x ∷ (words.Equals ∷ (a ++ words.Comma ∷ (b ++ words.Close ∷ []))))
 turn_words p a b x = append_assoc p _ _ ∙ ap (λ t. p ++ words.Comma ∷ (words.Name x ∷ (words.Equals ∷ t))) (append_assoc a (words.Comma ∷ b) _)
 
-turn_leads_with : (p : List ℕ) (us : List Word) (x a b : List ℕ) (vs ws : List Word) → Leads After Start p us → IsName x → Leads After Start a vs → Leads After Start b ws
+turn_leads_with : (p : List ℕ) (us : List Word90) (x a b : List ℕ) (vs ws : List Word90) → Leads After Start p us → IsName90 x → Leads After Start a vs → Leads After Start b ws
     → Leads After Start (in_parentheses (p ++ (comma ++ loop_text x a b)))
     (words.Open ∷ (us ++ words.Comma ∷ (words.Name x ∷ (words.Equals ∷ (vs ++ words.Comma ∷ (ws ++ words.Close ∷ []))))))
 turn_leads_with p us x a b vs ws k h l m =
@@ -101,7 +103,7 @@ turn_leads_with p us x a b vs ws k h l m =
     (join open_word (join (join k (join comma_word (loop_leads Start tt x h l m))) close_word))
 
 mutual
-  pub phrase_leads : (p : Phrase) → IsWorded p → Leads After Start (phrase_text p) (written p)
+  pub phrase_leads : (p : Phrase90) → IsWorded p → Leads After Start (phrase_text p) (written90 p)
   phrase_leads (Literal t) h = digits_word Start tt t h
   phrase_leads (Truth b) h = truth_leads b
   phrase_leads (Name x) h = name_word Start tt x h
@@ -109,26 +111,26 @@ mutual
   phrase_leads (Paren p) h = join open_word (join (phrase_leads p h) close_word)
   phrase_leads (Signed s p) h = join (sign_leads s) (phrase_leads p h)
   phrase_leads (Joined o a b) h =
-      subst (λ t. Leads After Start t (written a ++ words.Operator o ∷ written b)) (joined_text (phrase_text a) (spelling90_of o) (phrase_text b))
+      subst (λ t. Leads After Start t (written90 a ++ words.Operator o ∷ written90 b)) (joined_text (phrase_text a) (spelling90_of o) (phrase_text b))
       (join (phrase_leads a h.1) (join (between Start o h.0) (phrase_leads b h.2)))
   phrase_leads (Values ps) h = join open_list (join (values_lead ps h) close_list)
   phrase_leads (Looped t) h = join open_list (join (turn_leads t h) close_list)
 
-  part_leads : (p : Part) → PartIsWorded p → Leads After Start (part_text p) (written_part p)
+  part_leads : (p : ListPart) → PartIsWorded p → Leads After Start (part_text p) (written_part p)
   part_leads (Value p) h = phrase_leads p h
   part_leads (Range a b) h = join (phrase_leads a h.0) (join colon_word (phrase_leads b h.1))
   part_leads (Strided a b c) h = join (phrase_leads a h.0) (join colon_word (join (phrase_leads b h.1) (join colon_word (phrase_leads c h.2))))
 
-  parts_lead : (ps : Parts) → PartsAreWorded ps → Leads After Start (parts_text ps) (written_parts ps)
+  parts_lead : (ps : ListParts) → PartsAreWorded ps → Leads After Start (parts_text ps) (written_parts ps)
   parts_lead (One p) h = part_leads p h
   parts_lead (Then ps p) h = join (parts_lead ps h.0) (join comma_word (part_leads p h.1))
 
-  values_lead : (ps : Phrases) → ValuesAreWorded ps → Leads After Start (values_text ps) (written_values ps)
+  values_lead : (ps : Phrases90) → ValuesAreWorded ps → Leads After Start (values_text ps) (written_values ps)
   values_lead (Sole p) h = phrase_leads p h
   values_lead (More ps p) h = join (values_lead ps h.0) (join comma_word (phrase_leads p h.1))
 
   turn_leads : (t : Turn) → TurnIsWorded t → Leads After Start (turn_text t) (written_turn t)
   turn_leads (Innermost p x a b) h =
-      turn_leads_with (phrase_text p) (written p) x (phrase_text a) (phrase_text b) (written a) (written b) (phrase_leads p h.0) h.1 (phrase_leads a h.2) (phrase_leads b h.3)
+      turn_leads_with (phrase_text p) (written90 p) x (phrase_text a) (phrase_text b) (written90 a) (written90 b) (phrase_leads p h.0) h.1 (phrase_leads a h.2) (phrase_leads b h.3)
   turn_leads (Round t x a b) h =
-      turn_leads_with (turn_text t) (written_turn t) x (phrase_text a) (phrase_text b) (written a) (written b) (turn_leads t h.0) h.1 (phrase_leads a h.2) (phrase_leads b h.3)
+      turn_leads_with (turn_text t) (written_turn t) x (phrase_text a) (phrase_text b) (written90 a) (written90 b) (turn_leads t h.0) h.1 (phrase_leads a h.2) (phrase_leads b h.3)

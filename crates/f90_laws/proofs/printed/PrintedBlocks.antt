@@ -10,14 +10,15 @@ use Rattle.meaning.specs.Value.{named}
 use Rattle.meaning.specs.Blocks.{labels_of, Surroundings, before_labels, within_loop}
 use Rattle.meaning.specs.Labels.{all_labels_of, all_labels_in_arms, all_labels_in, IsLabel}
 use Rattle.meaning.specs.Profile90.{IsStatement, AreArms, IsBlock, IsWhole}
-use Rattle.f90_grammar.specs.Phrases.{Phrase, tree_of, value_of_digits}
-use Rattle.f90_grammar.specs.Items.{item_trees}
+use Rattle.f90_grammar.specs.Phrases.{Phrase90, tree_of, value_of_digits}
+use Rattle.f90_grammar.specs.Items.{item_trees90}
 use Rattle.f90_grammar.specs.Forms as forms
 use Rattle.f90_grammar.specs.Printing.{phrase_of}
 use Rattle.f90_grammar.specs.PrintedForms.{unmarked, reference_phrase, phrases_of, item_phrases, printed_statement, printed_block, printed_arms, printed_else}
-use Rattle.f90_grammar.specs.Blocks.{Placed, reference_in, trees}
+use Rattle.f90_grammar.specs.Blocks.{Placed, trees_by}
+use Rattle.reading.specs.Signs.{reference_in}
 use Rattle.f90_grammar.specs.Blocks.IsSimple.{assigns, masks, goes, stops, reads, reads_nothing, prints, prints_nothing, allocates, deallocates}
-use Rattle.f90_grammar.specs.Blocks.AreBlock.{nothing, label}
+use Rattle.f90_grammar.specs.Blocks.AreBlock90.{nothing, label}
 use Rattle.f90_grammar.specs.Reading.{function_by}
 use Rattle.f90_laws.proofs.printed.PrintedBlocksItems.{EachReadsBack, reference_back, scalars_back, step_back, output_back, input_back}
 use Rattle.f90_laws.proofs.printed.PrintedBlocksPlaced.{ArePlaced, divide, ReadBlock, ReadStatement, ReadArms, simple_back, if_back, arm_back, else_back, do_back, behind}
@@ -47,7 +48,7 @@ module _ (ds : List Declaration) (back : EachReadsBack ds) (is_target : ℕ → 
   abbrev IsTarget : ℕ → Type 0
   IsTarget n = is_target n ≡ true
 
-  abbrev tree_in : Phrase → Expression
+  abbrev tree_in : Phrase90 → Expression
   tree_in p = tree_of (function_by ds) p
 
   assigned : (left : Reference) (right : Expression) (o : Option Declaration) → IsSomeAnd o (λ d. IsWhole ds (named left) d.kind × IsWhole ds right d.kind)
@@ -105,7 +106,7 @@ module _ (ds : List Declaration) (back : EachReadsBack ds) (is_target : ℕ → 
         simple_back (function_by ds) is_target (tree.Read line tree.no_items) _ p (λ n. record { statement = tree.Read n tree.no_items; is_simple = reads_nothing n; same = refl })
     statement_back (tree.Read line (tree.item i is)) w h a t ps p =
         simple_back (function_by ds) is_target (tree.Read line (tree.item i is)) _ p (λ n. record {
-          statement = tree.Read n (tree.items (item_trees (function_by ds) (item_phrases (tree.item i is))));
+          statement = tree.Read n (tree.items (item_trees90 (function_by ds) (item_phrases (tree.item i is))));
           is_simple = reads n (item_phrases (tree.item i is));
           same = ap (tree.Read 0) (sym (input_back ds back i is w.variables h.1));
         })
@@ -113,13 +114,13 @@ module _ (ds : List Declaration) (back : EachReadsBack ds) (is_target : ℕ → 
         simple_back (function_by ds) is_target (tree.Print line tree.no_items) _ p (λ n. record { statement = tree.Print n tree.no_items; is_simple = prints_nothing n; same = refl })
     statement_back (tree.Print line (tree.item i is)) w h a t ps p =
         simple_back (function_by ds) is_target (tree.Print line (tree.item i is)) _ p (λ n. record {
-          statement = tree.Print n (tree.items (item_trees (function_by ds) (item_phrases (tree.item i is))));
+          statement = tree.Print n (tree.items (item_trees90 (function_by ds) (item_phrases (tree.item i is))));
           is_simple = prints n (item_phrases (tree.item i is));
           same = ap (tree.Print 0) (sym (output_back ds back i is w.variables h.1));
         })
     statement_back (tree.Allocate line x es) w h a t ps p =
         simple_back (function_by ds) is_target (tree.Allocate line x es) _ p (λ n. record {
-          statement = tree.Allocate n x (tree.expressions (trees tree_in (phrases_of es)));
+          statement = tree.Allocate n x (tree.expressions (trees_by tree_in (phrases_of es)));
           is_simple = allocates n x (phrases_of es);
           same = ap (tree.Allocate 0 x) (sym (scalars_back ds back es Integer h.1.1));
         })

@@ -12,8 +12,8 @@ use Rattle.meaning.specs.Extents.{IsDimension}
 use Rattle.f90_grammar.specs.Phrases.{value_of_digits}
 use Rattle.f90_grammar.specs.Forms as forms
 use Rattle.f90_grammar.specs.PrintedForms.{bound, dimension, dimensions_of, is_allocatable, printed_declaration}
-use Rattle.f90_grammar.specs.Blocks.{Placed, at}
-use Rattle.f90_grammar.specs.Reading.{bound_value, dimension_bounds, extent_of, entity_declaration}
+use Rattle.f90_grammar.specs.Blocks.{Placed, placed_form}
+use Rattle.f90_grammar.specs.Reading.{bound_value, dimension_bounds, extent_of_dimensions, entity_declaration}
 use Rattle.f90_laws.proofs.printed.PrintedBlocksPlaced.{ArePlaced}
 use Rattle.f90_laws.proofs.printed.PrintedBlocksPlaced.ArePlaced.{none, next}
 use Rattle.f90_laws.proofs.printed.PrintedParts.{AreDeclared}
@@ -43,7 +43,7 @@ dimensions_back : (bs : List (ℤ × ℤ)) → AllByRecursion IsDimension bs →
 dimensions_back [] h = refl
 dimensions_back (b ∷ bs) h = ap₂ (λ x xs. x ∷ xs) (dimension_back b h.0) (dimensions_back bs h.1)
 
-extent_back : (e : Extent) → IsExtent e → extent_of (is_allocatable e) (dimensions_of e) ≡ e
+extent_back : (e : Extent) → IsExtent e → extent_of_dimensions (is_allocatable e) (dimensions_of e) ≡ e
 extent_back (Given bs) h = ap Given (dimensions_back bs h.1)
 extent_back (Later n) h = ap Later (length-replicate n forms.Deferred)
 
@@ -54,6 +54,6 @@ declaration_back d h = ap (λ (e : Extent). let r : Declaration = record { name 
 pub declared_back : (ds : List Declaration) → AllByRecursion IsDeclaration ds → (ps : List Placed) → ArePlaced (map printed_declaration ds) ps → AreDeclared ps ds
 declared_back [] h _ none = nothing
 declared_back (d ∷ ds) h _ (next line s {ps = ps} p) =
-    let e : forms.Entity = record { name = d.name; dimensions = dimensions_of d.extent } in
-    subst (λ (x : Declaration). AreDeclared (at line None (forms.Declare d.kind (is_allocatable d.extent) (e ∷ [])) ∷ ps) (x ∷ ds)) (declaration_back d h.0)
+    let e : forms.EntityForm90 = record { name = d.name; dimensions = dimensions_of d.extent } in
+    subst (λ (x : Declaration). AreDeclared (placed_form line None (forms.Declare d.kind (is_allocatable d.extent) (e ∷ [])) ∷ ps) (x ∷ ds)) (declaration_back d h.0)
     (more line d.kind (is_allocatable d.extent) (e ∷ []) ps ds (declared_back ds h.1 ps p))

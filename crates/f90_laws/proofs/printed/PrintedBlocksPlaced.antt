@@ -7,22 +7,22 @@ use Rattle.f90_grammar.specs.Phrases.{tree_of}
 use Rattle.f90_grammar.specs.Forms as forms
 use Rattle.f90_grammar.specs.Printing.{phrase_of}
 use Rattle.f90_grammar.specs.PrintedForms.{Printed, unmarked, step_phrase, printed_statement, printed_block, printed_arms, printed_else, printed_if}
-use Rattle.f90_grammar.specs.Items.{step_tree}
-use Rattle.f90_grammar.specs.Blocks.{Placed, at, IsSimple, AreBlock, AreArms}
-use Rattle.f90_grammar.specs.Blocks.AreBlock.{simple, branch, loop}
-use Rattle.f90_grammar.specs.Blocks.AreArms.{ends, other, further}
+use Rattle.f90_grammar.specs.Items.{step_tree90}
+use Rattle.f90_grammar.specs.Blocks.{Placed, placed_form, IsSimple, AreBlock90, AreArms90}
+use Rattle.f90_grammar.specs.Blocks.AreBlock90.{simple, branch, loop}
+use Rattle.f90_grammar.specs.Blocks.AreArms90.{ends, other, further}
 use Rattle.f90_laws.specs.printed.ReadBack.{without_numbers, arms_without_numbers, block_without_numbers}
 
 -- the statements on any lines, with their marks
 pub data ArePlaced : List Printed → List Placed → Type 0 where
   none : ArePlaced [] []
-  next : (line : ℕ) (s : Printed) {ss : List Printed} {ps : List Placed} → ArePlaced ss ps → ArePlaced (s ∷ ss) (at line s.mark s.form ∷ ps)
+  next : (line : ℕ) (s : Printed) {ss : List Printed} {ps : List Placed} → ArePlaced ss ps → ArePlaced (s ∷ ss) (placed_form line s.mark s.form ∷ ps)
 
 pub data IsDivided (xs ys : List Printed) : List Placed → Type 0 where
   divided : (ps qs : List Placed) → ArePlaced xs ps → ArePlaced ys qs → IsDivided xs ys (ps ++ qs)
 
-longer : (line : ℕ) (s : Printed) {xs ys : List Printed} {ps : List Placed} → IsDivided xs ys ps → IsDivided (s ∷ xs) ys (at line s.mark s.form ∷ ps)
-longer line s (divided ps qs a b) = divided (at line s.mark s.form ∷ ps) qs (next line s a) b
+longer : (line : ℕ) (s : Printed) {xs ys : List Printed} {ps : List Placed} → IsDivided xs ys ps → IsDivided (s ∷ xs) ys (placed_form line s.mark s.form ∷ ps)
+longer line s (divided ps qs a b) = divided (placed_form line s.mark s.form ∷ ps) qs (next line s a) b
 
 pub divide : (xs ys : List Printed) {ps : List Placed} → ArePlaced (xs ++ ys) ps → IsDivided xs ys ps
 divide [] ys {ps} h = divided [] ps none h
@@ -33,19 +33,19 @@ module _ (function : List ℕ → Option Intrinsic) (is_target : ℕ → Bool) w
   -- the statements are those of the block, but for the numbers of lines
   pub record ReadBlock (b : Block) (ps : List Placed) : Type 0 where
     pub block : Block
-    pub are : AreBlock function is_target ps block
+    pub are : AreBlock90 function is_target ps block
     pub same : block_without_numbers b ≡ block_without_numbers block
 
   -- so it is with one statement, whatever follows
   pub record ReadStatement (c : Statement) (ps : List Placed) : Type 0 where
     pub statement : Statement
-    pub are : (rest : List Placed) (b : Block) → AreBlock function is_target rest b → AreBlock function is_target (ps ++ rest) (tree.statement statement b)
+    pub are : (rest : List Placed) (b : Block) → AreBlock90 function is_target rest b → AreBlock90 function is_target (ps ++ rest) (tree.statement statement b)
     pub same : without_numbers c ≡ without_numbers statement
 
   pub record ReadArms (a : Arms) (o : Block) (ps : List Placed) : Type 0 where
     pub arms : Arms
     pub other : Block
-    pub are : AreArms function is_target ps arms other
+    pub are : AreArms90 function is_target ps arms other
     pub same_arms : arms_without_numbers a ≡ arms_without_numbers arms
     pub same_other : block_without_numbers o ≡ block_without_numbers other
 
@@ -53,13 +53,13 @@ module _ (function : List ℕ → Option Intrinsic) (is_target : ℕ → Bool) w
 
   pub record ReadSimple (c : Statement) (s : Printed) (line : ℕ) : Type 0 where
     pub statement : Statement
-    pub is_simple : IsSimple function is_target (at line s.mark s.form) statement
+    pub is_simple : IsSimple function is_target (placed_form line s.mark s.form) statement
     pub same : without_numbers c ≡ without_numbers statement
 
   pub simple_back : (c : Statement) (s : Printed) {ps : List Placed} → ArePlaced (s ∷ []) ps → ((line : ℕ) → ReadSimple c s line) → ReadStatement c ps
   simple_back c _ (next line s none) each = record {
     statement = (each line).statement;
-    are = λ rest b h. simple (at line s.mark s.form) (each line).statement rest b (each line).is_simple h;
+    are = λ rest b h. simple (placed_form line s.mark s.form) (each line).statement rest b (each line).is_simple h;
     same = (each line).same;
   }
 
@@ -69,14 +69,14 @@ module _ (function : List ℕ → Option Intrinsic) (is_target : ℕ → Bool) w
       → ((ps : List Placed) → ArePlaced (printed_block body) ps → ReadBlock body ps)
       → ((ps : List Placed) → ArePlaced (printed_arms more ++ (printed_else o ++ unmarked forms.EndIf ∷ [])) ps → ReadArms more o ps)
       → {ps : List Placed} → IsDivided (printed_block body) (printed_arms more ++ (printed_else o ++ unmarked forms.EndIf ∷ [])) ps
-      → (line : ℕ) → ReadStatement (tree.If line (tree.arm test body more) o) (at n None (forms.If (phrase_of test)) ∷ ps)
+      → (line : ℕ) → ReadStatement (tree.If line (tree.arm test body more) o) (placed_form n None (forms.If (phrase_of test)) ∷ ps)
   if_parts n test body more o e first rest (divided ps qs a b) line =
       let x = first ps a in
       let y = rest qs b in
       record {
         statement = tree.If n (tree.arm (tree_of function (phrase_of test)) x.block y.arms) y.other;
         are = λ (rs : List Placed) (c : Block) h.
-            subst (λ (ts : List Placed). AreBlock function is_target (at n None (forms.If (phrase_of test)) ∷ ts)
+            subst (λ (ts : List Placed). AreBlock90 function is_target (placed_form n None (forms.If (phrase_of test)) ∷ ts)
             (tree.statement (tree.If n (tree.arm (tree_of function (phrase_of test)) x.block y.arms) y.other) c)) (sym (append_assoc ps qs rs))
             (branch n (phrase_of test) ps qs rs x.block y.other c y.arms x.are y.are h);
         same = ap₂ (λ t d. tree.If 0 (tree.arm t d (arms_without_numbers more)) (block_without_numbers o)) (sym e) x.same
@@ -96,7 +96,7 @@ module _ (function : List ℕ → Option Intrinsic) (is_target : ℕ → Bool) w
       → ((ps : List Placed) → ArePlaced (printed_block body) ps → ReadBlock body ps)
       → ((ps : List Placed) → ArePlaced (printed_arms more ++ (printed_else o ++ unmarked forms.EndIf ∷ [])) ps → ReadArms more o ps)
       → {ps : List Placed} → IsDivided (printed_block body) (printed_arms more ++ (printed_else o ++ unmarked forms.EndIf ∷ [])) ps
-      → ReadArms (tree.arm test body more) o (at n None (forms.ElseIf (phrase_of test)) ∷ ps)
+      → ReadArms (tree.arm test body more) o (placed_form n None (forms.ElseIf (phrase_of test)) ∷ ps)
   arm_parts n test body more o e first rest (divided ps qs a b) =
       let x = first ps a in
       let y = rest qs b in
@@ -124,7 +124,7 @@ module _ (function : List ℕ → Option Intrinsic) (is_target : ℕ → Bool) w
 
   else_parts : (n : ℕ) (o : Block) → ((ps : List Placed) → ArePlaced (printed_block o) ps → ReadBlock o ps)
       → {ps : List Placed} → IsDivided (printed_block o) (unmarked forms.EndIf ∷ []) ps
-      → ReadArms tree.no_arms o (at n None forms.Else ∷ ps)
+      → ReadArms tree.no_arms o (placed_form n None forms.Else ∷ ps)
   else_parts n o all (divided ps _ a (next m s none)) =
       let x = all ps a in
       record {
@@ -145,25 +145,25 @@ module _ (function : List ℕ → Option Intrinsic) (is_target : ℕ → Bool) w
   -- ---- a loop
 
   do_parts : (n : ℕ) (x : List ℕ) (a b c : Expression) (body : Block)
-      → tree_of function (phrase_of a) ≡ a → tree_of function (phrase_of b) ≡ b → step_tree function (step_phrase c) ≡ c
+      → tree_of function (phrase_of a) ≡ a → tree_of function (phrase_of b) ≡ b → step_tree90 function (step_phrase c) ≡ c
       → ((ps : List Placed) → ArePlaced (printed_block body) ps → ReadBlock body ps)
       → {ps : List Placed} → IsDivided (printed_block body) (unmarked forms.EndDo ∷ []) ps
-      → (line : ℕ) → ReadStatement (tree.Do line x a b c body) (at n None (forms.Do x (phrase_of a) (phrase_of b) (step_phrase c)) ∷ ps)
+      → (line : ℕ) → ReadStatement (tree.Do line x a b c body) (placed_form n None (forms.Do x (phrase_of a) (phrase_of b) (step_phrase c)) ∷ ps)
   do_parts n x a b c body ea eb ec all (divided ps _ h (next m s none)) line =
       let y = all ps h in
-      let t : Statement = tree.Do n x (tree_of function (phrase_of a)) (tree_of function (phrase_of b)) (step_tree function (step_phrase c)) y.block in
+      let t : Statement = tree.Do n x (tree_of function (phrase_of a)) (tree_of function (phrase_of b)) (step_tree90 function (step_phrase c)) y.block in
       record {
         statement = t;
         are = λ (rs : List Placed) (d : Block) g.
-            subst (λ (ts : List Placed). AreBlock function is_target (at n None (forms.Do x (phrase_of a) (phrase_of b) (step_phrase c)) ∷ ts)
-            (tree.statement t d)) (sym (append_assoc ps (at m None forms.EndDo ∷ []) rs))
+            subst (λ (ts : List Placed). AreBlock90 function is_target (placed_form n None (forms.Do x (phrase_of a) (phrase_of b) (step_phrase c)) ∷ ts)
+            (tree.statement t d)) (sym (append_assoc ps (placed_form m None forms.EndDo ∷ []) rs))
             (loop n m x (phrase_of a) (phrase_of b) (step_phrase c) ps rs y.block d y.are g);
         same = ap₂ (λ p q. tree.Do 0 x p q c (block_without_numbers body)) (sym ea) (sym eb)
             ∙ ap₂ (λ p q. tree.Do 0 x (tree_of function (phrase_of a)) (tree_of function (phrase_of b)) p q) (sym ec) y.same;
       }
 
   pub do_back : (line : ℕ) (x : List ℕ) (a b c : Expression) (body : Block)
-      → tree_of function (phrase_of a) ≡ a → tree_of function (phrase_of b) ≡ b → step_tree function (step_phrase c) ≡ c
+      → tree_of function (phrase_of a) ≡ a → tree_of function (phrase_of b) ≡ b → step_tree90 function (step_phrase c) ≡ c
       → ((ps : List Placed) → ArePlaced (printed_block body) ps → ReadBlock body ps)
       → {ps : List Placed} → ArePlaced (printed_statement (tree.Do line x a b c body)) ps → ReadStatement (tree.Do line x a b c body) ps
   do_back line x a b c body ea eb ec all (next n s h) =

@@ -5,8 +5,8 @@ use Rattle.tree.specs.Plain.{Block, Program}
 use Rattle.meaning.specs.Blocks.{outermost}
 use Rattle.meaning.specs.Profile90.{IsProgram90}
 use Rattle.f90_grammar.specs.Forms as forms
-use Rattle.f90_grammar.specs.PrintedForms.{unmarked, title_of, printed_declaration, printed_block, printed_program}
-use Rattle.f90_grammar.specs.Blocks.{Placed, at, AreBlock}
+use Rattle.f90_grammar.specs.PrintedForms.{unmarked, printed_title_of, printed_declaration, printed_block, printed_program}
+use Rattle.f90_grammar.specs.Blocks.{Placed, placed_form, AreBlock90}
 use Rattle.f90_grammar.specs.Reading.{is_target_in, function_by}
 use Rattle.f90_laws.specs.printed.ReadBack.{SameButNumbers}
 use Rattle.f90_laws.proofs.printed.PrintedBlocksItems.{EachReadsBack}
@@ -25,7 +25,7 @@ pub record ReadProgram (p : Program) (ps : List Placed) : Type 0 where
   pub program : Program
   pub are : HasParts ps program
   pub declared : are.in_text ≡ p.declarations
-  pub title : program.name ≡ Some (title_of p.name)
+  pub title : program.name ≡ Some (printed_title_of p.name)
   pub same : SameButNumbers p program
 
 module _ (p : Program) (h : IsProgram90 p) (back : EachReadsBack p.declarations) where
@@ -33,32 +33,32 @@ module _ (p : Program) (h : IsProgram90 p) (back : EachReadsBack p.declarations)
   body_back ps q = block_back p.declarations back (is_target_in p.body) p.body outermost h.statements tt (labels_named p.body h.named) ps q
 
   abbrev read_as : Block → Program
-  read_as b = record { name = Some (title_of p.name); declarations = p.declarations; body = b }
+  read_as b = record { name = Some (printed_title_of p.name); declarations = p.declarations; body = b }
 
   whole : (m n : ℕ) (ds : List Placed) → ArePlaced (map printed_declaration p.declarations) ds → {ps : List Placed}
       → IsDivided (printed_block p.body) (unmarked forms.End ∷ []) ps
-      → ReadProgram p (at m None (forms.Program (title_of p.name)) ∷ at n None forms.ImplicitNone ∷ (ds ++ ps))
+      → ReadProgram p (placed_form m None (forms.Program (printed_title_of p.name)) ∷ placed_form n None forms.ImplicitNone ∷ (ds ++ ps))
   whole m n ds a (divided ps _ b (next k s none)) =
       let x = body_back ps b in
       let same_targets : is_target_in p.body ≡ is_target_in x.block = fun_ext (λ l. same_target l p.body x.block x.same) in
       record {
         program = read_as x.block;
         are = record {
-          title = at m None (forms.Program (title_of p.name)) ∷ [];
-          implicit = at n None forms.ImplicitNone ∷ [];
+          title = placed_form m None (forms.Program (printed_title_of p.name)) ∷ [];
+          implicit = placed_form n None forms.ImplicitNone ∷ [];
           declared = ds;
           body = ps;
-          last = at k None forms.End;
+          last = placed_form k None forms.End;
           same = refl;
-          is_title = titled m (title_of p.name);
+          is_title = titled m (printed_title_of p.name);
           is_implicit = present n;
-          is_last = end (Some (title_of p.name));
+          is_last = end (Some (printed_title_of p.name));
           in_text = p.declarations;
           are_declared = declared_back p.declarations h.declarations.each ds a;
           sorted = h.declarations.ordered;
           each = λ d. (λ c. c, λ c. c);
           once = refl;
-          block = subst (λ (t : ℕ → Bool). AreBlock (function_by p.declarations) t ps x.block) same_targets x.are;
+          block = subst (λ (t : ℕ → Bool). AreBlock90 (function_by p.declarations) t ps x.block) same_targets x.are;
         };
         declared = refl;
         title = refl;
@@ -66,7 +66,7 @@ module _ (p : Program) (h : IsProgram90 p) (back : EachReadsBack p.declarations)
       }
 
   halves : (m n : ℕ) {ps : List Placed} → IsDivided (map printed_declaration p.declarations) (printed_block p.body ++ unmarked forms.End ∷ []) ps
-      → ReadProgram p (at m None (forms.Program (title_of p.name)) ∷ at n None forms.ImplicitNone ∷ ps)
+      → ReadProgram p (placed_form m None (forms.Program (printed_title_of p.name)) ∷ placed_form n None forms.ImplicitNone ∷ ps)
   halves m n (divided ds ps a b) = whole m n ds a (divide (printed_block p.body) (unmarked forms.End ∷ []) b)
 
   pub program_back : (ps : List Placed) → ArePlaced (printed_program p) ps → ReadProgram p ps

@@ -8,14 +8,14 @@ use Rattle.tree.specs.declared.stmts.Mark.{Mark}
 use Rattle.meaning.specs.Names.{begins_with}
 use Rattle.meaning.specs.SymbolicNames.{is_letter, is_digit}
 use Rattle.meaning.specs.Profile90 as profile
-use Rattle.f90_grammar.specs.FreeForm.{FreeStatement, AreStatements, AreComments, AreMarks, statement_at, characters, pieces_of}
+use Rattle.f90_grammar.specs.FreeForm.{FreeStatement, AreStatements, AreComments, AreMarks, free_statement_at, characters, pieces_of}
 use Rattle.f90_grammar.specs.FreeForm.AreStatements.{ends, begins}
 use Rattle.f90_grammar.specs.FreeForm.AreMarks.{none as no_marks}
 use Rattle.f90_grammar.specs.Forms as forms
-use Rattle.f90_grammar.specs.PrintedForms.{Printed, unmarked, title_of, printed_declaration, printed_block, printed_program}
+use Rattle.f90_grammar.specs.PrintedForms.{Printed, unmarked, printed_title_of, printed_declaration, printed_block, printed_program}
 use Rattle.f90_grammar.specs.PrintedText.{form_text, lines_of_text, mark_lines, printed_lines, program_lines, printed90, IsNote}
-use Rattle.f90_grammar.specs.Blocks.{Placed, at}
-use Rattle.f90_grammar.specs.Reading.{takes_mark, last_of, if_taken, left_over, HaveForms, AreStatementsOf}
+use Rattle.f90_grammar.specs.Blocks.{Placed, placed_form}
+use Rattle.f90_grammar.specs.Reading.{takes_mark, last_mark, if_taken, mark_left_over, HaveForms, AreStatementsOf}
 use Rattle.f90_laws.specs.printed.Spelled.{IsSpelled}
 use Rattle.f90_laws.proofs.printed.PrintedBlocksPlaced.{ArePlaced}
 use Rattle.f90_laws.proofs.printed.PrintedBlocksPlaced.ArePlaced.{none, next}
@@ -51,7 +51,7 @@ readable_text s h =
 
 one_statement : (n : ℕ) (comments : List (List ℕ)) (ahead : List Mark) (t : List ℕ) (rest : List (List ℕ)) (more : List FreeStatement)
     → AreComments comments → AreMarks comments ahead → IsText t → AreStatements (n + length (comments ++ lines_of_text t)) rest more
-    → AreStatements n ((comments ++ lines_of_text t) ++ rest) (statement_at (n + length comments) ahead t [] ∷ more)
+    → AreStatements n ((comments ++ lines_of_text t) ++ rest) (free_statement_at (n + length comments) ahead t [] ∷ more)
 one_statement n comments ahead t rest more c m h k =
     let all : AreComments (comments ++ []) = subst (λ (ls : List (List ℕ)). AreComments ls) (sym (append-nil comments)) c in
     let whole = begins n (first_block comments t) (text_blocks t) ahead [] rest more
@@ -59,8 +59,8 @@ one_statement n comments ahead t rest more c m h k =
     (text_pieces t h) m (subst (λ (ls : List (List ℕ)). AreMarks ls []) (sym (text-comments t)) no_marks)
     (subst (λ (ls : List (List ℕ)). AreStatements (n + length ls) rest more) (sym (text-written comments t)) k) in
     let written = subst (λ (ls : List (List ℕ)). AreStatements n (ls ++ rest)
-    (statement_at (n + length comments) ahead (characters (pieces_of (first_block comments t ∷ text_blocks t))) [] ∷ more)) (text-written comments t) whole in
-    subst (λ (cs : List ℕ). AreStatements n ((comments ++ lines_of_text t) ++ rest) (statement_at (n + length comments) ahead cs [] ∷ more)) (text-characters t) written
+    (free_statement_at (n + length comments) ahead (characters (pieces_of (first_block comments t ∷ text_blocks t))) [] ∷ more)) (text-written comments t) whole in
+    subst (λ (cs : List ℕ). AreStatements n ((comments ++ lines_of_text t) ++ rest) (free_statement_at (n + length comments) ahead cs [] ∷ more)) (text-characters t) written
 
 -- ---- statements one after another
 
@@ -71,31 +71,31 @@ pub record Placing (n : ℕ) (ls : List (List ℕ)) (ss : List Printed) : Type 0
   pub have_forms : HaveForms None statements placed
   pub places : ArePlaced ss placed
 
-taken_mark : (b : Bool) (m : Option Mark) → (b ≡ false → m ≡ None) → (m ≡ if_taken b m) × (left_over b m ≡ None)
+taken_mark : (b : Bool) (m : Option Mark) → (b ≡ false → m ≡ None) → (m ≡ if_taken b m) × (mark_left_over b m ≡ None)
 taken_mark true m h = (refl, refl)
 taken_mark false m h = (h refl, h refl)
 
 one_more : (n : ℕ) (comments : List (List ℕ)) (ahead : List Mark) (s : Printed) (rest : List (List ℕ)) (ss : List Printed)
-    → AreComments comments → AreMarks comments ahead → last_of None ahead ≡ s.mark → IsReadable s
+    → AreComments comments → AreMarks comments ahead → last_mark None ahead ≡ s.mark → IsReadable s
     → Placing (n + length (comments ++ lines_of_text (form_text s.form))) rest ss
     → Placing n ((comments ++ lines_of_text (form_text s.form)) ++ rest) (s ∷ ss)
 one_more n comments ahead s rest ss c m e h r =
     let w = h.spelled in
     let t = taken_mark (takes_mark s.form) s.mark h.taken in
     record {
-      statements = statement_at (n + length comments) ahead (form_text s.form) [] ∷ r.statements;
-      placed = at (n + length comments) s.mark s.form ∷ r.placed;
+      statements = free_statement_at (n + length comments) ahead (form_text s.form) [] ∷ r.statements;
+      placed = placed_form (n + length comments) s.mark s.form ∷ r.placed;
       are = one_statement n comments ahead (form_text s.form) rest r.statements c m (readable_text s h) r.are;
       have_forms = (
         refl,
         t.0 ∙ ap (if_taken (takes_mark s.form)) (sym e),
         (w.in_words, w.has_words, w.is_written),
-        subst (λ (o : Option Mark). HaveForms o r.statements r.placed) (sym (ap (left_over (takes_mark s.form)) e ∙ t.1)) r.have_forms,
+        subst (λ (o : Option Mark). HaveForms o r.statements r.placed) (sym (ap (mark_left_over (takes_mark s.form)) e ∙ t.1)) r.have_forms,
       );
       places = next (n + length comments) s r.places;
     }
 
-last-marks : (m : Option Mark) → last_of None (marks_of m) ≡ m
+last-marks : (m : Option Mark) → last_mark None (marks_of m) ≡ m
 last-marks None = refl
 last-marks (Some m) = refl
 
@@ -116,7 +116,7 @@ all_free (s ∷ ss) k =
 
 module _ (p : Program) (notes : List (List ℕ)) (good : AllByRecursion IsNote notes) (h : AllByRecursion IsReadable (printed_program p)) where
   abbrev title : Printed
-  title = unmarked (forms.Program (title_of p.name))
+  title = unmarked (forms.Program (printed_title_of p.name))
 
   abbrev behind_title : List Printed
   behind_title = unmarked forms.ImplicitNone ∷ (map printed_declaration p.declarations ++ (printed_block p.body ++ unmarked forms.End ∷ []))

@@ -2,7 +2,8 @@
 use Rattle.std.proofs.Common.{◌≡◌, refl, ap, ◌∙◌, sym, ℕ, zero, suc, ◌-◌, ◌*◌, ◌/◌, ◌<◌, ◌≤◌, ◌==◌, Bool, true, false, not, ◌&&◌, ◌||◌, cond, List, [], ◌∷◌, ◌++◌, length, take, drop, arith, append_assoc, append-nil, flat_map, take-append-drop, length-drop, div-mul-le_self}
 use Rattle.std.specs.List.{list_all}
 use Rattle.std.proofs.lemmas.Bool.{or_right, or_parts, cond-false, not-true, not_from_false, and_left, and_right, or_from}
-use Rattle.f90_grammar.specs.FreeForm.{Piece, IsPiece, AreFurtherPieces, ArePieces, Block, written_piece, written_block, pieces_of, comments_of, characters, joint, is_blank, starts_with, ends_with, is_comment_line, is_open_behind, has_comment}
+use Rattle.f90_grammar.specs.FreeForm.{LinePiece, IsPiece, AreFurtherPieces, ArePieces, CommentedPiece, written_piece, written_block, pieces_of, comments_of, characters, joint, starts_with, ends_with, is_comment_line, is_open_behind, has_comment}
+use Rattle.reading.specs.Characters.{is_blank}
 use Rattle.f90_grammar.specs.PrintedText.{piece_length, further_pieces, continued, pieces, lines_of_text}
 
 -- ---- the end of a text, and its beginning
@@ -66,23 +67,23 @@ cut_comment o n t h =
 
 -- ---- pieces
 
-abbrev piece_of : Bool → List ℕ → Bool → Piece
+abbrev piece_of : Bool → List ℕ → Bool → LinePiece
 piece_of pulled t continues =
     record { before = []; is_pulled = pulled; chars = t; is_continued = continues; is_single = false; behind = []; comment = [] }
 
-abbrev plain : Piece → Block
+abbrev plain : LinePiece → CommentedPiece
 plain p = record { comments = []; piece = p }
 
 -- behind the first line
-abbrev pub rest_blocks : ℕ → List ℕ → List Block
+abbrev pub rest_blocks : ℕ → List ℕ → List CommentedPiece
 rest_blocks zero t = plain (piece_of true t false) ∷ []
 rest_blocks (suc n) t = plain (piece_of true (take piece_length t) true) ∷ rest_blocks n (drop piece_length t)
 
-abbrev pub first_piece : ℕ → List ℕ → Piece
+abbrev pub first_piece : ℕ → List ℕ → LinePiece
 first_piece zero t = piece_of false t false
 first_piece (suc n) t = piece_of false (take piece_length t) true
 
-abbrev pub further_blocks : ℕ → List ℕ → List Block
+abbrev pub further_blocks : ℕ → List ℕ → List CommentedPiece
 further_blocks zero t = []
 further_blocks (suc n) t = rest_blocks n (drop piece_length t)
 
@@ -136,7 +137,7 @@ closes o t h e =
       is_line = refl;
     }
 
-go_on : (o : Bool) (p : Piece) (ps : List Piece) → IsPiece o p → p.is_continued ≡ true → AreFurtherPieces (is_open_behind o p.chars) ps
+go_on : (o : Bool) (p : LinePiece) (ps : List LinePiece) → IsPiece o p → p.is_continued ≡ true → AreFurtherPieces (is_open_behind o p.chars) ps
     → AreFurtherPieces o (p ∷ ps)
 go_on o p [] h c k = absurd k
 go_on o p (q ∷ qs) h c k = (h, c, k)
@@ -217,10 +218,10 @@ pub record IsText (t : List ℕ) : Type 0 where
   pub ends : ends_well t ≡ true
 
 -- its blocks, with comments before the first line
-abbrev pub first_block : List (List ℕ) → List ℕ → Block
+abbrev pub first_block : List (List ℕ) → List ℕ → CommentedPiece
 first_block comments t = record { comments = comments; piece = first_piece (further_pieces t) t }
 
-abbrev pub text_blocks : List ℕ → List Block
+abbrev pub text_blocks : List ℕ → List CommentedPiece
 text_blocks t = further_blocks (further_pieces t) t
 
 pub text_pieces : (t : List ℕ) → IsText t → ArePieces (first_piece (further_pieces t) t ∷ pieces_of (text_blocks t))

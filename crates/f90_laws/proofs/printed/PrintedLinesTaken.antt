@@ -7,7 +7,7 @@ use Rattle.meaning.specs.Blocks.{Surroundings, before_labels, within_loop, label
 use Rattle.meaning.specs.Profile90 as profile
 use Rattle.meaning.specs.Profile90.{IsStatement, AreArms, IsBlock, IsProgram90}
 use Rattle.f90_grammar.specs.Forms as forms
-use Rattle.f90_grammar.specs.Forms.{Form}
+use Rattle.f90_grammar.specs.Forms.{Form90}
 use Rattle.f90_grammar.specs.PrintedForms.{Printed, unmarked, printed_statement, printed_arms, printed_else, printed_block, printed_declaration, printed_program}
 use Rattle.f90_grammar.specs.Reading.{takes_mark}
 use Rattle.f90_laws.proofs.printed.Spelling.{all_append}
@@ -16,13 +16,13 @@ pub record MarkSuits (s : Printed) : Type 0 where
   pub is_mark : IfSome s.mark profile.IsMark
   pub taken : takes_mark s.form ≡ false → s.mark ≡ None
 
-unmarked_suits : (f : Form) → MarkSuits (unmarked f)
+unmarked_suits : (f : Form90) → MarkSuits (unmarked f)
 unmarked_suits f = record { is_mark = tt; taken = λ e. refl }
 
 abbrev EachSuits : List Printed → Type 0
 EachSuits ss = AllByRecursion MarkSuits ss
 
-end_suits : (f : Form) → EachSuits (unmarked f ∷ [])
+end_suits : (f : Form90) → EachSuits (unmarked f ∷ [])
 end_suits f = (unmarked_suits f, tt)
 
 else_suits : (o : Block) → EachSuits (printed_block o) → EachSuits (printed_else o)

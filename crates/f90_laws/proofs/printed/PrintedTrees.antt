@@ -26,9 +26,9 @@ use Rattle.meaning.specs.Typed90 as kinds
 use Rattle.meaning.specs.Typed90.{HasKind, AreArguments, AreScalars, AreSubscripts, IsSubscript, AreLoops}
 use Rattle.meaning.specs.Depths as depths
 use Rattle.meaning.specs.Depths.{depth_of, depth_of_each, depth_of_subscripts, depth_of_subscript, depth_under, enclosed}
-use Rattle.f90_grammar.specs.Phrases.{Phrase, Paren, Value, Parts, One, Then, Phrases, Sole, More, Turn, Innermost, Round, level, depth, depth_of_part, depth_of_parts, depth_of_values, depth_of_turn}
+use Rattle.f90_grammar.specs.Phrases.{Phrase90, Paren, Value, ListParts, One, Then, Phrases90, Sole, More, Turn, Innermost, Round, phrase_level90, phrase_depth90, depth_of_part, depth_of_parts, depth_of_values, depth_of_turn}
 use Rattle.f90_grammar.specs.Phrases.{tree_of, length_of_values, AreValues, SuitsFunction, SuitsCalls, PartSuitsCalls, PartsSuitCalls, ValuesSuitCalls, TurnSuitsCalls}
-use Rattle.f90_grammar.specs.Printing.{fit, unary_phrase, is_one, section, part_of, more_parts, more_arguments, more_values, rounds}
+use Rattle.f90_grammar.specs.Printing.{fit, unary_phrase, is_one, section_part, list_part_of, more_parts, more_arguments, more_values, rounds}
 use Rattle.f90_grammar.specs.Printing.{phrase_of}
 use Rattle.f90_grammar.specs.Sources.{IsLiteral, is_negating, HasSome, SuitsLoops, IsOpen, IsSource, EachIsSource}
 use Rattle.f90_grammar.specs.Sources.{IsSourceSubscript, AreSource, LoopsAreSource}
@@ -163,24 +163,24 @@ one_depth (tree.Number n) h = refl
 one_depth (tree.Logic b) h = refl
 one_depth e h = absurd cc
 
-fit_depth : (n : ℕ) (p : Phrase) → depth (fit n p) ≡ enclosed n (level p) (depth p)
-fit_depth n p = by (nat_le n (level p))
+fit_depth : (n : ℕ) (p : Phrase90) → phrase_depth90 (fit n p) ≡ enclosed n (phrase_level90 p) (phrase_depth90 p)
+fit_depth n p = by (nat_le n (phrase_level90 p))
   where
-    by : (b : Bool) → depth (cond b p (Paren p)) ≡ cond b (depth p) (1 + depth p)
+    by : (b : Bool) → phrase_depth90 (cond b p (Paren p)) ≡ cond b (phrase_depth90 p) (1 + phrase_depth90 p)
     by true = refl
     by false = omega arith
 
-unary_depth : (o : Op) (p : Phrase) → IsTrue (is_negating o) → depth (unary_phrase o p) ≡ 1 + enclosed (right_least o) (level p) (depth p)
+unary_depth : (o : Op) (p : Phrase90) → IsTrue (is_negating o) → phrase_depth90 (unary_phrase o p) ≡ 1 + enclosed (right_least o) (phrase_level90 p) (phrase_depth90 p)
 unary_depth Neg p h = let e = fit_depth 8 p in omega (arith, e)
 unary_depth Not p h = let e = fit_depth 6 p in omega (arith, e)
 unary_depth o p h = cc
 
-section_depth : (t : Bool) (a b c : Phrase) (n : ℕ) → (t ≡ true → n ≡ 0) → depth c ≡ n → depth_of_part (section t a b c) ≡ max (depth a) (max (depth b) n)
+section_depth : (t : Bool) (a b c : Phrase90) (n : ℕ) → (t ≡ true → n ≡ 0) → phrase_depth90 c ≡ n → depth_of_part (section_part t a b c) ≡ max (phrase_depth90 a) (max (phrase_depth90 b) n)
 section_depth true a b c n one e = let z = one refl in omega arith
 section_depth false a b c n one e = omega arith
 
 module _ (function : List ℕ → Option Intrinsic) where
-  same_level : (e : Expression) → IsSource function e → level (phrase_of e) ≡ depths.level e
+  same_level : (e : Expression) → IsSource function e → phrase_level90 (phrase_of e) ≡ depths.level e
   same_level (tree.Number n) h = refl
   same_level (tree.Logic b) h = refl
   same_level (tree.Named x tree.no_subscripts) h = refl
@@ -201,13 +201,13 @@ module _ (function : List ℕ → Option Intrinsic) where
 
   mutual
     -- what is printed for an expression is as deep as the expression
-    pub printed_depth : (e : Expression) → IsSource function e → depth (phrase_of e) ≡ depth_of e
+    pub printed_depth : (e : Expression) → IsSource function e → phrase_depth90 (phrase_of e) ≡ depth_of e
     printed_depth (tree.Number n) h = refl
     printed_depth (tree.Logic b) h = refl
     printed_depth (tree.Named x tree.no_subscripts) h = refl
     printed_depth (tree.Named x (tree.subscript s ss)) h =
         let p = part_depth s h.1.0 in
-        let q = parts_depth (One (part_of s)) ss h.1.1 in
+        let q = parts_depth (One (list_part_of s)) ss h.1.1 in
         omega arith
     printed_depth (tree.Unary o a) h =
         unary_depth o (phrase_of a) h.0 ∙ ap₂ (λ l d. 1 + enclosed (right_least o) l d) (same_level a h.1) (printed_depth a h.1)
@@ -247,27 +247,27 @@ module _ (function : List ℕ → Option Intrinsic) where
         omega arith
     printed_depth (tree.Reduce r a) h = let p = printed_depth a h.1 in omega arith
 
-    part_depth : (s : Subscript) → IsSourceSubscript function s → depth_of_part (part_of s) ≡ depth_of_subscript s
+    part_depth : (s : Subscript) → IsSourceSubscript function s → depth_of_part (list_part_of s) ≡ depth_of_subscript s
     part_depth (tree.Only e) h = printed_depth e h
     part_depth (tree.Section a b c) h =
         section_depth (is_one c) (phrase_of a) (phrase_of b) (phrase_of c) (depth_of c) (one_depth c) (printed_depth c h.2)
         ∙ ap₂ (λ m n. max m (max n (depth_of c))) (printed_depth a h.0) (printed_depth b h.1)
 
-    parts_depth : (ps : Parts) (ss : Subscripts) → AreSource function ss → depth_of_parts (more_parts ps ss) + 1 ≡ max (depth_of_parts ps + 1) (depth_of_subscripts ss)
+    parts_depth : (ps : ListParts) (ss : Subscripts) → AreSource function ss → depth_of_parts (more_parts ps ss) + 1 ≡ max (depth_of_parts ps + 1) (depth_of_subscripts ss)
     parts_depth ps tree.no_subscripts h = omega arith
     parts_depth ps (tree.subscript s ss) h =
         let p = part_depth s h.0 in
-        let q = parts_depth (Then ps (part_of s)) ss h.1 in
+        let q = parts_depth (Then ps (list_part_of s)) ss h.1 in
         omega arith
 
-    arguments_depth : (ps : Parts) (es : Expressions) → EachIsSource function es → depth_of_parts (more_arguments ps es) ≡ max (depth_of_parts ps) (depth_of_each es)
+    arguments_depth : (ps : ListParts) (es : Expressions) → EachIsSource function es → depth_of_parts (more_arguments ps es) ≡ max (depth_of_parts ps) (depth_of_each es)
     arguments_depth ps tree.no_expressions h = omega arith
     arguments_depth ps (tree.expression e es) h =
         let p = printed_depth e h.0 in
         let q = arguments_depth (Then ps (Value (phrase_of e))) es h.1 in
         omega arith
 
-    values_depth : (ps : Phrases) (es : Expressions) → EachIsSource function es → depth_of_values (more_values ps es) ≡ max (depth_of_values ps) (depth_of_each es)
+    values_depth : (ps : Phrases90) (es : Expressions) → EachIsSource function es → depth_of_values (more_values ps es) ≡ max (depth_of_values ps) (depth_of_each es)
     values_depth ps tree.no_expressions h = omega arith
     values_depth ps (tree.expression e es) h =
         let p = printed_depth e h.0 in
@@ -284,29 +284,29 @@ module _ (function : List ℕ → Option Intrinsic) where
 
 -- ---- arguments that may stand in the calls
 
-open_call : (f : Option Intrinsic) (ps : Parts) → f ≡ None → SuitsFunction f ps
+open_call : (f : Option Intrinsic) (ps : ListParts) → f ≡ None → SuitsFunction f ps
 open_call f ps e = subst (λ g. SuitsFunction g ps) (sym e) tt
 
-known_call : (f : Option Intrinsic) (g : Intrinsic) (ps : Parts) → f ≡ Some g → SuitsFunction (Some g) ps → SuitsFunction f ps
+known_call : (f : Option Intrinsic) (g : Intrinsic) (ps : ListParts) → f ≡ Some g → SuitsFunction (Some g) ps → SuitsFunction f ps
 known_call f g ps e h = subst (λ i. SuitsFunction i ps) (sym e) h
 
-argument_values : (ps : Parts) (es : Expressions) → AreValues ps → AreValues (more_arguments ps es)
+argument_values : (ps : ListParts) (es : Expressions) → AreValues ps → AreValues (more_arguments ps es)
 argument_values ps tree.no_expressions h = h
 argument_values ps (tree.expression e es) h = argument_values (Then ps (Value (phrase_of e))) es h
 
-number_of_values : (ps : Phrases) (es : Expressions) → length_of_values (more_values ps es) ≡ length_of_values ps + number_of_arguments es
+number_of_values : (ps : Phrases90) (es : Expressions) → length_of_values (more_values ps es) ≡ length_of_values ps + number_of_arguments es
 number_of_values ps tree.no_expressions = omega arith
 number_of_values ps (tree.expression e es) = let n = number_of_values (More ps (phrase_of e)) es in omega arith
 
 module _ (ds : List Declaration) where
-  fit_suits : (n : ℕ) (p : Phrase) → SuitsCalls (function_by ds) p → SuitsCalls (function_by ds) (fit n p)
-  fit_suits n p h = cond_both (nat_le n (level p)) p (Paren p) (SuitsCalls (function_by ds)) (λ e. h) (λ e. h)
+  fit_suits : (n : ℕ) (p : Phrase90) → SuitsCalls (function_by ds) p → SuitsCalls (function_by ds) (fit n p)
+  fit_suits n p h = cond_both (nat_le n (phrase_level90 p)) p (Paren p) (SuitsCalls (function_by ds)) (λ e. h) (λ e. h)
 
-  unary_suits : (o : Op) (p : Phrase) → SuitsCalls (function_by ds) p → SuitsCalls (function_by ds) (unary_phrase o p)
+  unary_suits : (o : Op) (p : Phrase90) → SuitsCalls (function_by ds) p → SuitsCalls (function_by ds) (unary_phrase o p)
   unary_suits Not p h = fit_suits 6 p h
   unary_suits o p h = fit_suits 8 p h
 
-  section_suits : (t : Bool) (a b c : Phrase) → SuitsCalls (function_by ds) a → SuitsCalls (function_by ds) b → SuitsCalls (function_by ds) c → PartSuitsCalls (function_by ds) (section t a b c)
+  section_suits : (t : Bool) (a b c : Phrase90) → SuitsCalls (function_by ds) a → SuitsCalls (function_by ds) b → SuitsCalls (function_by ds) c → PartSuitsCalls (function_by ds) (section_part t a b c)
   section_suits true a b c h g k = (h, g)
   section_suits false a b c h g k = (h, g, k)
 
@@ -316,7 +316,7 @@ module _ (ds : List Declaration) where
     printed_suits (tree.Logic b) k h = tt
     printed_suits (tree.Named x tree.no_subscripts) k h = tt
     printed_suits (tree.Named x (tree.subscript s ss)) k h =
-        (open_call (function_by ds x) (more_parts (One (part_of s)) ss) (hidden ds x _ h.0), parts_suit (One (part_of s)) ss (part_suits s h.1.0) h.1.1)
+        (open_call (function_by ds x) (more_parts (One (list_part_of s)) ss) (hidden ds x _ h.0), parts_suit (One (list_part_of s)) ss (part_suits s h.1.0) h.1.1)
     printed_suits (tree.Unary o a) k h = unary_suits o (phrase_of a) (printed_suits a (operand_kind o) h.2)
     printed_suits (tree.Binary o a b) k h =
         (fit_suits (left_least o) (phrase_of a) (printed_suits a (operand_kind o) h.2), fit_suits (right_least o) (phrase_of b) (printed_suits b (operand_kind o) h.3))
@@ -345,20 +345,20 @@ module _ (ds : List Declaration) where
     printed_suits (tree.Reduce r a) k h =
         (known_call (function_by ds (name_of_reduction r)) (Reduction r) _ (called ds (name_of_reduction r) (Reduction r) h.0 (reduction_is r)) tt, printed_suits a Integer h.3)
 
-    part_suits : (s : Subscript) → IsSubscript ds s → PartSuitsCalls (function_by ds) (part_of s)
+    part_suits : (s : Subscript) → IsSubscript ds s → PartSuitsCalls (function_by ds) (list_part_of s)
     part_suits (tree.Only e) h = printed_suits e Integer h.0
     part_suits (tree.Section a b c) h =
         section_suits (is_one c) (phrase_of a) (phrase_of b) (phrase_of c) (printed_suits a Integer h.0.0) (printed_suits b Integer h.1.0) (printed_suits c Integer h.2.0)
 
-    parts_suit : (ps : Parts) (ss : Subscripts) → PartsSuitCalls (function_by ds) ps → AreSubscripts ds ss → PartsSuitCalls (function_by ds) (more_parts ps ss)
+    parts_suit : (ps : ListParts) (ss : Subscripts) → PartsSuitCalls (function_by ds) ps → AreSubscripts ds ss → PartsSuitCalls (function_by ds) (more_parts ps ss)
     parts_suit ps tree.no_subscripts g h = g
-    parts_suit ps (tree.subscript s ss) g h = parts_suit (Then ps (part_of s)) ss (g, part_suits s h.0) h.1
+    parts_suit ps (tree.subscript s ss) g h = parts_suit (Then ps (list_part_of s)) ss (g, part_suits s h.0) h.1
 
-    arguments_suit : (ps : Parts) (es : Expressions) → PartsSuitCalls (function_by ds) ps → AreArguments ds es → PartsSuitCalls (function_by ds) (more_arguments ps es)
+    arguments_suit : (ps : ListParts) (es : Expressions) → PartsSuitCalls (function_by ds) ps → AreArguments ds es → PartsSuitCalls (function_by ds) (more_arguments ps es)
     arguments_suit ps tree.no_expressions g h = g
     arguments_suit ps (tree.expression e es) g h = arguments_suit (Then ps (Value (phrase_of e))) es (g, printed_suits e Integer h.0) h.2
 
-    values_suit : (ps : Phrases) (es : Expressions) (k : Kind) → ValuesSuitCalls (function_by ds) ps → AreScalars ds es k → ValuesSuitCalls (function_by ds) (more_values ps es)
+    values_suit : (ps : Phrases90) (es : Expressions) (k : Kind) → ValuesSuitCalls (function_by ds) ps → AreScalars ds es k → ValuesSuitCalls (function_by ds) (more_values ps es)
     values_suit ps tree.no_expressions k g h = g
     values_suit ps (tree.expression e es) k g h = values_suit (More ps (phrase_of e)) es k (g, printed_suits e k h.0.0) h.1
 

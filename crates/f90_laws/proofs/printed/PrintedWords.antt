@@ -19,11 +19,11 @@ use Rattle.meaning.specs.Value.{named}
 use Rattle.meaning.specs.Blocks.{Surroundings, outermost, within_loop, before_labels, label_of, labels_of}
 use Rattle.meaning.specs.Labels.{IsLabel}
 use Rattle.meaning.specs.Profile90.{IsDeclaration, IsExtent, IsAssignment, IsAllocation, IsStatement, IsBlock, AreArms}
-use Rattle.f90_grammar.specs.Words.{IsName}
-use Rattle.f90_grammar.specs.Items.{IsReference}
+use Rattle.f90_grammar.specs.Words.{IsName90}
+use Rattle.f90_grammar.specs.Items.{IsReference90}
 use Rattle.f90_grammar.specs.Forms as forms
 use Rattle.f90_grammar.specs.Printing.{phrase_of}
-use Rattle.f90_grammar.specs.PrintedForms.{Printed, reference_phrase, phrases_of, step_phrase, item_phrases, read_form, print_form, title_of, printed_statement, printed_if, printed_arms, printed_else, printed_block, printed_declaration}
+use Rattle.f90_grammar.specs.PrintedForms.{Printed, reference_phrase, phrases_of, step_phrase, item_phrases, read_form, print_form, printed_title_of, printed_statement, printed_if, printed_arms, printed_else, printed_block, printed_declaration}
 use Rattle.f90_laws.specs.printed.Spelled.{IsSpelled, PrintedIsSpelled}
 use Rattle.f90_laws.proofs.printed.Spelling.{all_append}
 use Rattle.f90_laws.proofs.printed.PhraseLevels.{IsGood, good, text_name, long_name, declared_name, decimal_digits}
@@ -42,7 +42,7 @@ from_some : {A : Type 0} → (o : Option A) (P : A → Type 0) (R : Type 0) → 
 from_some None P R f h = absurd h
 from_some (Some x) P R f h = f x refl h
 
-is_reference : (r : Reference) (ss : Subscripts) → IsReference (phrase_of (tree.Named r.name ss))
+is_reference : (r : Reference) (ss : Subscripts) → IsReference90 (phrase_of (tree.Named r.name ss))
 is_reference r tree.no_subscripts = tt
 is_reference r (tree.subscript s ss) = tt
 
@@ -154,7 +154,7 @@ module _ (ds : List Declaration) (each : AllByRecursion IsDeclaration ds) where
 
 -- ---- programs
 
-title_name : (o : Option (List ℕ)) → IfSome o IsLongName → IsName (title_of o)
+title_name : (o : Option (List ℕ)) → IfSome o IsLongName → IsName90 (printed_title_of o)
 title_name None h = text_name 70 (codes "V_PROGRAM") refl refl refl
 title_name (Some x) h = long_name x h
 
@@ -164,7 +164,7 @@ declarations (d ∷ ds) h = (declaration_spelled d.kind d.name d.extent (long_na
 
 pub printed_is_spelled : PrintedIsSpelled
 printed_is_spelled p h = (
-  program_spelled (title_of p.name) (title_name p.name h.name),
+  program_spelled (printed_title_of p.name) (title_name p.name h.name),
   (
     implicit_none,
     both (map printed_declaration p.declarations) _ (declarations p.declarations h.declarations.each)

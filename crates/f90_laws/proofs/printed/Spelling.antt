@@ -6,7 +6,9 @@ use Rattle.std.proofs.lemmas.Bool.{and_parts, and_from, or_parts}
 use Rattle.std.proofs.lemmas.Bool.Decides.{nat_tests}
 use Rattle.f90_grammar.specs.FreeForm.{has_comment, is_open_behind}
 use Rattle.f90_grammar.specs.Words as words
-use Rattle.f90_grammar.specs.Words.{Word, Symbol, Char, Gap, Text, Symbols, Words, SpelledBy, Whole, Stops, HasNoParenthesis, AreGaps, Begins, IsEnded, IsName, Pass, chars, upper, goes_on, is_letter, is_digit}
+use Rattle.f90_grammar.specs.Words.{Word90, Symbol90, Char, Gap, Text, Symbols, AreWords90, SpelledBy90, IsWhole90, Stops90, HasNoParenthesis, AreGaps, Begins90, IsName90, chars90, goes_on90}
+use Rattle.reading.specs.Characters.{IsEnded, Pass, upper, is_letter, is_digit}
+use Rattle.reading.specs.Characters as characters
 use Rattle.f90_grammar.specs.Words.Symbols.{nothing, blank, character, constant}
 
 -- ---- characters of words: none of them is a blank, an exclamation mark, an apostrophe or a small letter
@@ -34,12 +36,12 @@ not_10 c h = grind (arith, nat_tests)
 not_33 : (c : ℕ) → 34 ≤ c → (c == 33) ≡ false
 not_33 c h = grind (arith, nat_tests)
 
-pub plain_symbols : (cs rest : List ℕ) (ss : List Symbol) → list_all is_plain cs ≡ true → Symbols rest ss → Symbols (cs ++ rest) (chars cs ++ ss)
+pub plain_symbols : (cs rest : List ℕ) (ss : List Symbol90) → list_all is_plain cs ≡ true → Symbols rest ss → Symbols (cs ++ rest) (chars90 cs ++ ss)
 plain_symbols [] rest ss h r = r
 plain_symbols (c ∷ cs) rest ss h r =
     let both = and_parts (is_plain c) (list_all is_plain cs) h in
     let k = plain c both.0 in
-    subst (λ u. Symbols (c ∷ (cs ++ rest)) (Char u ∷ (chars cs ++ ss))) (upper_plain c k.high)
+    subst (λ u. Symbols (c ∷ (cs ++ rest)) (Char u ∷ (chars90 cs ++ ss))) (upper_plain c k.high)
     (character c (not_32 c k.low) (not_10 c k.low) k.other (plain_symbols cs rest ss both.1 r))
 
 -- ---- texts without comments, in which no constant stays open
@@ -107,28 +109,28 @@ pub data Place : Type 0 where
 abbrev pub is_joint : ℕ → Bool
 is_joint c = (c == 41) || ((c == 42) || ((c == 47) || ((c == 58) || (c == 61))))
 
-abbrev pub Follows : Place → List ℕ → List Symbol → Type 0
+abbrev pub Follows : Place → List ℕ → List Symbol90 → Type 0
 Follows Anywhere cs ss = Unit {0}
-Follows Start cs ss = Stops is_joint ss
-Follows Inside cs ss = Stops (λ c. c == 47) ss
-Follows Beyond cs ss = Stops (λ c. c == 58) ss
+Follows Start cs ss = Stops90 is_joint ss
+Follows Inside cs ss = Stops90 (λ c. c == 47) ss
+Follows Beyond cs ss = Stops90 (λ c. c == 58) ss
 Follows Named cs ss = HasNoParenthesis ss
-Follows After cs ss = IsEnded cs × Stops goes_on ss × HasNoParenthesis ss
+Follows After cs ss = IsEnded cs × Stops90 goes_on90 ss × HasNoParenthesis ss
 
 -- the characters have the words, and may stand there
-pub record Stands (p : Place) (cs : List ℕ) (ws : List Word) : Type 0 where
-  pub symbols : List Symbol
+pub record Stands (p : Place) (cs : List ℕ) (ws : List Word90) : Type 0 where
+  pub symbols : List Symbol90
   pub are : Symbols cs symbols
-  pub in_words : Words symbols ws
+  pub in_words : AreWords90 symbols ws
   pub follows : Follows p cs symbols
 
 -- the characters are those of the words, wherever what comes behind them may stand at the place `from`; all may stand at
 -- the place `to`
-pub record Leads (from to : Place) (cs : List ℕ) (ws : List Word) : Type 0 where
-  pub stands : (rest : List ℕ) (more : List Word) → Stands from rest more → Stands to (cs ++ rest) (ws ++ more)
+pub record Leads (from to : Place) (cs : List ℕ) (ws : List Word90) : Type 0 where
+  pub stands : (rest : List ℕ) (more : List Word90) → Stands from rest more → Stands to (cs ++ rest) (ws ++ more)
   pub tidy : IsTidy cs
 
-pub join : {a b c : Place} {f g : List ℕ} {us vs : List Word} → Leads b c f us → Leads a b g vs → Leads a c (f ++ g) (us ++ vs)
+pub join : {a b c : Place} {f g : List ℕ} {us vs : List Word90} → Leads b c f us → Leads a b g vs → Leads a c (f ++ g) (us ++ vs)
 join {a} {b} {c} {f} {g} {us} {vs} k l = record {
   stands = λ rest more s.
       subst (λ cs. Stands c cs ((us ++ vs) ++ more)) (sym (append_assoc f g rest))
@@ -142,12 +144,12 @@ no_words = record { stands = λ rest more s. s; tidy = nothing_tidy }
 
 -- ---- blanks
 
-gap_words : (ss : List Symbol) (ws : List Word) → Words ss ws → Words (Gap ∷ ss) ws
+gap_words : (ss : List Symbol90) (ws : List Word90) → AreWords90 ss ws → AreWords90 (Gap ∷ ss) ws
 gap_words ss [] h = h
 gap_words ss (w ∷ ws) h =
     (h.0, record { gaps = Gap ∷ h.1.gaps; front = h.1.front; same = ap (λ t. Gap ∷ t) h.1.same; are_gaps = h.1.are_gaps; spelled = h.1.spelled; whole = h.1.whole }, h.2)
 
-spaced : (p q : Place) → ((rest : List ℕ) (ss : List Symbol) → Follows p rest ss → Follows q (32 ∷ rest) (Gap ∷ ss)) → Leads p q (codes " ") []
+spaced : (p q : Place) → ((rest : List ℕ) (ss : List Symbol90) → Follows p rest ss → Follows q (32 ∷ rest) (Gap ∷ ss)) → Leads p q (codes " ") []
 spaced p q f = record {
   stands = λ rest more s. record { symbols = Gap ∷ s.symbols; are = blank s.are; in_words = gap_words s.symbols more s.in_words; follows = f rest s.symbols s.follows };
   tidy = one_tidy 32 [] (omega arith, omega arith) refl refl nothing_tidy;
@@ -161,26 +163,26 @@ after_blank = spaced Named After (λ rest ss f. (refl, tt, f))
 
 -- ---- words
 
-pub word : (p q : Place) (w : Word) (cs : List ℕ) → list_all is_plain cs ≡ true → SpelledBy w (chars cs)
-    → ((rest : List ℕ) (ss : List Symbol) → Follows p rest ss → Whole w ss)
-    → ((rest : List ℕ) (ss : List Symbol) → Follows q (cs ++ rest) (chars cs ++ ss)) → Leads p q cs (w ∷ [])
+pub word : (p q : Place) (w : Word90) (cs : List ℕ) → list_all is_plain cs ≡ true → SpelledBy90 w (chars90 cs)
+    → ((rest : List ℕ) (ss : List Symbol90) → Follows p rest ss → IsWhole90 w ss)
+    → ((rest : List ℕ) (ss : List Symbol90) → Follows q (cs ++ rest) (chars90 cs ++ ss)) → Leads p q cs (w ∷ [])
 word p q w cs are_plain spelled whole follows = record {
   stands = λ rest more s. record {
-    symbols = chars cs ++ s.symbols;
+    symbols = chars90 cs ++ s.symbols;
     are = plain_symbols cs rest s.symbols are_plain s.are;
-    in_words = (s.symbols, record { gaps = []; front = chars cs; same = refl; are_gaps = tt; spelled = spelled; whole = whole rest s.symbols s.follows }, s.in_words);
+    in_words = (s.symbols, record { gaps = []; front = chars90 cs; same = refl; are_gaps = tt; spelled = spelled; whole = whole rest s.symbols s.follows }, s.in_words);
     follows = follows rest s.symbols;
   };
   tidy = plain_tidy cs are_plain;
 }
 
-pub stops_too : (p q : ℕ → Bool) → ((c : ℕ) → p c ≡ false → q c ≡ false) → (ss : List Symbol) → Stops p ss → Stops q ss
+pub stops_too : (p q : ℕ → Bool) → ((c : ℕ) → p c ≡ false → q c ≡ false) → (ss : List Symbol90) → Stops90 p ss → Stops90 q ss
 stops_too p q f [] h = tt
 stops_too p q f (Char c ∷ ss) h = f c h
 stops_too p q f (Gap ∷ ss) h = tt
 stops_too p q f (Text t ∷ ss) h = tt
 
-unjoint : (q : ℕ → Bool) → ((c : ℕ) → is_joint c ≡ false → q c ≡ false) → (rest : List ℕ) (ss : List Symbol) → Follows Start rest ss → Stops q ss
+unjoint : (q : ℕ → Bool) → ((c : ℕ) → is_joint c ≡ false → q c ≡ false) → (rest : List ℕ) (ss : List Symbol90) → Follows Start rest ss → Stops90 q ss
 unjoint q f rest ss h = stops_too is_joint q f ss h
 
 pub joint_41 : (c : ℕ) → is_joint c ≡ false → (c == 41) ≡ false
@@ -198,16 +200,16 @@ joint_58 c h = (or_parts (c == 58) _ (or_parts (c == 47) _ (or_parts (c == 42) _
 pub joint_61 : (c : ℕ) → is_joint c ≡ false → (c == 61) ≡ false
 joint_61 c h = (or_parts (c == 58) (c == 61) (or_parts (c == 47) _ (or_parts (c == 42) _ (or_parts (c == 41) _ h).1).1).1).1
 
-pub no_open : (c : ℕ) (ss : List Symbol) → (c == 40) ≡ false → c ≡ 40 → (rest : List Symbol) × (ss ≡ Char 47 ∷ rest)
+pub no_open : (c : ℕ) (ss : List Symbol90) → (c == 40) ≡ false → c ≡ 40 → (rest : List Symbol90) × (ss ≡ Char 47 ∷ rest)
 no_open c ss h e = absurd (grind (arith, nat_tests))
 
-pub inside : {p : Place} {cs : List ℕ} {ws : List Word} → Leads p Start cs ws → Leads p Inside cs ws
+pub inside : {p : Place} {cs : List ℕ} {ws : List Word90} → Leads p Start cs ws → Leads p Inside cs ws
 inside l = record {
   stands = λ rest more s. (let t = l.stands rest more s in record { symbols = t.symbols; are = t.are; in_words = t.in_words; follows = unjoint (λ c. c == 47) joint_47 rest t.symbols t.follows });
   tidy = l.tidy;
 }
 
-comma_follows : (q : Place) (rest : List ℕ) (ss : List Symbol) → Follows q (44 ∷ rest) (Char 44 ∷ ss)
+comma_follows : (q : Place) (rest : List ℕ) (ss : List Symbol90) → Follows q (44 ∷ rest) (Char 44 ∷ ss)
 comma_follows Anywhere rest ss = tt
 comma_follows Start rest ss = refl
 comma_follows Inside rest ss = refl
@@ -265,16 +267,16 @@ wordy_letter c h = grind (arith, nat_tests)
 wordy_digit : (c : ℕ) → IsTrue (is_digit c) → is_wordy c ≡ true
 wordy_digit c h = grind (arith, nat_tests)
 
-goes_on_plain : (c : ℕ) → goes_on c ≡ true → is_plain c ≡ true
+goes_on_plain : (c : ℕ) → goes_on90 c ≡ true → is_plain c ≡ true
 goes_on_plain c h = grind (arith, nat_tests)
 
-digit_goes_on : (c : ℕ) → is_digit c ≡ true → goes_on c ≡ true
+digit_goes_on : (c : ℕ) → is_digit c ≡ true → goes_on90 c ≡ true
 digit_goes_on c h = grind (arith, nat_tests)
 
-letter_goes_on : (c : ℕ) → is_letter c ≡ true → goes_on c ≡ true
+letter_goes_on : (c : ℕ) → is_letter c ≡ true → goes_on90 c ≡ true
 letter_goes_on c h = grind (arith, nat_tests)
 
-passes_plain : (cs : List ℕ) → Pass goes_on cs → list_all is_plain cs ≡ true
+passes_plain : (cs : List ℕ) → Pass goes_on90 cs → list_all is_plain cs ≡ true
 passes_plain [] h = refl
 passes_plain (c ∷ cs) h = and_from (is_plain c) (list_all is_plain cs) (goes_on_plain c h.0) (passes_plain cs h.1)
 
@@ -282,11 +284,11 @@ digits_plain : (cs : List ℕ) → Pass is_digit cs → list_all is_plain cs ≡
 digits_plain [] h = refl
 digits_plain (c ∷ cs) h = and_from (is_plain c) (list_all is_plain cs) (goes_on_plain c (digit_goes_on c h.0)) (digits_plain cs h.1)
 
-name_plain : (x : List ℕ) → IsName x → list_all is_plain x ≡ true
+name_plain : (x : List ℕ) → IsName90 x → list_all is_plain x ≡ true
 name_plain [] h = absurd h
 name_plain (c ∷ cs) h = and_from (is_plain c) (list_all is_plain cs) (goes_on_plain c (letter_goes_on c h.0)) (passes_plain cs h.1)
 
-wordy_follows : (q : Place) → IsFirst q → (c : ℕ) (rest : List ℕ) (ss : List Symbol) → is_wordy c ≡ true → Follows q (c ∷ rest) (Char c ∷ ss)
+wordy_follows : (q : Place) → IsFirst q → (c : ℕ) (rest : List ℕ) (ss : List Symbol90) → is_wordy c ≡ true → Follows q (c ∷ rest) (Char c ∷ ss)
 wordy_follows Anywhere f c rest ss h = tt
 wordy_follows Start f c rest ss h = wordy_joint c h
 wordy_follows Inside f c rest ss h = joint_47 c (wordy_joint c h)
@@ -294,35 +296,35 @@ wordy_follows Beyond f c rest ss h = joint_58 c (wordy_joint c h)
 wordy_follows Named f c rest ss h = no_open c ss (wordy_open c h)
 wordy_follows After f c rest ss h = absurd f
 
-name_follows : (q : Place) → IsFirst q → (x : List ℕ) → IsName x → (rest : List ℕ) (ss : List Symbol) → Follows q (x ++ rest) (chars x ++ ss)
+name_follows : (q : Place) → IsFirst q → (x : List ℕ) → IsName90 x → (rest : List ℕ) (ss : List Symbol90) → Follows q (x ++ rest) (chars90 x ++ ss)
 name_follows q f [] h rest ss = absurd h
-name_follows q f (c ∷ cs) h rest ss = wordy_follows q f c (cs ++ rest) (chars cs ++ ss) (wordy_letter c h.0)
+name_follows q f (c ∷ cs) h rest ss = wordy_follows q f c (cs ++ rest) (chars90 cs ++ ss) (wordy_letter c h.0)
 
-pub name_word : (q : Place) → IsFirst q → (x : List ℕ) → IsName x → Leads After q x (words.Name x ∷ [])
+pub name_word : (q : Place) → IsFirst q → (x : List ℕ) → IsName90 x → Leads After q x (words.Name x ∷ [])
 name_word q f x h = word After q (words.Name x) x (name_plain x h) (x, refl, (refl, h)) (λ rest ss g. (g.1, g.2)) (name_follows q f x h)
 
-pub digits_word : (q : Place) → IsFirst q → (t : List ℕ) → words.IsDigits t → Leads After q t (words.Digits t ∷ [])
+pub digits_word : (q : Place) → IsFirst q → (t : List ℕ) → characters.IsDigits t → Leads After q t (words.Digits t ∷ [])
 digits_word q f [] h = absurd h
 digits_word q f (c ∷ cs) h =
     word After q (words.Digits (c ∷ cs)) (c ∷ cs) (and_from (is_plain c) (list_all is_plain cs) (goes_on_plain c (digit_goes_on c h.0)) (digits_plain cs h.1))
-    (c ∷ cs, refl, (refl, h)) (λ rest ss g. g.1) (λ rest ss. wordy_follows q f c (cs ++ rest) (chars cs ++ ss) (wordy_digit c h.0))
+    (c ∷ cs, refl, (refl, h)) (λ rest ss g. g.1) (λ rest ss. wordy_follows q f c (cs ++ rest) (chars90 cs ++ ss) (wordy_digit c h.0))
 
 -- a name and the parenthesis behind it, with blanks between them
-head_with : (p q : Place) (bs : List ℕ) (gs : List Symbol) (x t : List ℕ) (us : List Word) → IsFirst q → AreGaps gs
-    → ((cs : List ℕ) (ss : List Symbol) → Symbols cs ss → Symbols (bs ++ cs) (gs ++ ss))
-    → IsTidy (bs ++ 40 ∷ []) → IsName x → Leads p Inside t us → Leads p q (x ++ (bs ++ (40 ∷ t))) (words.Head x ∷ us)
+head_with : (p q : Place) (bs : List ℕ) (gs : List Symbol90) (x t : List ℕ) (us : List Word90) → IsFirst q → AreGaps gs
+    → ((cs : List ℕ) (ss : List Symbol90) → Symbols cs ss → Symbols (bs ++ cs) (gs ++ ss))
+    → IsTidy (bs ++ 40 ∷ []) → IsName90 x → Leads p Inside t us → Leads p q (x ++ (bs ++ (40 ∷ t))) (words.Head x ∷ us)
 head_with p q bs gs x t us f gaps blanks tidy h l = record {
   stands = λ rest more s. (let i = l.stands rest more s in record {
-    symbols = chars x ++ (gs ++ (Char 40 ∷ i.symbols));
+    symbols = chars90 x ++ (gs ++ (Char 40 ∷ i.symbols));
     are =
-        subst (λ cs. Symbols cs (chars x ++ (gs ++ (Char 40 ∷ i.symbols)))) (sym (append_assoc x (bs ++ (40 ∷ t)) rest ∙ ap (λ r. x ++ r) (append_assoc bs (40 ∷ t) rest)))
+        subst (λ cs. Symbols cs (chars90 x ++ (gs ++ (Char 40 ∷ i.symbols)))) (sym (append_assoc x (bs ++ (40 ∷ t)) rest ∙ ap (λ r. x ++ r) (append_assoc bs (40 ∷ t) rest)))
         (plain_symbols x (bs ++ (40 ∷ (t ++ rest))) (gs ++ (Char 40 ∷ i.symbols)) (name_plain x h) (blanks _ _ (character 40 refl refl refl i.are)));
     in_words = (
       i.symbols,
       record {
         gaps = [];
-        front = chars x ++ (gs ++ Char 40 ∷ []);
-        same = sym (append_assoc (chars x) (gs ++ Char 40 ∷ []) i.symbols ∙ ap (λ r. chars x ++ r) (append_assoc gs (Char 40 ∷ []) i.symbols));
+        front = chars90 x ++ (gs ++ Char 40 ∷ []);
+        same = sym (append_assoc (chars90 x) (gs ++ Char 40 ∷ []) i.symbols ∙ ap (λ r. chars90 x ++ r) (append_assoc gs (Char 40 ∷ []) i.symbols));
         are_gaps = tt;
         spelled = (gs, refl, h, gaps);
         whole = i.follows;
@@ -330,16 +332,16 @@ head_with p q bs gs x t us f gaps blanks tidy h l = record {
       i.in_words,
     );
     follows =
-        subst (λ cs. Follows q cs (chars x ++ (gs ++ (Char 40 ∷ i.symbols)))) (sym (append_assoc x (bs ++ (40 ∷ t)) rest))
+        subst (λ cs. Follows q cs (chars90 x ++ (gs ++ (Char 40 ∷ i.symbols)))) (sym (append_assoc x (bs ++ (40 ∷ t)) rest))
         (name_follows q f x h ((bs ++ (40 ∷ t)) ++ rest) (gs ++ (Char 40 ∷ i.symbols)));
   });
   tidy = tidy_append x (bs ++ (40 ∷ t)) (plain_tidy x (name_plain x h)) (subst IsTidy (append_assoc bs (40 ∷ []) t) (tidy_append (bs ++ 40 ∷ []) t tidy l.tidy));
 }
 
-pub head_word : {p : Place} {t : List ℕ} {us : List Word} → (q : Place) → IsFirst q → (x : List ℕ) → IsName x → Leads p Inside t us → Leads p q (x ++ (40 ∷ t)) (words.Head x ∷ us)
+pub head_word : {p : Place} {t : List ℕ} {us : List Word90} → (q : Place) → IsFirst q → (x : List ℕ) → IsName90 x → Leads p Inside t us → Leads p q (x ++ (40 ∷ t)) (words.Head x ∷ us)
 head_word {p} {t} {us} q f x h l = head_with p q [] [] x t us f tt (λ cs ss s. s) (plain_tidy (codes "(") refl) h l
 
-pub spaced_head : {p : Place} {t : List ℕ} {us : List Word} → (q : Place) → IsFirst q → (x : List ℕ) → IsName x → Leads p Inside t us → Leads p q (x ++ (codes " (" ++ t)) (words.Head x ∷ us)
+pub spaced_head : {p : Place} {t : List ℕ} {us : List Word90} → (q : Place) → IsFirst q → (x : List ℕ) → IsName90 x → Leads p Inside t us → Leads p q (x ++ (codes " (" ++ t)) (words.Head x ∷ us)
 spaced_head {p} {t} {us} q f x h l =
     head_with p q (codes " ") (Gap ∷ []) x t us f tt (λ cs ss s. blank s) (one_tidy 32 (codes "(") (omega arith, omega arith) refl refl (plain_tidy (codes "(") refl)) h l
 
@@ -353,7 +355,7 @@ end_follows Beyond = tt
 end_follows Named = tt
 end_follows After = (tt, tt, tt)
 
-pub has_words : {p q : Place} {cs : List ℕ} {ws : List Word} → Leads p q cs ws → words.HasWords cs ws
+pub has_words : {p q : Place} {cs : List ℕ} {ws : List Word90} → Leads p q cs ws → words.HasWords cs ws
 has_words {p} {q} {cs} {ws} l =
     let s = l.stands [] [] (record { symbols = []; are = nothing; in_words = tt; follows = end_follows p }) in
     let e = subst (λ t. Stands q t (ws ++ [])) (append-nil cs) s in

@@ -11,7 +11,7 @@ use mathlib.Core.Path.{ap₂}
 use Rattle.tree.specs.Plain.{Declaration, Block, Program}
 use Rattle.meaning.specs.Names.{IsInByteOrder}
 use Rattle.f90_grammar.specs.Blocks.{Placed}
-use Rattle.f90_grammar.specs.Declared.{names_of}
+use Rattle.f90_grammar.specs.Declared.{declared_names_of}
 use Rattle.f90_grammar.specs.Programs.{IsProgramOf}
 use Rattle.f90_laws.proofs.blocks.Bodies.{one_body}
 use Rattle.f90_laws.proofs.readings.Lists.{here, there, nowhere, cases_of}
@@ -29,7 +29,7 @@ below_itself x h =
     let same : bytes_eq x x ≡ true = (bytes_eq-Decides x x).1 refl in
     cc
 
-below_each : (x : List ℕ) (ds : List Declaration) (d : Declaration) → AllByRecursion (λ (y : List ℕ). Below x y) (names_of ds) → Contains ds d
+below_each : (x : List ℕ) (ds : List Declaration) (d : Declaration) → AllByRecursion (λ (y : List ℕ). Below x y) (declared_names_of ds) → Contains ds d
     → Below x d.name
 below_each x [] d h c = absurd (nowhere d c)
 below_each x (e ∷ es) d h c = by (below_each x es d h.1) (cases_of e es d c)
@@ -42,8 +42,8 @@ abbrev AreAmong : List Declaration → List Declaration → Type 0
 AreAmong ds es = (d : Declaration) → Contains ds d → Contains es d
 
 -- the least of both is one
-same_head : (d : Declaration) (ds : List Declaration) (e : Declaration) (es : List Declaration) → IsInByteOrder (names_of (d ∷ ds))
-    → IsInByteOrder (names_of (e ∷ es)) → AreAmong (d ∷ ds) (e ∷ es) → AreAmong (e ∷ es) (d ∷ ds) → d ≡ e
+same_head : (d : Declaration) (ds : List Declaration) (e : Declaration) (es : List Declaration) → IsInByteOrder (declared_names_of (d ∷ ds))
+    → IsInByteOrder (declared_names_of (e ∷ es)) → AreAmong (d ∷ ds) (e ∷ es) → AreAmong (e ∷ es) (d ∷ ds) → d ≡ e
 same_head d ds e es h k to from = by (cases_of e es d (to d (here d ds))) (cases_of d ds e (from e (here e es)))
   where
     by : (e ≡ d) ⊎ Contains es d → (d ≡ e) ⊎ Contains ds e → d ≡ e
@@ -52,7 +52,7 @@ same_head d ds e es h k to from = by (cases_of e es d (to d (here d ds))) (cases
     by (inr c) (inr g) =
         absurd (below_itself d.name (nat_list_cmp_total.trans d.name e.name d.name (below_each d.name ds e h.0 g) (below_each e.name es d k.0 c)))
 
-among_rest : (d : Declaration) (ds : List Declaration) (e : Declaration) (es : List Declaration) → d ≡ e → IsInByteOrder (names_of (d ∷ ds))
+among_rest : (d : Declaration) (ds : List Declaration) (e : Declaration) (es : List Declaration) → d ≡ e → IsInByteOrder (declared_names_of (d ∷ ds))
     → AreAmong (d ∷ ds) (e ∷ es) → AreAmong ds es
 among_rest d ds e es s h to x c = by (cases_of e es x (to x (there d ds x c)))
   where
@@ -60,7 +60,7 @@ among_rest d ds e es s h to x c = by (cases_of e es x (to x (there d ds x c)))
     by (inl t) = absurd (below_itself d.name (subst (λ (f : Declaration). Below d.name f.name) (sym (s ∙ t)) (below_each d.name ds x h.0 c)))
     by (inr g) = g
 
-once_sorted : (ds es : List Declaration) → IsInByteOrder (names_of ds) → IsInByteOrder (names_of es) → AreAmong ds es → AreAmong es ds → ds ≡ es
+once_sorted : (ds es : List Declaration) → IsInByteOrder (declared_names_of ds) → IsInByteOrder (declared_names_of es) → AreAmong ds es → AreAmong es ds → ds ≡ es
 once_sorted [] [] h k to from = refl
 once_sorted [] (e ∷ es) h k to from = absurd (nowhere e (from e (here e es)))
 once_sorted (d ∷ ds) [] h k to from = absurd (nowhere d (to d (here d ds)))

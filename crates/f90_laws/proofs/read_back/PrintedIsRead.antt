@@ -8,8 +8,8 @@ use Rattle.f90_grammar.specs.FreeForm.{FreeStatement}
 use Rattle.f90_grammar.specs.Blocks.{Placed}
 use Rattle.f90_grammar.specs.Contents.{SuitsCallsIn}
 use Rattle.f90_grammar.specs.Declared.{functions_in}
-use Rattle.f90_grammar.specs.Refusals.{HasNoForm, HoldsIn, HasCause, Conforms90}
-use Rattle.f90_grammar.specs.Refusals.HasCause.{InLines, InWords, InStatements}
+use Rattle.f90_grammar.specs.Refusals.{HasNoForm90, HoldsIn, HasCause90, Conforms90}
+use Rattle.f90_grammar.specs.Refusals.HasCause90.{InLines, InWords, InStatements}
 use Rattle.f90_laws.proofs.readings.Lists.{all_at}
 use Rattle.f90_laws.proofs.unique.Lines.{statements_once, one_text}
 use Rattle.f90_laws.specs.unrefused.Unrefused.{IsReadWell}
@@ -19,7 +19,7 @@ use Rattle.f90_laws.proofs.read_back.DeclaredNames.{has_placed, same_functions}
 
 module _ (p : Program) (text : List ℕ) (w : IsReadWell p text) where
   -- each statement has a form that suits
-  has_form : (s : FreeStatement) → Contains w.read_back.of_text.statements s → HasNoForm w.read_back.of_text.statements s → ⊥
+  has_form : (s : FreeStatement) → Contains w.read_back.of_text.statements s → HasNoForm90 w.read_back.of_text.statements s → ⊥
   has_form s stands n =
       let ps = w.read_back.statements in
       let ss = w.read_back.of_text.statements in
@@ -29,11 +29,11 @@ module _ (p : Program) (text : List ℕ) (w : IsReadWell p text) where
       n.none f.it.form f.form
       (subst (λ (function : List ℕ → Option Intrinsic). SuitsCallsIn function f.it.form) (same_functions ss ps have n.declared n.are_declared) suits)
 
-  no_cause : (r : Refusal) → HasCause text r → ⊥
+  no_cause : (r : Refusal) → HasCause90 text r → ⊥
   no_cause r (InLines q h) = w.lines q h
   no_cause r (InWords ss s are stands n) =
       let e : ss ≡ w.read_back.of_text.statements = statements_once are w.read_back.of_text.statements w.read_back.of_text.of_lines in
-      has_form s (subst (λ (ts : List FreeStatement). Contains ts s) e stands) (subst (λ (ts : List FreeStatement). HasNoForm ts s) e n)
+      has_form s (subst (λ (ts : List FreeStatement). Contains ts s) e stands) (subst (λ (ts : List FreeStatement). HasNoForm90 ts s) e n)
   no_cause r (InStatements ps c line of_text h) =
       w.causes c line (subst (λ (qs : List Placed). HoldsIn qs c line) (one_text text ps w.read_back.statements of_text w.read_back.of_text) h)
 

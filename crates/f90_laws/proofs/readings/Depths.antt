@@ -11,11 +11,11 @@ use Rattle.tree.specs.Plain.{Expression, Expressions, Subscript, Subscripts, Loo
 use Rattle.meaning.specs.Depths.{enclosed, depth_of, depth_of_each, depth_of_subscripts, depth_of_subscript, depth_under, depth_of_item, depth_of_items}
 use Rattle.meaning.specs.Depths as depths
 use Rattle.meaning.specs.Value.{named}
-use Rattle.f90_grammar.specs.Items.{IsReference}
-use Rattle.f90_grammar.specs.Blocks.{reference_in}
+use Rattle.f90_grammar.specs.Items.{IsReference90}
+use Rattle.reading.specs.Signs.{reference_in, signed, argument_of}
 use Rattle.f90_grammar.specs.Contents.{VariableSuitsCalls}
 use Rattle.f90_grammar.specs.Phrases as phrases
-use Rattle.f90_grammar.specs.Phrases.{Phrase, Literal, Truth, Name, Listed, Paren, Signed, Joined, Values, Looped, Part, Value, Range, Strided, Parts, One, Then, Phrases, Turn, Innermost, Round, level, IsExpression, IsPart, AreParts, AreExpressions, IsTurn, depth, depth_of_part, depth_of_parts, depth_of_values, depth_of_turn, AreValues, IsDimension, IsShape, SuitsFunction, signed, argument_of, arguments_of, list_in, called, tree_of, tree_of_part, trees_of_parts, trees_of_values, looped, SuitsCalls, PartSuitsCalls, PartsSuitCalls, ValuesSuitCalls, TurnSuitsCalls}
+use Rattle.f90_grammar.specs.Phrases.{Phrase90, Literal, Truth, Name, Listed, Paren, Signed, Joined, Values, Looped, ListPart, Value, Range, Strided, ListParts, One, Then, Phrases90, Turn, Innermost, Round, phrase_level90, IsExpression90, IsPart, AreParts, AreExpressions90, IsTurn, phrase_depth90, depth_of_part, depth_of_parts, depth_of_values, depth_of_turn, AreValues, HasLiteralDimension, IsShape, SuitsFunction, arguments90_of, list_in, called, tree_of, tree_of_part, trees_of_parts, trees_of_values, looped, SuitsCalls, PartSuitsCalls, PartsSuitCalls, ValuesSuitCalls, TurnSuitsCalls}
 
 -- within n, and with room for a parenthesis where it would need one at the level l
 record Fits (n l : ℕ) (e : Expression) : Type 0 where
@@ -51,7 +51,7 @@ argument-le : (s : Subscript) → depth_of (argument_of s) ≤ depth_of_subscrip
 argument-le (tree.Only e) = omega arith
 argument-le (tree.Section a b c) = omega arith
 
-arguments-le : (ss : List Subscript) (n : ℕ) → depth_of_subscripts (tree.subscripts ss) ≤ n + 1 → depth_of_each (tree.expressions (arguments_of ss)) ≤ n
+arguments-le : (ss : List Subscript) (n : ℕ) → depth_of_subscripts (tree.subscripts ss) ≤ n + 1 → depth_of_each (tree.expressions (arguments90_of ss)) ≤ n
 arguments-le [] n h = omega arith
 arguments-le (s ∷ ss) n h = omega (arith, argument-le s, arguments-le ss n (omega arith))
 
@@ -106,11 +106,11 @@ called_tops (Some Reshape) x (s ∷ t ∷ []) n h r =
 called_tops (Some Reshape) x (s ∷ t ∷ u ∷ ss) n h r = record { within = h; top = refl }
 
 module _ (function : List ℕ → Option Intrinsic) where
-  some_parts : (ps : Parts) → 1 ≤ length (trees_of_parts function ps)
+  some_parts : (ps : ListParts) → 1 ≤ length (trees_of_parts function ps)
   some_parts (One p) = omega arith
   some_parts (Then ps p) = omega (arith, length-append (trees_of_parts function ps) (tree_of_part function p ∷ []))
 
-  shape_deep : (ps : Parts) → IsShape ps → length (trees_of_parts function ps) ≡ 2 → 1 ≤ depth_of_parts ps
+  shape_deep : (ps : ListParts) → IsShape ps → length (trees_of_parts function ps) ≡ 2 → 1 ≤ depth_of_parts ps
   shape_deep (One p) h e = absurd (omega (arith, e))
   shape_deep (Then (One p) (Value (Values vs))) h e = omega arith
   shape_deep (Then (One p) (Value (Literal t))) h e = absurd h
@@ -126,7 +126,7 @@ module _ (function : List ℕ → Option Intrinsic) where
   shape_deep (Then (Then ps p) q) h e =
       absurd (omega (arith, e, some_parts ps, length-append (trees_of_parts function ps) (tree_of_part function p ∷ []), length-append (trees_of_parts function ps ++ tree_of_part function p ∷ []) (tree_of_part function q ∷ [])))
 
-  reshape_deep : (f : Option Intrinsic) (ps : Parts) → SuitsFunction f ps → f ≡ Some Reshape → length (trees_of_parts function ps) ≡ 2 → 1 ≤ depth_of_parts ps
+  reshape_deep : (f : Option Intrinsic) (ps : ListParts) → SuitsFunction f ps → f ≡ Some Reshape → length (trees_of_parts function ps) ≡ 2 → 1 ≤ depth_of_parts ps
   reshape_deep None ps h e l = cc
   reshape_deep (Some (Elemental g)) ps h e l = cc
   reshape_deep (Some (Reduction g)) ps h e l = cc
@@ -141,32 +141,32 @@ module _ (function : List ℕ → Option Intrinsic) where
   -- ---- every expression
 
   mutual
-    fits : (p : Phrase) → IsExpression p → SuitsCalls function p → Fits (depth p) (level p) (tree_of function p)
+    fits : (p : Phrase90) → IsExpression90 p → SuitsCalls function p → Fits (phrase_depth90 p) (phrase_level90 p) (tree_of function p)
     fits (Literal t) h c = fits_top 0 (tree_of function (Literal t)) refl (omega arith)
     fits (Truth b) h c = fits_top 0 (tree.Logic b) refl (omega arith)
     fits (Name x) h c = fits_top 0 (tree.Named x tree.no_subscripts) refl (omega arith)
     fits (Listed x ps) h c =
         let t = called_tops (function x) x (trees_of_parts function ps) (depth_of_parts ps) (parts_fit ps h c.1) (reshape_deep (function x) ps c.0) in
         fits_top (depth_of_parts ps + 1) (called (function x) x (trees_of_parts function ps)) t.top t.within
-    fits (Paren p) h c = let f = fits p h c in let w : depth_of (tree_of function p) ≤ depth p = f.within in record { within = omega arith; room = λ l. omega arith }
-    fits (Signed Plus p) h c = let f = fits p h.2 c in let k : sign_level Plus + 1 ≤ level p = h.0 in
+    fits (Paren p) h c = let f = fits p h c in let w : depth_of (tree_of function p) ≤ phrase_depth90 p = f.within in record { within = omega arith; room = λ l. omega arith }
+    fits (Signed Plus p) h c = let f = fits p h.2 c in let k : sign_level Plus + 1 ≤ phrase_level90 p = h.0 in
         record { within = omega (arith, f.within); room = λ l. omega (arith, f.room (omega (arith, l))) }
-    fits (Signed Minus p) h c = let f = fits p h.2 c in let k : sign_level Minus + 1 ≤ level p = h.0 in
+    fits (Signed Minus p) h c = let f = fits p h.2 c in let k : sign_level Minus + 1 ≤ phrase_level90 p = h.0 in
         record {
-          within = omega (arith, enclosed-le (right_least Neg) (depths.level (tree_of function p)) (depth_of (tree_of function p)) (depth p) (level p) (omega arith) f.within f.room);
+          within = omega (arith, enclosed-le (right_least Neg) (depths.level (tree_of function p)) (depth_of (tree_of function p)) (phrase_depth90 p) (phrase_level90 p) (omega arith) f.within f.room);
           room = λ l. absurd (omega arith);
         }
-    fits (Signed Negation p) h c = let f = fits p h.2 c in let k : sign_level Negation + 1 ≤ level p = h.0 in
+    fits (Signed Negation p) h c = let f = fits p h.2 c in let k : sign_level Negation + 1 ≤ phrase_level90 p = h.0 in
         record {
-          within = omega (arith, enclosed-le (right_least Not) (depths.level (tree_of function p)) (depth_of (tree_of function p)) (depth p) (level p) (omega arith) f.within f.room);
+          within = omega (arith, enclosed-le (right_least Not) (depths.level (tree_of function p)) (depth_of (tree_of function p)) (phrase_depth90 p) (phrase_level90 p) (omega arith) f.within f.room);
           room = λ l. absurd (omega arith);
         }
     fits (Joined o a b) h c = let f = fits a h.4 c.0 in let g = fits b h.5 c.1 in
         record {
           within = omega (
             arith,
-            enclosed-le (left_least o) (depths.level (tree_of function a)) (depth_of (tree_of function a)) (depth a) (level a) h.1 f.within f.room,
-            enclosed-le (right_least o) (depths.level (tree_of function b)) (depth_of (tree_of function b)) (depth b) (level b) h.2 g.within g.room,
+            enclosed-le (left_least o) (depths.level (tree_of function a)) (depth_of (tree_of function a)) (phrase_depth90 a) (phrase_level90 a) h.1 f.within f.room,
+            enclosed-le (right_least o) (depths.level (tree_of function b)) (depth_of (tree_of function b)) (phrase_depth90 b) (phrase_level90 b) h.2 g.within g.room,
           );
           room = λ l. absurd (omega (arith, l));
         }
@@ -183,24 +183,24 @@ module _ (function : List ℕ → Option Intrinsic) where
         let w : m ≤ depth_of_turn (Round t x a b) = omega (arith, (fits a h.1 c.1).within, (fits b h.2 c.2).within) in
         omega (arith, turn_fits t (tree.loop x (tree_of function a) (tree_of function b) ls) h.0 c.0, under-le ls m (depth_of_turn (Round t x a b)) w)
 
-    part_fits : (p : Part) → IsPart p → PartSuitsCalls function p → depth_of_subscript (tree_of_part function p) ≤ depth_of_part p
+    part_fits : (p : ListPart) → IsPart p → PartSuitsCalls function p → depth_of_subscript (tree_of_part function p) ≤ depth_of_part p
     part_fits (Value p) h c = (fits p h c).within
     part_fits (Range a b) h c = omega (arith, (fits a h.0 c.0).within, (fits b h.1 c.1).within)
     part_fits (Strided a b s) h c = omega (arith, (fits a h.0 c.0).within, (fits b h.1 c.1).within, (fits s h.2 c.2).within)
 
-    pub parts_fit : (ps : Parts) → AreParts ps → PartsSuitCalls function ps → depth_of_subscripts (tree.subscripts (trees_of_parts function ps)) ≤ depth_of_parts ps + 1
+    pub parts_fit : (ps : ListParts) → AreParts ps → PartsSuitCalls function ps → depth_of_subscripts (tree.subscripts (trees_of_parts function ps)) ≤ depth_of_parts ps + 1
     parts_fit (One p) h c = omega (arith, part_fits p h c)
     parts_fit (Then ps p) h c =
         append_subscripts (max (depth_of_parts ps) (depth_of_part p)) (trees_of_parts function ps) (tree_of_part function p) (omega (arith, parts_fit ps h.0 c.0)) (omega (arith, part_fits p h.1 c.1))
 
-    values_fit : (ps : Phrases) → AreExpressions ps → ValuesSuitCalls function ps → depth_of_each (tree.expressions (trees_of_values function ps)) ≤ depth_of_values ps
+    values_fit : (ps : Phrases90) → AreExpressions90 ps → ValuesSuitCalls function ps → depth_of_each (tree.expressions (trees_of_values function ps)) ≤ depth_of_values ps
     values_fit (phrases.Sole p) h c = omega (arith, (fits p h c).within)
     values_fit (phrases.More ps p) h c =
-        append_each (max (depth_of_values ps) (depth p)) (trees_of_values function ps) (tree_of function p) (omega (arith, values_fit ps h.0 c.0)) (omega (arith, (fits p h.1 c.1).within))
+        append_each (max (depth_of_values ps) (phrase_depth90 p)) (trees_of_values function ps) (tree_of function p) (omega (arith, values_fit ps h.0 c.0)) (omega (arith, (fits p h.1 c.1).within))
 
   -- ---- what is stored into, and lists
 
-  pub shallow : (p : Phrase) → IsExpression p → SuitsCalls function p → depth_of (tree_of function p) ≤ depth p
+  pub shallow : (p : Phrase90) → IsExpression90 p → SuitsCalls function p → depth_of (tree_of function p) ≤ phrase_depth90 p
   shallow p h c = (fits p h c).within
 
   named_depth : (e : Expression) → depth_of (named (reference_in e)) ≤ depth_of e
@@ -237,8 +237,8 @@ module _ (function : List ℕ → Option Intrinsic) where
   called_named (Some Reshape) x (s ∷ t ∷ []) n h = omega arith
   called_named (Some Reshape) x (s ∷ t ∷ u ∷ ss) n h = h
 
-  pub shallow_variable : (p : Phrase) → IsReference p → IsExpression p → VariableSuitsCalls function p
-      → depth_of (named (reference_in (tree_of function p))) ≤ depth p
+  pub shallow_variable : (p : Phrase90) → IsReference90 p → IsExpression90 p → VariableSuitsCalls function p
+      → depth_of (named (reference_in (tree_of function p))) ≤ phrase_depth90 p
   shallow_variable (Name x) r h c = omega arith
   shallow_variable (Listed x ps) r h c = called_named (function x) x (trees_of_parts function ps) (depth_of_parts ps + 1) (parts_fit ps h c)
   shallow_variable (Literal t) r h c = absurd r

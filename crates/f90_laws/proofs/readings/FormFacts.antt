@@ -16,14 +16,16 @@ use Rattle.meaning.specs.Typed90.{rank_of, rank_of_subscripts, HasKind, IsScalar
 use Rattle.meaning.specs.Value.{named}
 use Rattle.meaning.specs.Extents.{IsAllocatable}
 use Rattle.f90_grammar.specs.Phrases as phrases
-use Rattle.f90_grammar.specs.Phrases.{Phrase, Literal, Truth, Name, Listed, Paren, Signed, Joined, Values, Looped, Parts, IsExpression, AreParts, depth, depth_of_parts, tree_of, trees_of_parts, called, value_of_digits, SuitsCalls, PartsSuitCalls, AreValues}
-use Rattle.f90_grammar.specs.Items.{ItemPhrase, Of, Text, Loop, ItemPhrases, Sole, More, Direction, Input, Output, IsReference, IsVariable, MayStand, IsStep, IsItem, AreItems, step_tree, item_tree, item_trees, step_depth, item_depth, items_depth}
+use Rattle.f90_grammar.specs.Phrases.{Phrase90, Literal, Truth, Name, Listed, Paren, Signed, Joined, Values, Looped, ListParts, IsExpression90, AreParts, phrase_depth90, depth_of_parts, tree_of, trees_of_parts, called, value_of_digits, SuitsCalls, PartsSuitCalls, AreValues}
+use Rattle.f90_grammar.specs.Items.{ItemPhrase90, Of, Text, Loop, ItemPhrases90, Sole, More, Direction, Input, Output, IsReference90, IsVariable, MayStand90, IsStep90, IsItem90, AreItems90, step_tree90, item_tree90, item_trees90, step_depth90, item_depth90, items_depth90}
 use Rattle.f90_grammar.specs.Words as words
 use Rattle.f90_grammar.specs.Forms as forms
-use Rattle.f90_grammar.specs.Forms.{Form, IsList, IsInner, IsWritten}
-use Rattle.f90_grammar.specs.Blocks.{reference_in, trees}
+use Rattle.f90_grammar.specs.Forms.{Form90, IsInner90, IsWritten90}
+use Rattle.reading.specs.Characters.{IsList}
+use Rattle.reading.specs.Signs.{reference_in}
+use Rattle.f90_grammar.specs.Blocks.{trees_by}
 use Rattle.f90_grammar.specs.Reading.{function_by}
-use Rattle.f90_grammar.specs.Contents.{step_expressions, item_expressions, items_expressions, item_variables, items_variables, expressions_of, variables_of, VariableSuitsCalls, SuitsCallsIn, is_deep, has_deep_list, has_deep_expression}
+use Rattle.f90_grammar.specs.Contents.{step_expressions, item_expressions, items_expressions, item_variables, items_variables, expressions_of, stored_variables_of, VariableSuitsCalls, SuitsCallsIn, is_deep, has_deep_list, has_deep_expression}
 use Rattle.f90_grammar.specs.Suited.{SuitsAssignment, SuitsMask, AreNumbers, SuitsList, SuitsItem, SuitsItems, SuitsAllocation, Suits}
 use Rattle.f90_laws.proofs.readings.Lists.{left_false, right_false, all_left, all_right}
 use Rattle.f90_laws.proofs.readings.Decisions.{Decided, both, three, either, same_number, at_most, some_and, same_later}
@@ -78,17 +80,17 @@ module _ (ds : List Declaration) where
   allocatable (tree.Given bs) = inr (λ h. h)
   allocatable (tree.Later n) = inl tt
 
-  pub suits : (f : Form) → Decided (Suits ds f)
+  pub suits : (f : Form90) → Decided (Suits ds f)
   suits (forms.Assign l r) = suits_assignment (reference_in (tree_of (function_by ds) l)) (tree_of (function_by ds) r)
   suits (forms.Where m l r) = both (suits_mask (tree_of (function_by ds) m) (reference_in (tree_of (function_by ds) l))) (suits_assignment (reference_in (tree_of (function_by ds) l)) (tree_of (function_by ds) r))
   suits (forms.Test p f) = both (scalar ds (tree_of (function_by ds) p) Logical) (suits f)
   suits (forms.If p) = scalar ds (tree_of (function_by ds) p) Logical
   suits (forms.ElseIf p) = scalar ds (tree_of (function_by ds) p) Logical
-  suits (forms.Do x a b c) = are_numbers (tree_of (function_by ds) a) (tree_of (function_by ds) b) (step_tree (function_by ds) c)
-  suits (forms.Read is) = suits_items Input (tree.items (item_trees (function_by ds) is))
-  suits (forms.Print is) = suits_items Output (tree.items (item_trees (function_by ds) is))
+  suits (forms.Do x a b c) = are_numbers (tree_of (function_by ds) a) (tree_of (function_by ds) b) (step_tree90 (function_by ds) c)
+  suits (forms.Read is) = suits_items Input (tree.items (item_trees90 (function_by ds) is))
+  suits (forms.Print is) = suits_items Output (tree.items (item_trees90 (function_by ds) is))
   suits (forms.Allocate x es) =
-      let as' = tree.expressions (trees (tree_of (function_by ds)) es) in
+      let as' = tree.expressions (trees_by (tree_of (function_by ds)) es) in
       both (some_and (declared ds x) (λ d. d.extent ≡ Later (number_of_arguments as')) (λ d. same_later d.extent (number_of_arguments as'))) (are_scalars ds as' Integer)
   suits (forms.Deallocate x) = some_and (declared ds x) (λ d. IsAllocatable d.extent) (λ d. allocatable d.extent)
   suits (forms.Program x) = inl tt
@@ -114,9 +116,9 @@ not_deep n h = by (leb_tells (deepest + 1) n)
     by (inl t) = cc
     by (inr t) = let lt = t.1 in omega arith
 
-pub each_shallow : (ps : List Phrase) → list_any is_deep ps ≡ false → AllByRecursion (λ p. depth p ≤ deepest) ps
+pub each_shallow : (ps : List Phrase90) → list_any is_deep ps ≡ false → AllByRecursion (λ p. phrase_depth90 p ≤ deepest) ps
 each_shallow [] h = tt
-each_shallow (p ∷ ps) h = (not_deep (depth p) (left_false (is_deep p) (list_any is_deep ps) h), each_shallow ps (right_false (is_deep p) (list_any is_deep ps) h))
+each_shallow (p ∷ ps) h = (not_deep (phrase_depth90 p) (left_false (is_deep p) (list_any is_deep ps) h), each_shallow ps (right_false (is_deep p) (list_any is_deep ps) h))
 
 items_append : (is : List Item) (i : Item) → depth_of_items (tree.items (is ++ i ∷ [])) ≤ max (depth_of_items (tree.items is)) (depth_of_item i)
 items_append [] i = omega arith
@@ -126,13 +128,13 @@ module _ (ds : List Declaration) where
   abbrev function : List ℕ → Option Intrinsic
   function = function_by ds
 
-  abbrev Calls : List Phrase → Type 0
+  abbrev Calls : List Phrase90 → Type 0
   Calls ps = AllByRecursion (SuitsCalls function) ps
 
-  abbrev Variables : List Phrase → Type 0
+  abbrev Variables : List Phrase90 → Type 0
   Variables ps = AllByRecursion (VariableSuitsCalls function) ps
 
-  step_shallow : (c : Option Phrase) → IsStep c → Calls (step_expressions c) → depth_of (step_tree function c) ≤ step_depth c
+  step_shallow : (c : Option Phrase90) → IsStep90 c → Calls (step_expressions c) → depth_of (step_tree90 function c) ≤ step_depth90 c
   step_shallow None h c = omega arith
   step_shallow (Some p) h c = shallow function p h c.0
 
@@ -156,7 +158,7 @@ module _ (ds : List Declaration) where
   input_called (Some Reshape) x (a ∷ b ∷ []) n h s = absurd s
   input_called (Some Reshape) x (a ∷ b ∷ c ∷ ss) n h s = h
 
-  input_shallow : (p : Phrase) → IsVariable p → IsExpression p → VariableSuitsCalls function p → SuitsList ds Input (tree_of function p) → depth_of (tree_of function p) ≤ depth p
+  input_shallow : (p : Phrase90) → IsVariable p → IsExpression90 p → VariableSuitsCalls function p → SuitsList ds Input (tree_of function p) → depth_of (tree_of function p) ≤ phrase_depth90 p
   input_shallow (Name x) v h c s = omega arith
   input_shallow (Listed x ps) v h c s = input_called (function x) x (trees_of_parts function ps) (depth_of_parts ps + 1) (parts_fit function ps h c) s
   input_shallow (Literal t) v h c s = absurd v
@@ -172,7 +174,7 @@ module _ (ds : List Declaration) where
   items_suit d (j ∷ is) i h = let more = items_suit d is i h.1 in ((h.0, more.0), more.1)
 
   mutual
-    output_shallow : (i : ItemPhrase) → IsItem Output i → Calls (item_expressions Output i) → depth_of_item (item_tree function i) ≤ item_depth i
+    output_shallow : (i : ItemPhrase90) → IsItem90 Output i → Calls (item_expressions Output i) → depth_of_item (item_tree90 function i) ≤ item_depth90 i
     output_shallow (Of p) h c = shallow function p h.0 c.0
     output_shallow (Text t) h c = omega arith
     output_shallow (Loop is x a b s) h c =
@@ -185,18 +187,18 @@ module _ (ds : List Declaration) where
           step_shallow s h.3 behind.1.1,
         )
 
-    outputs_shallow : (is : ItemPhrases) → AreItems Output is → Calls (items_expressions Output is) → depth_of_items (tree.items (item_trees function is)) ≤ items_depth is
+    outputs_shallow : (is : ItemPhrases90) → AreItems90 Output is → Calls (items_expressions Output is) → depth_of_items (tree.items (item_trees90 function is)) ≤ items_depth90 is
     outputs_shallow (Sole i) h c = omega (arith, output_shallow i h c)
     outputs_shallow (More is i) h c =
         omega (
           arith,
-          items_append (item_trees function is) (item_tree function i),
+          items_append (item_trees90 function is) (item_tree90 function i),
           outputs_shallow is h.0 (all_left (SuitsCalls function) (items_expressions Output is) (item_expressions Output i) c),
           output_shallow i h.1 (all_right (SuitsCalls function) (items_expressions Output is) (item_expressions Output i) c),
         )
 
   mutual
-    input_item_shallow : (i : ItemPhrase) → IsItem Input i → Calls (item_expressions Input i) → Variables (item_variables i) → SuitsItem ds Input (item_tree function i) → depth_of_item (item_tree function i) ≤ item_depth i
+    input_item_shallow : (i : ItemPhrase90) → IsItem90 Input i → Calls (item_expressions Input i) → Variables (item_variables i) → SuitsItem ds Input (item_tree90 function i) → depth_of_item (item_tree90 function i) ≤ item_depth90 i
     input_item_shallow (Of p) h c v s = input_shallow p h.1 h.0 v.0 s
     input_item_shallow (Text t) h c v s = absurd h
     input_item_shallow (Loop is x a b t) h c v s =
@@ -209,14 +211,14 @@ module _ (ds : List Declaration) where
           step_shallow t h.3 behind.1.1,
         )
 
-    inputs_shallow : (is : ItemPhrases) → AreItems Input is → Calls (items_expressions Input is) → Variables (items_variables is) → SuitsItems ds Input (tree.items (item_trees function is))
-        → depth_of_items (tree.items (item_trees function is)) ≤ items_depth is
+    inputs_shallow : (is : ItemPhrases90) → AreItems90 Input is → Calls (items_expressions Input is) → Variables (items_variables is) → SuitsItems ds Input (tree.items (item_trees90 function is))
+        → depth_of_items (tree.items (item_trees90 function is)) ≤ items_depth90 is
     inputs_shallow (Sole i) h c v s = omega (arith, input_item_shallow i h c v s.0)
     inputs_shallow (More is i) h c v s =
-        let parts = items_suit Input (item_trees function is) (item_tree function i) s in
+        let parts = items_suit Input (item_trees90 function is) (item_tree90 function i) s in
         omega (
           arith,
-          items_append (item_trees function is) (item_tree function i),
+          items_append (item_trees90 function is) (item_tree90 function i),
           inputs_shallow is h.0 (all_left (SuitsCalls function) (items_expressions Input is) (item_expressions Input i) c) (all_left (VariableSuitsCalls function) (items_variables is) (item_variables i) v) parts.0,
           input_item_shallow i h.1 (all_right (SuitsCalls function) (items_expressions Input is) (item_expressions Input i) c) (all_right (VariableSuitsCalls function) (items_variables is) (item_variables i) v) parts.1,
         )
@@ -231,43 +233,43 @@ module _ (ds : List Declaration) where
   wordless_append [] i h g = (g, tt)
   wordless_append (j ∷ is) i h g = (h.0, wordless_append is i h.1 g)
 
-  some_item : (is : ItemPhrases) → IsTrue (has_item (tree.items (item_trees function is)))
+  some_item : (is : ItemPhrases90) → IsTrue (has_item (tree.items (item_trees90 function is)))
   some_item (Sole i) = refl
-  some_item (More is i) = appended (item_trees function is)
+  some_item (More is i) = appended (item_trees90 function is)
     where
-      appended : (js : List Item) → IsTrue (has_item (tree.items (js ++ item_tree function i ∷ [])))
+      appended : (js : List Item) → IsTrue (has_item (tree.items (js ++ item_tree90 function i ∷ [])))
       appended [] = refl
       appended (j ∷ js) = refl
 
   mutual
-    item_filled : (i : ItemPhrase) → HasTexts i → IsFilled (item_tree function i)
+    item_filled : (i : ItemPhrase90) → HasTexts i → IsFilled (item_tree90 function i)
     item_filled (Of p) h = tt
     item_filled (Text t) h = h
     item_filled (Loop is x a b c) h = (some_item is, items_filled is h)
 
-    items_filled : (is : ItemPhrases) → HaveTexts is → AreFilled (tree.items (item_trees function is))
+    items_filled : (is : ItemPhrases90) → HaveTexts is → AreFilled (tree.items (item_trees90 function is))
     items_filled (Sole i) h = (item_filled i h, tt)
-    items_filled (More is i) h = filled_append (item_trees function is) (item_tree function i) (items_filled is h.0) (item_filled i h.1)
+    items_filled (More is i) h = filled_append (item_trees90 function is) (item_tree90 function i) (items_filled is h.0) (item_filled i h.1)
 
   mutual
-    item_textless : (i : ItemPhrase) → IsItem Input i → IsFilled (item_tree function i) × IsWordless (item_tree function i)
+    item_textless : (i : ItemPhrase90) → IsItem90 Input i → IsFilled (item_tree90 function i) × IsWordless (item_tree90 function i)
     item_textless (Of p) h = (tt, tt)
     item_textless (Text t) h = absurd h
     item_textless (Loop is x a b c) h = let more = items_textless is h.0 in ((some_item is, more.0), more.1)
 
-    items_textless : (is : ItemPhrases) → AreItems Input is → AreFilled (tree.items (item_trees function is)) × AreWordless (tree.items (item_trees function is))
+    items_textless : (is : ItemPhrases90) → AreItems90 Input is → AreFilled (tree.items (item_trees90 function is)) × AreWordless (tree.items (item_trees90 function is))
     items_textless (Sole i) h = let one = item_textless i h in ((one.0, tt), (one.1, tt))
     items_textless (More is i) h =
         let front = items_textless is h.0 in let one = item_textless i h.1 in
-        (filled_append (item_trees function is) (item_tree function i) front.0 one.0, wordless_append (item_trees function is) (item_tree function i) front.1 one.1)
+        (filled_append (item_trees90 function is) (item_tree90 function i) front.0 one.0, wordless_append (item_trees90 function is) (item_tree90 function i) front.1 one.1)
 
   -- ---- lists of expressions
 
-  each_depth : (es : List Phrase) → AllByRecursion IsExpression es → Calls es → AllByRecursion (λ p. depth p ≤ deepest) es → depth_of_each (tree.expressions (trees (tree_of function) es)) ≤ deepest
+  each_depth : (es : List Phrase90) → AllByRecursion IsExpression90 es → Calls es → AllByRecursion (λ p. phrase_depth90 p ≤ deepest) es → depth_of_each (tree.expressions (trees_by (tree_of function) es)) ≤ deepest
   each_depth [] h c d = omega arith
-  each_depth (e ∷ es) h c d = let l : depth e ≤ deepest = d.0 in omega (arith, shallow function e h.0 c.0, each_depth es h.1 c.1 d.1)
+  each_depth (e ∷ es) h c d = let l : phrase_depth90 e ≤ deepest = d.0 in omega (arith, shallow function e h.0 c.0, each_depth es h.1 c.1 d.1)
 
-  listed_expressions : (es : List Phrase) → IsList IsExpression es → AllByRecursion IsExpression es
+  listed_expressions : (es : List Phrase90) → IsList IsExpression90 es → AllByRecursion IsExpression90 es
   listed_expressions [] h = tt
   listed_expressions (e ∷ es) h = h
 
@@ -320,18 +322,18 @@ module _ (ds : List Declaration) where
       items_too d tree.no_items h = tt
       items_too d (tree.item i is) h = (item_too d i h.0, items_too d is h.1)
 
-    pub record IsFit (f : Form) : Type 0 where
+    pub record IsFit (f : Form90) : Type 0 where
       pub calls : SuitsCallsIn function f
       pub kinds : Suits ds f
       pub lists : has_deep_list f ≡ false
-      pub expressions : AllByRecursion (λ p. depth p ≤ deepest) (expressions_of f)
-      pub variables : AllByRecursion (λ p. depth p ≤ deepest) (variables_of f)
+      pub expressions : AllByRecursion (λ p. phrase_depth90 p ≤ deepest) (expressions_of f)
+      pub variables : AllByRecursion (λ p. phrase_depth90 p ≤ deepest) (stored_variables_of f)
       pub well : IsWell f
 
     le : (m n : ℕ) → m ≤ n → n ≤ deepest → m ≤ deepest
     le m n h g = omega arith
 
-    sound_assignment : (l r : Phrase) → IsReference l → IsExpression l → IsExpression r → VariableSuitsCalls function l → SuitsCalls function r → depth l ≤ deepest → depth r ≤ deepest
+    sound_assignment : (l r : Phrase90) → IsReference90 l → IsExpression90 l → IsExpression90 r → VariableSuitsCalls function l → SuitsCalls function r → phrase_depth90 l ≤ deepest → phrase_depth90 r ≤ deepest
         → SuitsAssignment ds (reference_in (tree_of function l)) (tree_of function r) → IsSoundAssignment qs (reference_in (tree_of function l)) (tree_of function r)
     sound_assignment l r f a b v c d e s =
         record {
@@ -341,7 +343,7 @@ module _ (ds : List Declaration) where
         }
 
     -- but for labels, whose values have no part in this
-    pub good_form : (f : Form) (ws : List words.Word) → IsWritten f ws → IsFit f → ((n : ℕ) → is_target n ≡ true → 0 < n) → IsGoodForm function is_target qs f
+    pub good_form : (f : Form90) (ws : List words.Word90) → IsWritten90 f ws → IsFit f → ((n : ℕ) → is_target n ≡ true → 0 < n) → IsGoodForm function is_target qs f
     good_form (forms.Assign l r) ws w h z = sound_assignment l r w.1 w.2 w.3 h.calls.1.0 h.calls.0.0 h.variables.0 h.expressions.0 h.kinds
     good_form (forms.Where m l r) ws w h z = (
       record { suits = mask_too (tree_of function m) (reference_in (tree_of function l)) h.kinds.0; depth = le _ _ (shallow function m w.1 h.calls.0.0) h.expressions.0 },
@@ -355,32 +357,32 @@ module _ (ds : List Declaration) where
     good_form (forms.ElseIf p) ws w h z = record { suits = scalar_too ds qs alike (tree_of function p) Logical h.kinds; depth = le _ _ (shallow function p w.1 h.calls.0.0) h.expressions.0 }
     good_form (forms.Do x a b c) ws w h z =
         record {
-          suits = numbers_too (tree_of function a) (tree_of function b) (step_tree function c) h.kinds;
+          suits = numbers_too (tree_of function a) (tree_of function b) (step_tree90 function c) h.kinds;
           first = le _ _ (shallow function a w.1 h.calls.0.0) h.expressions.0;
           second = le _ _ (shallow function b w.2 h.calls.0.1.0) h.expressions.1.0;
           third = step_within c w.3 h.calls.0.1.1 h.expressions.1.1;
         }
       where
-        step_within : (c : Option Phrase) → IsStep c → Calls (step_expressions c) → AllByRecursion (λ p. depth p ≤ deepest) (step_expressions c) → depth_of (step_tree function c) ≤ deepest
+        step_within : (c : Option Phrase90) → IsStep90 c → Calls (step_expressions c) → AllByRecursion (λ p. phrase_depth90 p ≤ deepest) (step_expressions c) → depth_of (step_tree90 function c) ≤ deepest
         step_within None s c d = omega arith
-        step_within (Some p) s c d = let l : depth p ≤ deepest = d.0 in omega (arith, shallow function p s c.0)
+        step_within (Some p) s c d = let l : phrase_depth90 p ≤ deepest = d.0 in omega (arith, shallow function p s c.0)
     good_form (forms.Read is) ws w h z =
         let t = items_textless is w.1 in (
           t.1,
           record {
-            suits = items_too Input (tree.items (item_trees function is)) h.kinds;
+            suits = items_too Input (tree.items (item_trees90 function is)) h.kinds;
             filled = t.0;
-            depth = le _ _ (inputs_shallow is w.1 h.calls.0 h.calls.1 h.kinds) (not_deep (items_depth is) h.lists);
+            depth = le _ _ (inputs_shallow is w.1 h.calls.0 h.calls.1 h.kinds) (not_deep (items_depth90 is) h.lists);
           },
         )
     good_form (forms.Print is) ws w h z =
         record {
-          suits = items_too Output (tree.items (item_trees function is)) h.kinds;
+          suits = items_too Output (tree.items (item_trees90 function is)) h.kinds;
           filled = items_filled is h.well;
-          depth = le _ _ (outputs_shallow is w.1 h.calls.0) (not_deep (items_depth is) h.lists);
+          depth = le _ _ (outputs_shallow is w.1 h.calls.0) (not_deep (items_depth90 is) h.lists);
         }
     good_form (forms.Allocate x es) ws w h z =
-        let as' = tree.expressions (trees (tree_of function) es) in
+        let as' = tree.expressions (trees_by (tree_of function) es) in
         record {
           suits = (some ds qs alike (λ d. d.extent ≡ Later (number_of_arguments as')) x h.kinds.0, scalars_too ds qs alike as' Integer h.kinds.1);
           depth = each_depth es (listed_expressions es w.1) h.calls.0 h.expressions;

@@ -8,15 +8,15 @@ use Rattle.std.proofs.lemmas.Bool.{or_cases}
 use Rattle.tree.specs.declared.stmts.Mark.{Mark}
 use Rattle.meaning.specs.Profile90.{IsMark}
 use Rattle.f90_grammar.specs.FreeForm as free
-use Rattle.f90_grammar.specs.FreeForm.{Piece, ampersand, written_piece, is_comment_line, is_open_behind, IsPiece, AreFurtherPieces, ArePieces, joint, characters, AreMarks, FreeStatement, statement_at, Block, written_block, pieces_of, comments_of, AreComments, AreStatements}
+use Rattle.f90_grammar.specs.FreeForm.{LinePiece, ampersand, written_piece, is_comment_line, is_open_behind, IsPiece, AreFurtherPieces, ArePieces, joint, characters, AreMarks, FreeStatement, free_statement_at, CommentedPiece, written_block, pieces_of, comments_of, AreComments, AreStatements}
 use Rattle.f90_grammar.specs.FreeForm.AreMarks.{none, mark, other}
 use Rattle.f90_grammar.specs.FreeForm.AreStatements.{ends, begins}
-use Rattle.f90_grammar.specs.LineCauses.{Standing, Between, Within, is_in_constant, initial_line, behind_piece, LeadTo, is_bad_byte}
+use Rattle.f90_grammar.specs.LineCauses.{LineState, Between, Within, is_in_constant, initial_line, behind_piece, LeadTo, is_bad_byte90}
 use Rattle.f90_grammar.specs.LineCauses.LeadTo.{nothing, comment, piece}
-use Rattle.f90_grammar.specs.Words.{Word, HasWords}
-use Rattle.f90_grammar.specs.Forms.{Form, IsWritten}
+use Rattle.f90_grammar.specs.Words.{Word90, HasWords}
+use Rattle.f90_grammar.specs.Forms.{Form90, IsWritten90}
 use Rattle.f90_grammar.specs.Blocks.{Placed}
-use Rattle.f90_grammar.specs.Reading.{takes_mark, last_of, if_taken, left_over, HaveForms}
+use Rattle.f90_grammar.specs.Reading.{takes_mark, last_mark, if_taken, mark_left_over, HaveForms}
 use Rattle.f90_laws.proofs.readings.Lists.{left_true, right_true, left_false, right_false, all_left, all_right, all_both}
 
 -- ---- there are no more lines than bytes
@@ -65,7 +65,7 @@ good_marks ls ms none = tt
 good_marks ls ms (mark line m h more) = (record { nest = h.nest.small; statement = h.stmt.small; level = h.level.small }, good_marks _ _ more)
 good_marks ls ms (other line n more) = good_marks _ _ more
 
-last_good : (o : Option Mark) (ms : List Mark) → IfSome o IsMark → AreGoodMarks ms → IfSome (last_of o ms) IsMark
+last_good : (o : Option Mark) (ms : List Mark) → IfSome o IsMark → AreGoodMarks ms → IfSome (last_mark o ms) IsMark
 last_good o [] h g = h
 last_good o (m ∷ ms) h g = last_good (Some m) ms g.0 g.1
 
@@ -73,7 +73,7 @@ taken_good : (b : Bool) (o : Option Mark) → IfSome o IsMark → IfSome (if_tak
 taken_good true o h = h
 taken_good false o h = tt
 
-left_good : (b : Bool) (o : Option Mark) → IfSome o IsMark → IfSome (left_over b o) IsMark
+left_good : (b : Bool) (o : Option Mark) → IfSome o IsMark → IfSome (mark_left_over b o) IsMark
 left_good true o h = tt
 left_good false o h = h
 
@@ -81,29 +81,29 @@ left_good false o h = h
 
 -- a character that a line holds, or the end of a line
 abbrev pub IsPlain : ℕ → Type 0
-IsPlain c = (c ≡ 10) ⊎ (is_bad_byte c ≡ false)
+IsPlain c = (c ≡ 10) ⊎ (is_bad_byte90 c ≡ false)
 
 abbrev pub ArePlain : List ℕ → Type 0
 ArePlain cs = AllByRecursion IsPlain cs
 
-no_bad_by : (c : ℕ) (cs : List ℕ) (b : Bool) → is_bad_byte c ≡ b → (IsTrue (b || list_any is_bad_byte cs) → ⊥) → ((IsTrue (list_any is_bad_byte cs) → ⊥) → ArePlain cs) → ArePlain (c ∷ cs)
+no_bad_by : (c : ℕ) (cs : List ℕ) (b : Bool) → is_bad_byte90 c ≡ b → (IsTrue (b || list_any is_bad_byte90 cs) → ⊥) → ((IsTrue (list_any is_bad_byte90 cs) → ⊥) → ArePlain cs) → ArePlain (c ∷ cs)
 no_bad_by c cs true e h more = absurd (h refl)
 no_bad_by c cs false e h more = (inr e, more h)
 
-no_bad : (cs : List ℕ) → (IsTrue (list_any is_bad_byte cs) → ⊥) → ArePlain cs
+no_bad : (cs : List ℕ) → (IsTrue (list_any is_bad_byte90 cs) → ⊥) → ArePlain cs
 no_bad [] h = tt
-no_bad (c ∷ cs) h = no_bad_by c cs (is_bad_byte c) refl h (λ k. no_bad cs k)
+no_bad (c ∷ cs) h = no_bad_by c cs (is_bad_byte90 c) refl h (λ k. no_bad cs k)
 
 -- the pieces of a statement, where no byte outside comments is bad
-module _ (full : List (List ℕ)) (free_of_bad : (front back : List (List ℕ)) (p : Piece) (s : Standing) → full ≡ front ++ written_piece p ∷ back → LeadTo front s
-    → IsPiece (is_in_constant s) p → IsTrue (list_any is_bad_byte p.chars) → ⊥) where
-  comments_lead : (front comments : List (List ℕ)) (s : Standing) → LeadTo front s → AreComments comments → LeadTo (front ++ comments) s
+module _ (full : List (List ℕ)) (free_of_bad : (front back : List (List ℕ)) (p : LinePiece) (s : LineState) → full ≡ front ++ written_piece p ∷ back → LeadTo front s
+    → IsPiece (is_in_constant s) p → IsTrue (list_any is_bad_byte90 p.chars) → ⊥) where
+  comments_lead : (front comments : List (List ℕ)) (s : LineState) → LeadTo front s → AreComments comments → LeadTo (front ++ comments) s
   comments_lead front [] s l h = subst (λ ls. LeadTo ls s) (sym (append-nil front)) l
   comments_lead front (c ∷ cs) s l h =
       subst (λ ls. LeadTo ls s) (append_assoc front (c ∷ []) cs)
       (comments_lead (front ++ c ∷ []) cs s (comment front c s (left_true (is_comment_line c) (list_all is_comment_line cs) h) l) (right_true (is_comment_line c) (list_all is_comment_line cs) h))
 
-  comments_split : (b : Block) (bs : List Block) → AreComments (comments_of (b ∷ bs)) → AreComments b.comments × AreComments (comments_of bs)
+  comments_split : (b : CommentedPiece) (bs : List CommentedPiece) → AreComments (comments_of (b ∷ bs)) → AreComments b.comments × AreComments (comments_of bs)
   comments_split b bs h = both b.comments h
     where
       both : (cs : List (List ℕ)) → AreComments (cs ++ comments_of bs) → AreComments cs × AreComments (comments_of bs)
@@ -113,7 +113,7 @@ module _ (full : List (List ℕ)) (free_of_bad : (front back : List (List ℕ)) 
           (ap (λ t. t && list_all is_comment_line cs) (left_true (is_comment_line c) (list_all is_comment_line (cs ++ comments_of bs)) h) ∙ k.0, k.1)
 
   -- behind a block
-  module _ (front : List (List ℕ)) (s : Standing) (b : Block) (rest : List (List ℕ)) (same : full ≡ front ++ (written_block b ++ rest)) (leads : LeadTo front s)
+  module _ (front : List (List ℕ)) (s : LineState) (b : CommentedPiece) (rest : List (List ℕ)) (same : full ≡ front ++ (written_block b ++ rest)) (leads : LeadTo front s)
       (comments : AreComments b.comments) (is_piece : IsPiece (is_in_constant s) b.piece) where
     behind_comments : LeadTo (front ++ b.comments) s
     behind_comments = comments_lead front b.comments s leads comments
@@ -127,17 +127,17 @@ module _ (full : List (List ℕ)) (free_of_bad : (front back : List (List ℕ)) 
     pub behind_block : LeadTo (front ++ written_block b) (behind_piece (length (front ++ b.comments) + 1) s b.piece)
     behind_block = subst (λ ls. LeadTo ls (behind_piece (length (front ++ b.comments) + 1) s b.piece)) (append_assoc front b.comments (written_piece b.piece ∷ [])) (piece (front ++ b.comments) b.piece s is_piece behind_comments)
 
-  continued : (n : ℕ) (s : Standing) (p : Piece) → p.is_continued ≡ true → behind_piece n s p ≡ Within (initial_line n s) (is_open_behind (is_in_constant s) p.chars)
+  continued : (n : ℕ) (s : LineState) (p : LinePiece) → p.is_continued ≡ true → behind_piece n s p ≡ Within (initial_line n s) (is_open_behind (is_in_constant s) p.chars)
   continued n s p e = ap (λ b. cond b (Within (initial_line n s) (is_open_behind (is_in_constant s) p.chars)) Between) e
 
-  ended : (n : ℕ) (s : Standing) (p : Piece) → p.is_continued ≡ false → behind_piece n s p ≡ Between
+  ended : (n : ℕ) (s : LineState) (p : LinePiece) → p.is_continued ≡ false → behind_piece n s p ≡ Between
   ended n s p e = ap (λ b. cond b (Within (initial_line n s) (is_open_behind (is_in_constant s) p.chars)) Between) e
 
-  pub record ReadBlocks (front : List (List ℕ)) (bs : List Block) : Type 0 where
-    pub plain : AllByRecursion (λ (b : Block). ArePlain b.piece.chars) bs
+  pub record ReadBlocks (front : List (List ℕ)) (bs : List CommentedPiece) : Type 0 where
+    pub plain : AllByRecursion (λ (b : CommentedPiece). ArePlain b.piece.chars) bs
     pub leads : LeadTo (front ++ flat_map written_block bs) Between
 
-  read_blocks : (bs : List Block) (front : List (List ℕ)) (s : Standing) (rest : List (List ℕ)) → full ≡ front ++ (flat_map written_block bs ++ rest) → LeadTo front s
+  read_blocks : (bs : List CommentedPiece) (front : List (List ℕ)) (s : LineState) (rest : List (List ℕ)) → full ≡ front ++ (flat_map written_block bs ++ rest) → LeadTo front s
       → AreComments (comments_of bs) → AreFurtherPieces (is_in_constant s) (pieces_of bs) → ReadBlocks front bs
   read_blocks [] front s rest e l c p = absurd p
   read_blocks (b ∷ []) front s rest e l c p =
@@ -166,18 +166,18 @@ ampersand_plain : (b : Bool) → ArePlain (ampersand b)
 ampersand_plain true = (inr refl, tt)
 ampersand_plain false = tt
 
-joint_plain : (p : Piece) → ArePlain p.chars → ArePlain (joint p)
+joint_plain : (p : LinePiece) → ArePlain p.chars → ArePlain (joint p)
 joint_plain p h = by p.is_pulled
   where
     by : (b : Bool) → ArePlain (cond b p.chars (10 ∷ p.chars))
     by true = h
     by false = (inl refl, h)
 
-joints_plain : (bs : List Block) → AllByRecursion (λ (b : Block). ArePlain b.piece.chars) bs → ArePlain (flat_map joint (pieces_of bs))
+joints_plain : (bs : List CommentedPiece) → AllByRecursion (λ (b : CommentedPiece). ArePlain b.piece.chars) bs → ArePlain (flat_map joint (pieces_of bs))
 joints_plain [] h = tt
 joints_plain (b ∷ bs) h = all_both IsPlain (joint b.piece) (flat_map joint (pieces_of bs)) (joint_plain b.piece h.0) (joints_plain bs h.1)
 
-characters_plain : (bs : List Block) → AllByRecursion (λ (b : Block). ArePlain b.piece.chars) bs → ArePlain (characters (pieces_of bs))
+characters_plain : (bs : List CommentedPiece) → AllByRecursion (λ (b : CommentedPiece). ArePlain b.piece.chars) bs → ArePlain (characters (pieces_of bs))
 characters_plain [] h = tt
 characters_plain (b ∷ bs) h =
     all_both IsPlain (ampersand b.piece.is_pulled) (b.piece.chars ++ flat_map joint (pieces_of bs)) (ampersand_plain b.piece.is_pulled)
@@ -203,8 +203,8 @@ pub record AreGoodStatements (n m : ℕ) (ss : List FreeStatement) : Type 0 wher
   pub each : AllByRecursion (IsGoodStatement n m) ss
   pub few : n + length ss ≤ m
 
-module _ (full : List (List ℕ)) (free_of_bad : (front back : List (List ℕ)) (p : Piece) (s : Standing) → full ≡ front ++ written_piece p ∷ back → LeadTo front s
-    → IsPiece (is_in_constant s) p → IsTrue (list_any is_bad_byte p.chars) → ⊥) where
+module _ (full : List (List ℕ)) (free_of_bad : (front back : List (List ℕ)) (p : LinePiece) (s : LineState) → full ≡ front ++ written_piece p ∷ back → LeadTo front s
+    → IsPiece (is_in_constant s) p → IsTrue (list_any is_bad_byte90 p.chars) → ⊥) where
   pub good_statements : (n : ℕ) (ls : List (List ℕ)) (ss : List FreeStatement) (front : List (List ℕ)) → AreStatements n ls ss → full ≡ front ++ ls → LeadTo front Between
       → AreGoodStatements n (n + length ls) ss
   good_statements n ls ss front (ends k cs c) e l = record { each = tt; few = omega arith }
@@ -232,9 +232,9 @@ pub record IsFormed (n m : ℕ) (p : Placed) : Type 0 where
   pub mark : IfSome p.mark IsMark
   pub chars : List ℕ
   pub plain : ArePlain chars
-  pub words : List Word
+  pub words : List Word90
   pub has_words : HasWords chars words
-  pub written : IsWritten p.form words
+  pub written : IsWritten90 p.form words
 
 pub record AreFormed (n m : ℕ) (ps : List Placed) : Type 0 where
   pub each : AllByRecursion (IsFormed n m) ps
@@ -246,9 +246,9 @@ formed n m o [] [] g a h = (tt, refl)
 formed n m o [] (p ∷ ps) g a h = absurd h
 formed n m o (s ∷ ss) [] g a h = absurd h
 formed n m o (s ∷ ss) (p ∷ ps) g a h =
-    let pending = last_of o s.ahead in
+    let pending = last_mark o s.ahead in
     let good = last_good o s.ahead g a.0.ahead in
-    let tail = formed n m (last_of (left_over (takes_mark p.form) pending) s.within) ss ps (last_good (left_over (takes_mark p.form) pending) s.within (left_good (takes_mark p.form) pending good) a.0.within) a.1 h.3 in (
+    let tail = formed n m (last_mark (mark_left_over (takes_mark p.form) pending) s.within) ss ps (last_good (mark_left_over (takes_mark p.form) pending) s.within (left_good (takes_mark p.form) pending good) a.0.within) a.1 h.3 in (
       (
         record {
           low = subst (λ l. n ≤ l) (sym h.0) a.0.low;

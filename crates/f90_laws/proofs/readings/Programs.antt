@@ -17,18 +17,18 @@ use Rattle.meaning.specs.Labels.{IsLine, IsWithoutRepeats, all_labels_in, target
 use Rattle.meaning.specs.Typed.{declared, dimensions}
 use Rattle.meaning.specs.Extents.{array_elements}
 use Rattle.meaning.specs.Profile90.{IsDeclaration, IsProgram90}
-use Rattle.f90_grammar.specs.FreeForm.{Piece, written_piece, IsPiece}
-use Rattle.f90_grammar.specs.LineCauses.{Standing, is_in_constant, LeadTo, is_bad_byte}
+use Rattle.f90_grammar.specs.FreeForm.{LinePiece, written_piece, IsPiece}
+use Rattle.f90_grammar.specs.LineCauses.{LineState, is_in_constant, LeadTo, is_bad_byte90}
 use Rattle.f90_grammar.specs.LineCauses.LeadTo.{nothing}
 use Rattle.f90_grammar.specs.LineCauses.HasLineCause.{HoldsBadByte}
-use Rattle.f90_grammar.specs.Words.{Word}
+use Rattle.f90_grammar.specs.Words.{Word90}
 use Rattle.f90_grammar.specs.Forms as forms
-use Rattle.f90_grammar.specs.Forms.{Form, IsWritten}
-use Rattle.f90_grammar.specs.Blocks.{Placed, AreBlock}
+use Rattle.f90_grammar.specs.Forms.{Form90, IsWritten90}
+use Rattle.f90_grammar.specs.Blocks.{Placed, AreBlock90}
 use Rattle.f90_grammar.specs.Reading.{is_target_in, function_by}
 use Rattle.f90_grammar.specs.Programs.{IsProgramOf}
-use Rattle.f90_grammar.specs.Contents.{SuitsCallsIn, expressions_of, variables_of, is_deep, has_deep_list, has_deep_expression}
-use Rattle.f90_grammar.specs.Order.{Place, IsPlaceIn, IsInOrder, is_nothing, is_executable, name_in, title_of, Opened, opened_by}
+use Rattle.f90_grammar.specs.Contents.{SuitsCallsIn, expressions_of, stored_variables_of, is_deep, has_deep_list, has_deep_expression}
+use Rattle.f90_grammar.specs.Order.{Place90, IsPlaceIn, IsInOrder, is_nothing90, is_executable90, name_in, title_in_text, Opened, opened_by}
 use Rattle.f90_grammar.specs.Declared.{declarations_in, declarations_of, functions_in}
 use Rattle.f90_grammar.specs.Suited.{Suits}
 use Rattle.f90_grammar.specs.Surroundings.{StandsIn, line_of, SuitsSurroundings, IsMisplaced}
@@ -37,7 +37,7 @@ use Rattle.f90_grammar.specs.Bounds.{HasBounds}
 use Rattle.f90_grammar.specs.Bounds.PassesLimit.{OfBlocks, OfBounds, OfElements}
 use Rattle.f90_grammar.specs.Refusals.{HoldsAt, Conforms90}
 use Rattle.f90_grammar.specs.Refusals.HoldsIn.{AtPlace, IsWrongInBlocks}
-use Rattle.f90_grammar.specs.Refusals.HasCause.{InLines, InStatements}
+use Rattle.f90_grammar.specs.Refusals.HasCause90.{InLines, InStatements}
 use Rattle.f90_laws.proofs.readings.Lists.{here, there, cases_of, left_false, right_false}
 use Rattle.f90_laws.proofs.readings.Decisions.{affirmed, at_most}
 use Rattle.f90_laws.proofs.readings.FormFacts.{suits, each_shallow, IsFit, good_form}
@@ -80,7 +80,7 @@ not_true false h = refl
 
 -- ---- the statement in a logical IF
 
-inner : (f : Form) (ws : List Word) → IsWritten f ws → HasInnerForm f
+inner : (f : Form90) (ws : List Word90) → IsWritten90 f ws → HasInnerForm f
 inner (forms.Test p f) ws w = w.4
 inner (forms.Program x) ws w = tt
 inner forms.ImplicitNone ws w = tt
@@ -139,7 +139,7 @@ each_target t P f (n ∷ ns) = by (t n) refl (each_target t P f ns)
 
 all_kept : (P : Placed → Type 0) (ps : List Placed) → AllByRecursion P ps → AllByRecursion P (executables ps)
 all_kept P [] h = tt
-all_kept P (p ∷ ps) h = by (is_executable p.form) (all_kept P ps h.1)
+all_kept P (p ∷ ps) h = by (is_executable90 p.form) (all_kept P ps h.1)
   where
     by : (b : Bool) → AllByRecursion P (executables ps) → AllByRecursion P (cond b (p ∷ executables ps) (executables ps))
     by true next = (h.0, next)
@@ -147,13 +147,13 @@ all_kept P (p ∷ ps) h = by (is_executable p.form) (all_kept P ps h.1)
 
 opens_kept : (n : ℕ) (os : List Opened) (ps : List Placed) → OpensWithin n os ps → OpensWithin n os (executables ps)
 opens_kept n os [] h = tt
-opens_kept n os (p ∷ ps) h = by (is_executable p.form) refl (opens_kept n (opened_by p.form os) ps h.1)
+opens_kept n os (p ∷ ps) h = by (is_executable90 p.form) refl (opens_kept n (opened_by p.form os) ps h.1)
   where
-    by : (b : Bool) → is_executable p.form ≡ b → OpensWithin n (opened_by p.form os) (executables ps) → OpensWithin n os (cond b (p ∷ executables ps) (executables ps))
+    by : (b : Bool) → is_executable90 p.form ≡ b → OpensWithin n (opened_by p.form os) (executables ps) → OpensWithin n os (cond b (p ∷ executables ps) (executables ps))
     by true e next = (h.0, next)
     by false e next = subst (λ o. OpensWithin n o (executables ps)) (idle_opens p.form os e) next
 
-unlabelled : (f : Form) → is_executable f ≡ false → label_values f ≡ []
+unlabelled : (f : Form90) → is_executable90 f ≡ false → label_values f ≡ []
 unlabelled (forms.Program x) e = refl
 unlabelled forms.ImplicitNone e = refl
 unlabelled (forms.Declare k a es) e = refl
@@ -163,15 +163,15 @@ unlabelled f e = absurd cc
 
 labels_kept : (ps : List Placed) → flat_labels (executables ps) ≡ flat_labels ps
 labels_kept [] = refl
-labels_kept (p ∷ ps) = by (is_executable p.form) refl (labels_kept ps)
+labels_kept (p ∷ ps) = by (is_executable90 p.form) refl (labels_kept ps)
   where
-    by : (b : Bool) → is_executable p.form ≡ b → flat_labels (executables ps) ≡ flat_labels ps → flat_labels (cond b (p ∷ executables ps) (executables ps)) ≡ flat_labels (p ∷ ps)
+    by : (b : Bool) → is_executable90 p.form ≡ b → flat_labels (executables ps) ≡ flat_labels ps → flat_labels (cond b (p ∷ executables ps) (executables ps)) ≡ flat_labels (p ∷ ps)
     by true e next = ap (λ ns. label_values p.form ++ ns) next
     by false e next = next ∙ sym (ap (λ ns. ns ++ flat_labels ps) (unlabelled p.form e))
 
 fewer_kept : (ps : List Placed) → length (executables ps) ≤ length ps
 fewer_kept [] = omega arith
-fewer_kept (p ∷ ps) = by (is_executable p.form) (fewer_kept ps)
+fewer_kept (p ∷ ps) = by (is_executable90 p.form) (fewer_kept ps)
   where
     by : (b : Bool) → length (executables ps) ≤ length ps → length (cond b (p ∷ executables ps) (executables ps)) ≤ length (p ∷ ps)
     by true next = omega arith
@@ -179,11 +179,11 @@ fewer_kept (p ∷ ps) = by (is_executable p.form) (fewer_kept ps)
 
 -- ---- the first statement and the last one
 
-titled_well : (ps : List Placed) → AllByRecursion (λ (p : Placed). IsWell p.form) ps → IfSome (title_of ps) IsLongName
+titled_well : (ps : List Placed) → AllByRecursion (λ (p : Placed). IsWell p.form) ps → IfSome (title_in_text ps) IsLongName
 titled_well [] h = tt
 titled_well (p ∷ ps) h = by p.form h.0
   where
-    by : (f : Form) → IsWell f → IfSome (name_in f) IsLongName
+    by : (f : Form90) → IsWell f → IfSome (name_in f) IsLongName
     by (forms.Program x) w = w
     by f w = tt
 
@@ -196,7 +196,7 @@ has_last : (p : Placed) (ps : List Placed) → HasLast (p ∷ ps)
 has_last p [] = record { front = []; last = p; same = refl }
 has_last p (q ∷ ps) = let k = has_last q ps in record { front = p ∷ k.front; last = k.last; same = ap (λ xs. p ∷ xs) k.same }
 
-some_last : (ps : List Placed) → is_nothing ps ≡ false → HasLast ps
+some_last : (ps : List Placed) → is_nothing90 ps ≡ false → HasLast ps
 some_last [] h = absurd cc
 some_last (p ∷ ps) h = has_last p ps
 
@@ -225,8 +225,8 @@ module _ (text : List ℕ) (q : Program) (short : length text ≤ limits.deck_by
   abbrev behind : ℕ
   behind = 1 + length (lines text)
 
-  no_bad : (front back : List (List ℕ)) (p : Piece) (s : Standing) → lines text ≡ front ++ written_piece p ∷ back → LeadTo front s
-      → IsPiece (is_in_constant s) p → IsTrue (list_any is_bad_byte p.chars) → ⊥
+  no_bad : (front back : List (List ℕ)) (p : LinePiece) (s : LineState) → lines text ≡ front ++ written_piece p ∷ back → LeadTo front s
+      → IsPiece (is_in_constant s) p → IsTrue (list_any is_bad_byte90 p.chars) → ⊥
   no_bad front back p s e l i b =
       let r = refusal_at BadByte90 (length front + 1) in reads.unrefused r (InLines r (HoldsBadByte front back p s e l i b))
 
@@ -236,7 +236,7 @@ module _ (text : List ℕ) (q : Program) (short : length text ≤ limits.deck_by
   all_formed : AllByRecursion (IsFormed 1 behind) ps × (length ps ≡ length reads.of_text.statements)
   all_formed = formed 1 behind None reads.of_text.statements ps tt good.each reads.of_text.have_forms
 
-  unfound : (c : Cause) (p : Place) → IsPlaceIn ps p → HoldsAt c ps p → ⊥
+  unfound : (c : Cause) (p : Place90) → IsPlaceIn ps p → HoldsAt c ps p → ⊥
   unfound c p i h = reads.unrefused (refusal_at c p.here.line) (InStatements ps c p.here.line reads.of_text (AtPlace c p i h))
 
   abbrev ordered : IsInOrder ps
@@ -251,7 +251,7 @@ module _ (text : List ℕ) (q : Program) (short : length text ≤ limits.deck_by
   abbrev body : List Placed
   body = executables ps
 
-  abbrev block : AreBlock (function_by ds) is_target body q.body
+  abbrev block : AreBlock90 (function_by ds) is_target body q.body
   block = is.body
 
   suit : (c : Statement) (w : Surroundings) → StandsIn q.body outermost c w → SuitsSurroundings q.declarations c w
@@ -304,13 +304,13 @@ module _ (text : List ℕ) (q : Program) (short : length text ≤ limits.deck_by
   fit : (p : Placed) → IsKept p → IsFit ds q.declarations alike is_target p.form
   fit p k =
       let f = p.form in
-      let rest = right_false (has_deep_list f) (list_any is_deep (expressions_of f ++ variables_of f)) k.shallow in
+      let rest = right_false (has_deep_list f) (list_any is_deep (expressions_of f ++ stored_variables_of f)) k.shallow in
       record {
         calls = k.calls;
         kinds = k.kinds;
-        lists = left_false (has_deep_list f) (list_any is_deep (expressions_of f ++ variables_of f)) k.shallow;
-        expressions = each_shallow (expressions_of f) (any_left is_deep (expressions_of f) (variables_of f) rest);
-        variables = each_shallow (variables_of f) (any_right is_deep (expressions_of f) (variables_of f) rest);
+        lists = left_false (has_deep_list f) (list_any is_deep (expressions_of f ++ stored_variables_of f)) k.shallow;
+        expressions = each_shallow (expressions_of f) (any_left is_deep (expressions_of f) (stored_variables_of f) rest);
+        variables = each_shallow (stored_variables_of f) (any_right is_deep (expressions_of f) (stored_variables_of f) rest);
         well = k.well;
       }
 
@@ -349,10 +349,10 @@ module _ (text : List ℕ) (q : Program) (short : length text ≤ limits.deck_by
   ending : HasLast ps
   ending = some_last ps ordered.some
 
-  few_elements : size ds ≤ limits.array_elements
-  few_elements = affirmed (at_most (size ds) limits.array_elements)
-      (λ n. unfound Limit90 (at_place ending.front ending.last []) ending.same (OfElements (above limits.array_elements (size (declarations_of (ending.front ++ ending.last ∷ [])))
-      (λ l. n (subst (λ xs. size (declarations_of xs) ≤ limits.array_elements) (sym ending.same) l)))))
+  few_elements : size ds ≤ limits.most_array_elements
+  few_elements = affirmed (at_most (size ds) limits.most_array_elements)
+      (λ n. unfound Limit90 (at_place ending.front ending.last []) ending.same (OfElements (above limits.most_array_elements (size (declarations_of (ending.front ++ ending.last ∷ [])))
+      (λ l. n (subst (λ xs. size (declarations_of xs) ≤ limits.most_array_elements) (sym ending.same) l)))))
 
   pub read_program : IsProgram90 q
   read_program = record {

@@ -4,10 +4,10 @@ use Rattle.tree.specs.Causes.{refusal_at}
 use Rattle.tree.specs.Plain.{Program}
 use Rattle.tree.specs.declared.refusals.Cause.TheVariants.{Limit90}
 use Rattle.tree.specs.declared.refusals.Refusal.{Refusal}
-use Rattle.f90_grammar.specs.Refusals.{HasCause, PassesNames, IsRefusable, Conforms90, Reads90, Refused90}
+use Rattle.f90_grammar.specs.Refusals.{HasCause90, PassesNames, IsRefusable, Conforms90, Reads90, Refused90}
 use Rattle.f90_grammar.specs.Refusals.IsRefusable.{For, ForNames}
 
-for_names : (text : List ℕ) (r : Refusal) → ((o : Refusal) → HasCause text o → ⊥) → IsRefusable text r
+for_names : (text : List ℕ) (r : Refusal) → ((o : Refusal) → HasCause90 text o → ⊥) → IsRefusable text r
     → (line : ℕ) × (r ≡ refusal_at Limit90 line) × PassesNames text line
 for_names text r free (For o h) = absurd (free o h)
 for_names text r free (ForNames line h) = (line, refl, h)

@@ -25,10 +25,11 @@ use Rattle.meaning.specs.Profile90.{IsExtent, IsDeclaration, AreDeclarations}
 use Rattle.meaning.specs.Extents.{IsDimension}
 use Rattle.meaning_laws.proofs.profiles.Names.{found, not_declared, once}
 use Rattle.f90_grammar.specs.Forms as forms
-use Rattle.f90_grammar.specs.Forms.{Form, Entity, Dimension, SuitsAllocatable, IsList, has_dimensions, IsEntity, IsWritten}
-use Rattle.f90_grammar.specs.Words.{Word}
+use Rattle.f90_grammar.specs.Forms.{Form90, EntityForm90, Dimension, SuitsAllocatable, has_dimensions, IsEntity90, IsWritten90}
+use Rattle.reading.specs.Characters.{IsList}
+use Rattle.f90_grammar.specs.Words.{Word90}
 use Rattle.f90_grammar.specs.Blocks.{Placed}
-use Rattle.f90_grammar.specs.Reading.{declares, dimension_bounds, extent_of, entity_declaration, function_by}
+use Rattle.f90_grammar.specs.Reading.{declares, dimension_bounds, extent_of_dimensions, entity_declaration, function_by}
 use Rattle.f90_grammar.specs.Programs.{IsProgramOf}
 use Rattle.f90_grammar.specs.Declared.{declarations_in, declarations_of}
 use Rattle.f90_grammar.specs.Bounds.{HasBounds}
@@ -153,20 +154,20 @@ some_dimensions : (ds : List Dimension) → IsList (SuitsAllocatable true) ds �
 some_dimensions [] h = absurd h
 some_dimensions (d ∷ ds) h = omega arith
 
-extent_good : (a : Bool) (ds : List Dimension) → has_dimensions a ds → AllByRecursion IsDimension (dimensions (extent_of a ds)) → IsExtent (extent_of a ds)
+extent_good : (a : Bool) (ds : List Dimension) → has_dimensions a ds → AllByRecursion IsDimension (dimensions (extent_of_dimensions a ds)) → IsExtent (extent_of_dimensions a ds)
 extent_good true ds h g = (some_dimensions ds h.0, h.1)
 extent_good false ds h g = let few : length ds ≤ 7 = h.1 in (omega (arith, map_length dimension_bounds ds), g)
 
-entities_good : (k : Kind) (a : Bool) (es : List Entity) → AllByRecursion (IsEntity a) es → AllByRecursion (λ (e : Entity). IsLongName e.name) es
+entities_good : (k : Kind) (a : Bool) (es : List EntityForm90) → AllByRecursion (IsEntity90 a) es → AllByRecursion (λ (e : EntityForm90). IsLongName e.name) es
     → AllByRecursion HasBounds (map (entity_declaration k a) es) → AllByRecursion IsDeclaration (map (entity_declaration k a) es)
 entities_good k a [] h n b = tt
 entities_good k a (e ∷ es) h n b = (record { name = n.0; extent = extent_good a e.dimensions h.0 b.0 }, entities_good k a es h.1 n.1 b.1)
 
-listed_entities : (a : Bool) (es : List Entity) → IsList (IsEntity a) es → AllByRecursion (IsEntity a) es
+listed_entities : (a : Bool) (es : List EntityForm90) → IsList (IsEntity90 a) es → AllByRecursion (IsEntity90 a) es
 listed_entities a [] h = absurd h
 listed_entities a (e ∷ es) h = h
 
-pub form_declares : (f : Form) (ws : List Word) → IsWritten f ws → IsWell f → AllByRecursion HasBounds (declarations_in f) → AllByRecursion IsDeclaration (declarations_in f)
+pub form_declares : (f : Form90) (ws : List Word90) → IsWritten90 f ws → IsWell f → AllByRecursion HasBounds (declarations_in f) → AllByRecursion IsDeclaration (declarations_in f)
 form_declares (forms.Declare k a es) ws w h fit = entities_good k a es (listed_entities a es w.1) h fit
 form_declares (forms.Program x) ws w h fit = tt
 form_declares forms.ImplicitNone ws w h fit = tt
@@ -201,12 +202,12 @@ among P ds [] h c = tt
 among P ds (q ∷ qs) h c = (all_at P ds q h (c q (here q qs)), among P ds qs h (λ d k. c d (there q qs d k)))
 
 pub are_declarations : (ps : List Placed) (q : Program) → IsProgramOf ps q → AllByRecursion IsDeclaration (declarations_of ps)
-    → sum (map (λ (d : Declaration). array_elements (dimensions d.extent)) (declarations_of ps)) ≤ limits.array_elements → AreDeclarations q.declarations
+    → sum (map (λ (d : Declaration). array_elements (dimensions d.extent)) (declarations_of ps)) ≤ limits.most_array_elements → AreDeclarations q.declarations
 are_declarations ps q h each few =
     let size = λ (d : Declaration). array_elements (dimensions d.extent) in
     let sums = same_sum size q.declarations (declarations_of ps) (sorted_apart q.declarations h.sorted) (λ d. (h.each d).1) h.once in
     record {
       each = among IsDeclaration (declarations_of ps) q.declarations each (λ d. (h.each d).1);
       ordered = h.sorted;
-      elements = subst (λ n. n ≤ limits.array_elements) sums few;
+      elements = subst (λ n. n ≤ limits.most_array_elements) sums few;
     }

@@ -11,22 +11,23 @@ use Rattle.tree.specs.Plain.{Item, Items}
 use Rattle.tree.specs.declared.functions.Intrinsic.{Intrinsic}
 use Rattle.meaning.specs.SymbolicNames.{IsLongName}
 use Rattle.meaning.specs.Typed.{IsText}
-use Rattle.f90_grammar.specs.LineCauses.{is_bad_byte}
+use Rattle.f90_grammar.specs.LineCauses.{is_bad_byte90}
 use Rattle.f90_grammar.specs.Words as words
-use Rattle.f90_grammar.specs.Words.{Word, Symbol, Char, Gap, Symbols, upper, doubled_one, doubled, IsInLine, is_digit, is_letter, goes_on, Pass, IsDigits, IsName, Spelled, chars, AreGaps, SpelledBy, Begins, Words, HasWords}
+use Rattle.f90_grammar.specs.Words.{Word90, Symbol90, Char, Gap, Symbols, IsInLine, goes_on90, IsName90, Spelled90, chars90, AreGaps, SpelledBy90, Begins90, AreWords90, HasWords}
+use Rattle.reading.specs.Characters.{upper, doubled_one, doubled, is_digit, is_letter, Pass, IsDigits, IsList, keyword_of}
 use Rattle.f90_grammar.specs.Words.Symbols.{nothing, blank, line_end, character, constant}
-use Rattle.f90_grammar.specs.Phrases.{value_of_digits, written}
+use Rattle.f90_grammar.specs.Phrases.{value_of_digits, written90}
 use Rattle.f90_grammar.specs.Items as items
-use Rattle.f90_grammar.specs.Items.{ItemPhrase, Of, Text, Loop, ItemPhrases, Sole, More, Direction, Input, Output, AreItems, IsItem, written_item, written_items, written_bounds, item_tree, item_trees}
+use Rattle.f90_grammar.specs.Items.{ItemPhrase90, Of, Text, Loop, ItemPhrases90, Sole, More, Direction, Input, Output, AreItems90, IsItem90, written_item90, written_items90, written_bounds90, item_tree90, item_trees90}
 use Rattle.f90_grammar.specs.Forms as forms
-use Rattle.f90_grammar.specs.Forms.{Form, Entity, Dimension, IsList, followed, separated, written_dimension, written_dimensions, written_entity, labelled, IsLabel, attribute, keyword_of, IsTransfer, IsWritten}
+use Rattle.f90_grammar.specs.Forms.{Form90, EntityForm90, Dimension, followed90, separated90, written_dimension, written_dimensions, written_entity90, labelled, IsLabel90, attribute, IsTransfer, IsWritten90}
 use Rattle.f90_laws.proofs.readings.Lists.{left_true, right_true, left_false, right_false, all_left, all_right, all_both}
 use Rattle.f90_laws.proofs.readings.FreeLines.{IsPlain, ArePlain}
 use Rattle.f90_laws.proofs.readings.Sound.{AreFilled, IsFilled, AreWordless, IsWordless}
 
 -- ---- constants
 
-printable : (c : ℕ) → is_bad_byte c ≡ false → (32 ≤ c) × (c ≤ 126)
+printable : (c : ℕ) → is_bad_byte90 c ≡ false → (32 ≤ c) × (c ≤ 126)
 printable c h = by (leb_tells 32 c) (leb_tells 127 c) (left_false (nat_lt c 32) (nat_lt 126 c) h) (right_false (nat_lt c 32) (nat_lt 126 c) h)
   where
     by : ((nat_le 32 c ≡ true) × (32 ≤ c)) ⊎ ((nat_le 32 c ≡ false) × (c < 32)) → ((nat_le 127 c ≡ true) × (127 ≤ c)) ⊎ ((nat_le 127 c ≡ false) × (c < 127))
@@ -37,7 +38,7 @@ plain_text : (t : List ℕ) → ArePlain t → IsInLine t → AllByRecursion (λ
 plain_text [] p l = tt
 plain_text (c ∷ t) p l = (by p.0, plain_text t p.1 l.1)
   where
-    by : (c ≡ 10) ⊎ (is_bad_byte c ≡ false) → (32 ≤ c) × (c ≤ 126)
+    by : (c ≡ 10) ⊎ (is_bad_byte90 c ≡ false) → (32 ≤ c) × (c ≤ 126)
     by (inl e) = absurd (not_ten ((Decides-eqb c 10).1 e) l.0)
       where
         not_ten : (c == 10) ≡ true → (c == 10) ≡ false → ⊥
@@ -55,11 +56,11 @@ doubled_plain (c ∷ t) rest h =
     let more = doubled_plain t rest one.1 in
     ((one.0, more.0), more.1)
 
-abbrev IsGoodSymbol : Symbol → Type 0
+abbrev IsGoodSymbol : Symbol90 → Type 0
 IsGoodSymbol (words.Text t) = IsText t
 IsGoodSymbol s = Unit {0}
 
-symbols_good : (cs : List ℕ) (ss : List Symbol) → Symbols cs ss → ArePlain cs → AllByRecursion IsGoodSymbol ss
+symbols_good : (cs : List ℕ) (ss : List Symbol90) → Symbols cs ss → ArePlain cs → AllByRecursion IsGoodSymbol ss
 symbols_good cs ss nothing p = tt
 symbols_good cs ss (blank more) p = (tt, symbols_good _ _ more p.1)
 symbols_good cs ss (line_end more) p = (tt, symbols_good _ _ more p.1)
@@ -70,17 +71,17 @@ symbols_good cs ss (constant c t {cs = rest} l e more) p =
 
 -- ---- words
 
-abbrev pub IsGoodWord : Word → Type 0
+abbrev pub IsGoodWord : Word90 → Type 0
 IsGoodWord (words.Digits t) = IsDigits t
-IsGoodWord (words.Name x) = IsName x
-IsGoodWord (words.Head x) = IsName x
+IsGoodWord (words.Name x) = IsName90 x
+IsGoodWord (words.Head x) = IsName90 x
 IsGoodWord (words.Constant t) = IsText t
 IsGoodWord w = Unit {0}
 
-abbrev pub AreGoodWords : List Word → Type 0
+abbrev pub AreGoodWords : List Word90 → Type 0
 AreGoodWords ws = AllByRecursion IsGoodWord ws
 
-good_word : (w : Word) (front : List Symbol) → SpelledBy w front → AllByRecursion IsGoodSymbol front → IsGoodWord w
+good_word : (w : Word90) (front : List Symbol90) → SpelledBy90 w front → AllByRecursion IsGoodSymbol front → IsGoodWord w
 good_word (words.Digits t) front h g = h.2.1
 good_word (words.Truth b) front h g = tt
 good_word (words.Name x) front h g = h.2.1
@@ -96,7 +97,7 @@ good_word words.Colon front h g = tt
 good_word words.Colons front h g = tt
 good_word (words.Constant t) front h g = (subst (AllByRecursion IsGoodSymbol) h g).0
 
-good_words : (ws : List Word) (text : List Symbol) → Words text ws → AllByRecursion IsGoodSymbol text → AreGoodWords ws
+good_words : (ws : List Word90) (text : List Symbol90) → AreWords90 text ws → AllByRecursion IsGoodSymbol text → AreGoodWords ws
 good_words [] text h g = tt
 good_words (w ∷ ws) text h g =
     let b = h.1 in
@@ -104,7 +105,7 @@ good_words (w ∷ ws) text h g =
     let behind = all_right IsGoodSymbol b.gaps (b.front ++ h.0) split in
     (good_word w b.front b.spelled (all_left IsGoodSymbol b.front h.0 behind), good_words ws h.0 h.2 (all_right IsGoodSymbol b.front h.0 behind))
 
-pub statement_words : (cs : List ℕ) (ws : List Word) → HasWords cs ws → ArePlain cs → AreGoodWords ws
+pub statement_words : (cs : List ℕ) (ws : List Word90) → HasWords cs ws → ArePlain cs → AreGoodWords ws
 statement_words cs ws h p = good_words ws h.0 h.2 (symbols_good cs h.0 h.1 p)
 
 -- ---- names
@@ -121,7 +122,7 @@ both_true false b h g = h
 abbrev name_character : ℕ → Bool
 name_character c = is_letter c || is_digit c || c == 95
 
-all_pass : (cs : List ℕ) → Pass goes_on cs → list_all name_character cs ≡ true
+all_pass : (cs : List ℕ) → Pass goes_on90 cs → list_all name_character cs ≡ true
 all_pass [] p = refl
 all_pass (d ∷ ds) p = both_true (name_character d) (list_all name_character ds) (regroup (is_letter d) (is_digit d) (d == 95) p.0) (all_pass ds p.1)
 
@@ -129,7 +130,7 @@ first_letter : (a b c : Bool) → a ≡ true → (a || b || c) ≡ true
 first_letter true b c h = refl
 first_letter false b c h = cc
 
-pub long_name : (x : List ℕ) → IsName x → IsLongName x
+pub long_name : (x : List ℕ) → IsName90 x → IsLongName x
 long_name [] h = absurd h
 long_name (c ∷ cs) h =
     record {
@@ -138,21 +139,21 @@ long_name (c ∷ cs) h =
       within = omega (arith, h.2);
     }
 
-entity_name : (x : List ℕ) (ds : List Dimension) → AreGoodWords (written_dimensions x ds) → IsName x
+entity_name : (x : List ℕ) (ds : List Dimension) → AreGoodWords (written_dimensions x ds) → IsName90 x
 entity_name x [] h = h.0
 entity_name x (d ∷ ds) h = h.0
 
-followed_names : (es : List Entity) → AreGoodWords (followed written_entity es) → AllByRecursion (λ (e : Entity). IsName e.name) es
+followed_names : (es : List EntityForm90) → AreGoodWords (followed90 written_entity90 es) → AllByRecursion (λ (e : EntityForm90). IsName90 e.name) es
 followed_names [] h = tt
 followed_names (e ∷ es) h =
-    (entity_name e.name e.dimensions (all_left IsGoodWord (written_entity e) (followed written_entity es) h.1), followed_names es (all_right IsGoodWord (written_entity e) (followed written_entity es) h.1))
+    (entity_name e.name e.dimensions (all_left IsGoodWord (written_entity90 e) (followed90 written_entity90 es) h.1), followed_names es (all_right IsGoodWord (written_entity90 e) (followed90 written_entity90 es) h.1))
 
-separated_names : (es : List Entity) → AreGoodWords (separated written_entity es) → AllByRecursion (λ (e : Entity). IsName e.name) es
+separated_names : (es : List EntityForm90) → AreGoodWords (separated90 written_entity90 es) → AllByRecursion (λ (e : EntityForm90). IsName90 e.name) es
 separated_names [] h = tt
 separated_names (e ∷ es) h =
-    (entity_name e.name e.dimensions (all_left IsGoodWord (written_entity e) (followed written_entity es) h), followed_names es (all_right IsGoodWord (written_entity e) (followed written_entity es) h))
+    (entity_name e.name e.dimensions (all_left IsGoodWord (written_entity90 e) (followed90 written_entity90 es) h), followed_names es (all_right IsGoodWord (written_entity90 e) (followed90 written_entity90 es) h))
 
-attribute_rest : (a : Bool) (ws : List Word) → AreGoodWords (attribute a ++ ws) → AreGoodWords ws
+attribute_rest : (a : Bool) (ws : List Word90) → AreGoodWords (attribute a ++ ws) → AreGoodWords ws
 attribute_rest true ws h = h.1.1
 attribute_rest false ws h = h
 
@@ -183,7 +184,7 @@ power (suc (suc (suc (suc zero)))) h = omega arith
 power (suc (suc (suc (suc (suc zero))))) h = omega arith
 power (suc (suc (suc (suc (suc (suc n)))))) h = absurd (omega arith)
 
-pub label_small : (digits : List ℕ) → IsDigits digits → IsLabel digits → value_of_digits digits < 100000
+pub label_small : (digits : List ℕ) → IsDigits digits → IsLabel90 digits → value_of_digits digits < 100000
 label_small [] d l = absurd d
 label_small (c ∷ cs) d l =
     let small : value_of_digits (c ∷ cs) < 10 ^ length (c ∷ cs) = digits_value-lt 10 (c ∷ cs) (digit_small c d.0, passing cs d.1) in
@@ -193,53 +194,53 @@ label_small (c ∷ cs) d l =
 -- ---- texts in lists
 
 abbrev mutual
-  pub HasTexts : ItemPhrase → Type 0
+  pub HasTexts : ItemPhrase90 → Type 0
   HasTexts (Of p) = Unit {0}
   HasTexts (Text t) = IsText t
   HasTexts (Loop is x a b c) = HaveTexts is
 
-  pub HaveTexts : ItemPhrases → Type 0
+  pub HaveTexts : ItemPhrases90 → Type 0
   HaveTexts (Sole i) = HasTexts i
   HaveTexts (More is i) = HaveTexts is × HasTexts i
 
 mutual
-  item_texts : (i : ItemPhrase) → AreGoodWords (written_item i) → HasTexts i
+  item_texts : (i : ItemPhrase90) → AreGoodWords (written_item90 i) → HasTexts i
   item_texts (Of p) h = tt
   item_texts (Text t) h = h.0
-  item_texts (Loop is x a b c) h = items_texts is (all_left IsGoodWord (written_items is) (words.Comma ∷ (words.Name x ∷ (words.Equals ∷ (written_bounds a b c ++ words.Close ∷ [])))) h.1)
+  item_texts (Loop is x a b c) h = items_texts is (all_left IsGoodWord (written_items90 is) (words.Comma ∷ (words.Name x ∷ (words.Equals ∷ (written_bounds90 a b c ++ words.Close ∷ [])))) h.1)
 
-  items_texts : (is : ItemPhrases) → AreGoodWords (written_items is) → HaveTexts is
+  items_texts : (is : ItemPhrases90) → AreGoodWords (written_items90 is) → HaveTexts is
   items_texts (Sole i) h = item_texts i h
   items_texts (More is i) h =
-      (items_texts is (all_left IsGoodWord (written_items is) (words.Comma ∷ written_item i) h), item_texts i (all_right IsGoodWord (written_items is) (words.Comma ∷ written_item i) h).1)
+      (items_texts is (all_left IsGoodWord (written_items90 is) (words.Comma ∷ written_item90 i) h), item_texts i (all_right IsGoodWord (written_items90 is) (words.Comma ∷ written_item90 i) h).1)
 
 -- ---- forms
 
 -- names that are declared or the program's, labels and texts of a form
-abbrev pub IsWell : Form → Type 0
+abbrev pub IsWell : Form90 → Type 0
 IsWell (forms.Program x) = IsLongName x
-IsWell (forms.Declare k a es) = AllByRecursion (λ (e : Entity). IsLongName e.name) es
+IsWell (forms.Declare k a es) = AllByRecursion (λ (e : EntityForm90). IsLongName e.name) es
 IsWell (forms.Continue (d ∷ digits)) = value_of_digits (d ∷ digits) < 100000
 IsWell (forms.Print is) = HaveTexts is
 IsWell (forms.Test p f) = IsWell f
 IsWell f = Unit {0}
 
-names_long : (es : List Entity) → AllByRecursion (λ (e : Entity). IsName e.name) es → AllByRecursion (λ (e : Entity). IsLongName e.name) es
+names_long : (es : List EntityForm90) → AllByRecursion (λ (e : EntityForm90). IsName90 e.name) es → AllByRecursion (λ (e : EntityForm90). IsLongName e.name) es
 names_long [] h = tt
 names_long (e ∷ es) h = (long_name e.name h.0, names_long es h.1)
 
-transfer_list : (short long : List ℕ) (list ws : List Word) → IsTransfer short long list ws → AreGoodWords ws → AreGoodWords list
+transfer_list : (short long : List ℕ) (list ws : List Word90) → IsTransfer short long list ws → AreGoodWords ws → AreGoodWords list
 transfer_list short long list ws (inl e) g = (subst AreGoodWords e g).1.1.1
 transfer_list short long list ws (inr e) g = (subst AreGoodWords e g).1.1.1.1.1
 
-pub form_well : (f : Form) (ws : List Word) → IsWritten f ws → AreGoodWords ws → IsWell f
+pub form_well : (f : Form90) (ws : List Word90) → IsWritten90 f ws → AreGoodWords ws → IsWell f
 form_well (forms.Program x) ws h g = long_name x (subst AreGoodWords h g).1.0
 form_well (forms.Declare k a es) ws h g =
-    names_long es (separated_names es (attribute_rest a (words.Colons ∷ separated written_entity es) (subst AreGoodWords h.0 g).1).1)
+    names_long es (separated_names es (attribute_rest a (words.Colons ∷ separated90 written_entity90 es) (subst AreGoodWords h.0 g).1).1)
 form_well (forms.Continue []) ws h g = tt
 form_well (forms.Continue (d ∷ digits)) ws h g = label_small (d ∷ digits) (subst AreGoodWords h.0 g).0 h.1
-form_well (forms.Print is) ws h g = items_texts is (transfer_list (codes "PRINT") (codes "WRITE") (written_items is) ws h.0 g)
-form_well (forms.Test p f) ws h g = form_well f h.0 h.3 (all_right IsGoodWord (written p) (words.Close ∷ h.0) (subst AreGoodWords h.1 g).1).1
+form_well (forms.Print is) ws h g = items_texts is (transfer_list (codes "PRINT") (codes "WRITE") (written_items90 is) ws h.0 g)
+form_well (forms.Test p f) ws h g = form_well f h.0 h.3 (all_right IsGoodWord (written90 p) (words.Close ∷ h.0) (subst AreGoodWords h.1 g).1).1
 form_well forms.ImplicitNone ws h g = tt
 form_well (forms.Assign l r) ws h g = tt
 form_well (forms.Where m l r) ws h g = tt

@@ -7,7 +7,7 @@ use Rattle.std.specs.Str.Parse.{AllDigits, digits_value}
 use Rattle.std.proofs.lemmas.Bool.{and_parts}
 use Rattle.std.proofs.lemmas.List.Folds.{list_all-append}
 use Rattle.tree.specs.declared.stmts.Mark.{Mark}
-use Rattle.f90_grammar.specs.FreeForm.{Piece, IsPiece, AreFurtherPieces, ArePieces, ampersand, written_piece, joint, characters, IsMark, AreMarks, FreeStatement, statement_at, Block, written_block, pieces_of, comments_of, is_comment_line, is_open_behind, AreStatements}
+use Rattle.f90_grammar.specs.FreeForm.{LinePiece, IsPiece, AreFurtherPieces, ArePieces, ampersand, written_piece, joint, characters, IsMark, AreMarks, FreeStatement, free_statement_at, CommentedPiece, written_block, pieces_of, comments_of, is_comment_line, is_open_behind, AreStatements}
 use Rattle.f90_grammar.specs.FreeForm.AreMarks.{none, mark, other}
 use Rattle.f90_grammar.specs.FreeForm.AreStatements.{ends, begins}
 use Rattle.f90_grammar.specs.Reading.{HaveForms}
@@ -113,21 +113,21 @@ fronts_once (c ∷ cs) (d ∷ ds) p q xs ys h k a b e =
 
 -- ---- the lines of a statement
 
-block_front : (b : Block) (bs : List Block) (r : List (List ℕ))
+block_front : (b : CommentedPiece) (bs : List CommentedPiece) (r : List (List ℕ))
     → flat_map written_block (b ∷ bs) ++ r ≡ b.comments ++ written_piece b.piece ∷ (flat_map written_block bs ++ r)
 block_front b bs r = simp append_assoc
 
-split_comments : (b : Block) (bs : List Block) → list_all is_comment_line (comments_of (b ∷ bs)) ≡ true
+split_comments : (b : CommentedPiece) (bs : List CommentedPiece) → list_all is_comment_line (comments_of (b ∷ bs)) ≡ true
     → (list_all is_comment_line b.comments ≡ true) × (list_all is_comment_line (comments_of bs) ≡ true)
 split_comments b bs h =
     and_parts (list_all is_comment_line b.comments) (list_all is_comment_line (comments_of bs))
     (sym (list_all-append is_comment_line b.comments (comments_of bs)) ∙ h)
 
-first_piece : (o : Bool) (b : Block) (bs : List Block) → AreFurtherPieces o (pieces_of (b ∷ bs)) → IsPiece o b.piece
+first_piece : (o : Bool) (b : CommentedPiece) (bs : List CommentedPiece) → AreFurtherPieces o (pieces_of (b ∷ bs)) → IsPiece o b.piece
 first_piece o b [] h = h.0
 first_piece o b (c ∷ cs) h = h.0
 
-fronts : (o : Bool) (b : Block) (bs : List Block) (c : Block) (cs : List Block) (r s : List (List ℕ))
+fronts : (o : Bool) (b : CommentedPiece) (bs : List CommentedPiece) (c : CommentedPiece) (cs : List CommentedPiece) (r s : List (List ℕ))
     → list_all is_comment_line (comments_of (b ∷ bs)) ≡ true → list_all is_comment_line (comments_of (c ∷ cs)) ≡ true
     → AreFurtherPieces o (pieces_of (b ∷ bs)) → AreFurtherPieces o (pieces_of (c ∷ cs))
     → flat_map written_block (b ∷ bs) ++ r ≡ flat_map written_block (c ∷ cs) ++ s
@@ -137,20 +137,20 @@ fronts o b bs c cs r s h k p q e =
     (split_comments b bs h).0 (split_comments c cs k).0 (first_piece o b bs p).is_line (first_piece o c cs q).is_line
     (sym (block_front b bs r) ∙ (e ∙ block_front c cs s))
 
-record SameBlocks (b : Block) (bs : List Block) (c : Block) (cs : List Block) (r s : List (List ℕ)) : Type 0 where
+record SameBlocks (b : CommentedPiece) (bs : List CommentedPiece) (c : CommentedPiece) (cs : List CommentedPiece) (r s : List (List ℕ)) : Type 0 where
   pub comments : b.comments ≡ c.comments
   pub further : comments_of bs ≡ comments_of cs
   pub piece : SamePiece b.piece c.piece
   pub joints : flat_map joint (pieces_of bs) ≡ flat_map joint (pieces_of cs)
   pub rest : r ≡ s
 
-joint_same : (p q : Piece) → SamePiece p q → joint p ≡ joint q
+joint_same : (p q : LinePiece) → SamePiece p q → joint p ≡ joint q
 joint_same p q h = by p.is_pulled q.is_pulled p.chars q.chars h.pulled h.chars
   where
     by : (a b : Bool) (x y : List ℕ) → a ≡ b → x ≡ y → cond a x (10 ∷ x) ≡ cond b y (10 ∷ y)
     by a b x y e f = rw (e, f) refl
 
-blocks_once : (o : Bool) (b : Block) (bs : List Block) (c : Block) (cs : List Block) (r s : List (List ℕ))
+blocks_once : (o : Bool) (b : CommentedPiece) (bs : List CommentedPiece) (c : CommentedPiece) (cs : List CommentedPiece) (r s : List (List ℕ))
     → list_all is_comment_line (comments_of (b ∷ bs)) ≡ true → list_all is_comment_line (comments_of (c ∷ cs)) ≡ true
     → AreFurtherPieces o (pieces_of (b ∷ bs)) → AreFurtherPieces o (pieces_of (c ∷ cs))
     → flat_map written_block (b ∷ bs) ++ r ≡ flat_map written_block (c ∷ cs) ++ s → SameBlocks b bs c cs r s
@@ -183,9 +183,9 @@ blocks_once o b (a ∷ others) c (d ∷ ds) r s h k p q e =
 
 data Seen (n : ℕ) (ls : List (List ℕ)) (ts : List FreeStatement) : Type 0 where
   no_more : ts ≡ [] → list_all is_comment_line ls ≡ true → Seen n ls ts
-  one_more : (b : Block) (bs : List Block) (ahead within : List Mark) (rest : List (List ℕ)) (more : List FreeStatement)
+  one_more : (b : CommentedPiece) (bs : List CommentedPiece) (ahead within : List Mark) (rest : List (List ℕ)) (more : List FreeStatement)
       → ls ≡ flat_map written_block (b ∷ bs) ++ rest
-      → ts ≡ statement_at (n + length b.comments) ahead (characters (pieces_of (b ∷ bs))) within ∷ more
+      → ts ≡ free_statement_at (n + length b.comments) ahead (characters (pieces_of (b ∷ bs))) within ∷ more
       → list_all is_comment_line (comments_of (b ∷ bs)) ≡ true → ArePieces (pieces_of (b ∷ bs)) → AreMarks b.comments ahead
       → AreMarks (comments_of bs) within → AreStatements (n + length (flat_map written_block (b ∷ bs))) rest more → Seen n ls ts
 
@@ -193,7 +193,7 @@ seen : {n : ℕ} {ls : List (List ℕ)} {ts : List FreeStatement} → AreStateme
 seen (ends n cs c) = no_more refl c
 seen (begins n b bs ahead within rest more c p m w r) = one_more b bs ahead within rest more refl refl c p m w r
 
-no_comments : (o : Bool) (b : Block) (bs : List Block) (r : List (List ℕ)) → AreFurtherPieces o (pieces_of (b ∷ bs))
+no_comments : (o : Bool) (b : CommentedPiece) (bs : List CommentedPiece) (r : List (List ℕ)) → AreFurtherPieces o (pieces_of (b ∷ bs))
     → list_all is_comment_line (flat_map written_block (b ∷ bs) ++ r) ≡ true → ⊥
 no_comments o b bs r p h =
     let all = ap (list_all is_comment_line) (sym (block_front b bs r)) ∙ h in
@@ -203,18 +203,18 @@ no_comments o b bs r p h =
     clash (is_comment_line (written_piece b.piece)) line.0 (first_piece o b bs p).is_line
 
 same_statement : (n m : ℕ) (a b : List Mark) (c d : List ℕ) (v w : List Mark) → n ≡ m → a ≡ b → c ≡ d → v ≡ w
-    → statement_at n a c v ≡ statement_at m b d w
+    → free_statement_at n a c v ≡ free_statement_at m b d w
 same_statement n m a b c d v w e f g h = rw (e, f, g, h) refl
 
 same_characters : (a b : Bool) (x y u v : List ℕ) → a ≡ b → x ≡ y → u ≡ v → ampersand a ++ (x ++ u) ≡ ampersand b ++ (y ++ v)
 same_characters a b x y u v e f g = rw (e, f, g) refl
 
-module _ (n : ℕ) (b : Block) (bs : List Block) (ahead within : List Mark) (rest : List (List ℕ)) (more : List FreeStatement)
+module _ (n : ℕ) (b : CommentedPiece) (bs : List CommentedPiece) (ahead within : List Mark) (rest : List (List ℕ)) (more : List FreeStatement)
     (c : list_all is_comment_line (comments_of (b ∷ bs)) ≡ true) (p : ArePieces (pieces_of (b ∷ bs))) (m : AreMarks b.comments ahead)
     (w : AreMarks (comments_of bs) within)
     (ih : (ts : List FreeStatement) → AreStatements (n + length (flat_map written_block (b ∷ bs))) rest ts → more ≡ ts) where
   begun : (ts : List FreeStatement) → Seen n (flat_map written_block (b ∷ bs) ++ rest) ts
-      → statement_at (n + length b.comments) ahead (characters (pieces_of (b ∷ bs))) within ∷ more ≡ ts
+      → free_statement_at (n + length b.comments) ahead (characters (pieces_of (b ∷ bs))) within ∷ more ≡ ts
   begun ts (no_more e k) = absurd (no_comments false b bs rest p k)
   begun ts (one_more d ds front inner tail others e t k q i j r) =
       let s = blocks_once false b bs d ds rest tail c k p q e in

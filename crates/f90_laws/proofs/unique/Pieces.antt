@@ -2,7 +2,8 @@
 use Rattle.std.proofs.Common.{◌≡◌, ℕ, ◌==◌, Bool, true, false, not, ◌&&◌, ◌||◌, cond, List, [], ◌∷◌, ◌++◌, refl, sym, ap, subst, ◌∙◌, append_assoc, append-nil}
 use Rattle.std.specs.List.{list_all}
 use Rattle.std.proofs.lemmas.Bool.{and_parts, or_parts, cond-true, cond-false, eqb-true}
-use Rattle.f90_grammar.specs.FreeForm.{Piece, IsPiece, ampersand, written_piece, is_blank, starts_with, ends_with, is_tail, is_nothing, is_open_behind, has_comment}
+use Rattle.f90_grammar.specs.FreeForm.{LinePiece, IsPiece, ampersand, written_piece, starts_with, ends_with, is_tail, is_nothing, is_open_behind, has_comment}
+use Rattle.reading.specs.Characters.{is_blank}
 
 -- ---- tests
 
@@ -140,13 +141,13 @@ record Says (line : List ℕ) (pulled continued : Bool) (chars : List ℕ) : Typ
   pub is_continued : ends_with 38 line ≡ continued
   pub chars_are : cond continued (before_last (unpulled pulled line)) (unpulled pulled line) ≡ chars
 
-abbrev front_of : Piece → List ℕ
+abbrev front_of : LinePiece → List ℕ
 front_of p = front p.before p.chars p.behind p.is_pulled p.is_continued p.is_single
 
-written_front : (p : Piece) → written_piece p ≡ front_of p ++ p.comment
+written_front : (p : LinePiece) → written_piece p ≡ front_of p ++ p.comment
 written_front p = simp append_assoc
 
-front_taken : (o : Bool) (p : Piece) → IsPiece o p → without_comment o (written_piece p) ≡ front_of p
+front_taken : (o : Bool) (p : LinePiece) → IsPiece o p → without_comment o (written_piece p) ≡ front_of p
 front_taken o p h =
     let bs = and_parts (list_all is_blank p.before) (list_all is_blank p.behind) h.blanks in
     let cs = and_parts (is_tail p.comment) (not (has_comment o p.chars)) h.comment in
@@ -207,13 +208,13 @@ says before chars behind true true true a b n f s =
     }
 says before chars behind false true true a b n f s = absurd (cc)
 
-pub record SamePiece (p q : Piece) : Type 0 where
+pub record SamePiece (p q : LinePiece) : Type 0 where
   pub pulled : p.is_pulled ≡ q.is_pulled
   pub chars : p.chars ≡ q.chars
   pub continued : p.is_continued ≡ q.is_continued
 
 -- a line is one piece
-pub piece_once : (o : Bool) (p q : Piece) → IsPiece o p → IsPiece o q → written_piece p ≡ written_piece q → SamePiece p q
+pub piece_once : (o : Bool) (p q : LinePiece) → IsPiece o p → IsPiece o q → written_piece p ≡ written_piece q → SamePiece p q
 piece_once o p q h k e =
     let a = pull p h in
     let b = pull q k in
@@ -228,10 +229,10 @@ piece_once o p q h k e =
       continued = continued;
     }
   where
-    pull : (p : Piece) → IsPiece o p → starts_with 38 (written_piece p) ≡ p.is_pulled
+    pull : (p : LinePiece) → IsPiece o p → starts_with 38 (written_piece p) ≡ p.is_pulled
     pull p h = pulled_is p.is_pulled p.before (written_piece p) _ (and_parts (list_all is_blank p.before) (list_all is_blank p.behind) h.blanks).0 refl h.leading
 
-    say : (p : Piece) → IsPiece o p → Says (front_of p) p.is_pulled p.is_continued p.chars
+    say : (p : LinePiece) → IsPiece o p → Says (front_of p) p.is_pulled p.is_continued p.chars
     say p h =
         let bs = and_parts (list_all is_blank p.before) (list_all is_blank p.behind) h.blanks in
         says p.before p.chars p.behind p.is_pulled p.is_continued p.is_single bs.0 bs.1

@@ -4,7 +4,7 @@ use Rattle.tree.specs.declared.functions.Intrinsic.{Intrinsic}
 use Rattle.tree.specs.Plain as tree
 use Rattle.tree.specs.Plain.{Declaration}
 use Rattle.f90_grammar.specs.Phrases as phrases
-use Rattle.f90_grammar.specs.Phrases.{Phrase, SuitsCalls}
+use Rattle.f90_grammar.specs.Phrases.{Phrase90, SuitsCalls}
 use Rattle.f90_grammar.specs.Contents.{VariableSuitsCalls}
 use Rattle.f90_grammar.specs.Printing.{phrase_of}
 use Rattle.f90_grammar.specs.Reading.{function_by}
@@ -13,7 +13,7 @@ use Rattle.f90_laws.proofs.unrefused.PrintedForms.{EachForm}
 use Rattle.f90_laws.proofs.unrefused.EachPhrase.{HasGoodPhrases, phrase_forms}
 
 -- what stores into no function, and suits as an expression, suits
-variable_suits : (function : List ℕ → Option Intrinsic) (p : Phrase) → SuitsCalls function p → VariableSuitsCalls function p
+variable_suits : (function : List ℕ → Option Intrinsic) (p : Phrase90) → SuitsCalls function p → VariableSuitsCalls function p
 variable_suits function (phrases.Listed x ps) h = h.1
 variable_suits function (phrases.Name x) h = tt
 variable_suits function p h = tt

@@ -20,8 +20,8 @@ use Rattle.meaning.specs.Profile90.{IsDeclaration, IsExtent}
 use Rattle.meaning.specs.Extents.{IsDimension}
 use Rattle.f90_grammar.specs.Blocks.{Placed}
 use Rattle.f90_grammar.specs.Reading.{entity_declaration}
-use Rattle.f90_grammar.specs.Declared.{declarations_in, declarations_of, names_of, is_repeated, declares_again}
-use Rattle.f90_grammar.specs.Order.{Place, IsPlaceIn}
+use Rattle.f90_grammar.specs.Declared.{declarations_in, declarations_of, declared_names_of, is_repeated, declares_again}
+use Rattle.f90_grammar.specs.Order.{Place90, IsPlaceIn}
 use Rattle.f90_grammar.specs.Bounds.{HasBounds, declared_up_to}
 use Rattle.f90_laws.proofs.printed.PrintedParts.{AreDeclared}
 use Rattle.f90_laws.proofs.printed.PrintedParts.AreDeclared.{none as nothing, more}
@@ -45,7 +45,7 @@ declared_both xs ys = flat_map-append (λ (p : Placed). declarations_in p.form) 
 
 -- ---- at a place
 
-declared_at : (ps : List Placed) (p : Place) → IsPlaceIn ps p → declarations_of ps ≡ declarations_of p.before ++ (declarations_in p.here.form ++ declarations_of p.after)
+declared_at : (ps : List Placed) (p : Place90) → IsPlaceIn ps p → declarations_of ps ≡ declarations_of p.before ++ (declarations_in p.here.form ++ declarations_of p.after)
 declared_at ps p h = ap declarations_of h ∙ declared_both p.before (p.here ∷ p.after)
 
 -- ---- none twice
@@ -93,17 +93,17 @@ below_right : (xs ys zs : List (List ℕ)) → IsInByteOrder (xs ++ (ys ++ zs)) 
 below_right [] ys zs h = tt
 below_right (x ∷ xs) ys zs h = (all_left (Below x) ys zs (all_right (Below x) xs (ys ++ zs) h.0), below_right xs ys zs h.1)
 
-names_both : (xs ys : List Declaration) → names_of (xs ++ ys) ≡ names_of xs ++ names_of ys
+names_both : (xs ys : List Declaration) → declared_names_of (xs ++ ys) ≡ declared_names_of xs ++ declared_names_of ys
 names_both [] ys = refl
 names_both (x ∷ xs) ys = ap (λ ns. x.name ∷ ns) (names_both xs ys)
 
-pub declared_once : (ps : List Placed) → IsInByteOrder (names_of (declarations_of ps)) → (p : Place) → IsPlaceIn ps p → declares_again p.before p.here.form ≡ false
+pub declared_once : (ps : List Placed) → IsInByteOrder (declared_names_of (declarations_of ps)) → (p : Place90) → IsPlaceIn ps p → declares_again p.before p.here.form ≡ false
 declared_once ps h p place =
-    let a = names_of (declarations_of p.before) in
-    let b = names_of (declarations_in p.here.form) in
-    let c = names_of (declarations_of p.after) in
-    let e : names_of (declarations_of ps) ≡ a ++ (b ++ c) =
-    ap names_of (declared_at ps p place) ∙ (names_both (declarations_of p.before) (declarations_in p.here.form ++ declarations_of p.after)
+    let a = declared_names_of (declarations_of p.before) in
+    let b = declared_names_of (declarations_in p.here.form) in
+    let c = declared_names_of (declarations_of p.after) in
+    let e : declared_names_of (declarations_of ps) ≡ a ++ (b ++ c) =
+    ap declared_names_of (declared_at ps p place) ∙ (names_both (declarations_of p.before) (declarations_in p.here.form ++ declarations_of p.after)
     ∙ ap (λ ns. a ++ ns) (names_both (declarations_in p.here.form) (declarations_of p.after))) in
     let o : IsInByteOrder (a ++ (b ++ c)) = subst IsInByteOrder e h in
     no_repeat a b (below_right a b c o) (order_left b c (order_right a (b ++ c) o))
@@ -121,7 +121,7 @@ all_bounds : (ds : List Declaration) → AllByRecursion IsDeclaration ds → All
 all_bounds [] h = tt
 all_bounds (d ∷ ds) h = (bounds d h.0, all_bounds ds h.1)
 
-pub has_bounds : (ps : List Placed) → AllByRecursion IsDeclaration (declarations_of ps) → (p : Place) → IsPlaceIn ps p → AllByRecursion HasBounds (declarations_in p.here.form)
+pub has_bounds : (ps : List Placed) → AllByRecursion IsDeclaration (declarations_of ps) → (p : Place90) → IsPlaceIn ps p → AllByRecursion HasBounds (declarations_in p.here.form)
 has_bounds ps h p place =
     let all = subst (λ (ds : List Declaration). AllByRecursion HasBounds ds) (declared_at ps p place) (all_bounds (declarations_of ps) h) in
     all_left HasBounds (declarations_in p.here.form) (declarations_of p.after) (all_right HasBounds (declarations_of p.before) (declarations_in p.here.form ++ declarations_of p.after) all)
@@ -134,7 +134,7 @@ elements_both xs ys =
     let f : Declaration → ℕ = λ d. array_elements (dimensions d.extent) in
     ap sum (map-append f xs ys) ∙ sum_by-append (λ n. n) (map f xs) (map f ys)
 
-pub few_elements : (ps : List Placed) (p : Place) → IsPlaceIn ps p → elements (declared_up_to p) ≤ elements (declarations_of ps)
+pub few_elements : (ps : List Placed) (p : Place90) → IsPlaceIn ps p → elements (declared_up_to p) ≤ elements (declarations_of ps)
 few_elements ps p place =
     let e = elements_both (declared_up_to p) (declarations_of p.after) in
     let g : declarations_of ps ≡ declared_up_to p ++ declarations_of p.after =

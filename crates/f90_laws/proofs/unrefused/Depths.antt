@@ -12,53 +12,53 @@ use Rattle.meaning.specs.Depths.{depth_of, depth_of_each}
 use Rattle.meaning.specs.Value.{named}
 use Rattle.meaning.specs.Typed90.{HasKind, AreScalars}
 use Rattle.meaning.specs.Profile90.{IsWhole}
-use Rattle.f90_grammar.specs.Phrases.{Phrase, depth}
+use Rattle.f90_grammar.specs.Phrases.{Phrase90, phrase_depth90}
 use Rattle.f90_grammar.specs.Items as items
-use Rattle.f90_grammar.specs.Items.{ItemPhrase, Of, Text, Loop, ItemPhrases, Direction, Input, Output, item_depth, items_depth, step_depth}
+use Rattle.f90_grammar.specs.Items.{ItemPhrase90, Of, Text, Loop, ItemPhrases90, Direction, Input, Output, item_depth90, items_depth90, step_depth90}
 use Rattle.f90_grammar.specs.Printing.{phrase_of}
 use Rattle.f90_grammar.specs.PrintedForms.{reference_phrase, phrases_of, step_phrase, item_phrases}
-use Rattle.f90_grammar.specs.Forms.{Form}
+use Rattle.f90_grammar.specs.Forms.{Form90}
 use Rattle.f90_grammar.specs.Contents.{is_deep, has_deep_expression, step_expressions, item_expressions, items_expressions, item_variables, items_variables}
 use Rattle.f90_laws.proofs.printed.ItemTrees.{typed_depth, typed_step_depth, printed_outputs_depth, printed_inputs_depth}
 use Rattle.f90_laws.proofs.readings.Lists.{both_false, all_both}
 use Rattle.f90_laws.proofs.unrefused.PrintedForms.{EachForm}
 
-abbrev IsWithin : ℕ → Phrase → Type 0
-IsWithin n p = depth p ≤ n
+abbrev IsWithin : ℕ → Phrase90 → Type 0
+IsWithin n p = phrase_depth90 p ≤ n
 
-abbrev AreWithin : ℕ → List Phrase → Type 0
+abbrev AreWithin : ℕ → List Phrase90 → Type 0
 AreWithin n ps = AllByRecursion (IsWithin n) ps
 
-none_deep : (ps : List Phrase) → AreWithin 1000 ps → list_any is_deep ps ≡ false
+none_deep : (ps : List Phrase90) → AreWithin 1000 ps → list_any is_deep ps ≡ false
 none_deep [] h = refl
-none_deep (p ∷ ps) h = both_false (is_deep p) (list_any is_deep ps) (le-ltb 1000 (depth p) h.0) (none_deep ps h.1)
+none_deep (p ∷ ps) h = both_false (is_deep p) (list_any is_deep ps) (le-ltb 1000 (phrase_depth90 p) h.0) (none_deep ps h.1)
 
 -- ---- items
 
-step_within : (n : ℕ) (c : Option Phrase) → step_depth c ≤ n → AreWithin n (step_expressions c)
+step_within : (n : ℕ) (c : Option Phrase90) → step_depth90 c ≤ n → AreWithin n (step_expressions c)
 step_within n None h = tt
 step_within n (Some p) h = (h, tt)
 
 mutual
-  item_expressions_within : (n : ℕ) (d : Direction) (i : ItemPhrase) → item_depth i ≤ n → AreWithin n (item_expressions d i)
+  item_expressions_within : (n : ℕ) (d : Direction) (i : ItemPhrase90) → item_depth90 i ≤ n → AreWithin n (item_expressions d i)
   item_expressions_within n Output (Of p) h = (h, tt)
   item_expressions_within n Input (Of p) h = tt
   item_expressions_within n d (Text t) h = tt
   item_expressions_within n d (Loop is x a b c) h =
       all_both (IsWithin n) (items_expressions d is) (a ∷ b ∷ step_expressions c) (items_expressions_within n d is (omega arith)) (omega arith, (omega arith, step_within n c (omega arith)))
 
-  items_expressions_within : (n : ℕ) (d : Direction) (is : ItemPhrases) → items_depth is ≤ n → AreWithin n (items_expressions d is)
+  items_expressions_within : (n : ℕ) (d : Direction) (is : ItemPhrases90) → items_depth90 is ≤ n → AreWithin n (items_expressions d is)
   items_expressions_within n d (items.Sole i) h = item_expressions_within n d i h
   items_expressions_within n d (items.More is i) h =
       all_both (IsWithin n) (items_expressions d is) (item_expressions d i) (items_expressions_within n d is (omega arith)) (item_expressions_within n d i (omega arith))
 
 mutual
-  item_variables_within : (n : ℕ) (i : ItemPhrase) → item_depth i ≤ n → AreWithin n (item_variables i)
+  item_variables_within : (n : ℕ) (i : ItemPhrase90) → item_depth90 i ≤ n → AreWithin n (item_variables i)
   item_variables_within n (Of p) h = (h, tt)
   item_variables_within n (Text t) h = tt
   item_variables_within n (Loop is x a b c) h = items_variables_within n is (omega arith)
 
-  items_variables_within : (n : ℕ) (is : ItemPhrases) → items_depth is ≤ n → AreWithin n (items_variables is)
+  items_variables_within : (n : ℕ) (is : ItemPhrases90) → items_depth90 is ≤ n → AreWithin n (items_variables is)
   items_variables_within n (items.Sole i) h = item_variables_within n i h
   items_variables_within n (items.More is i) h =
       all_both (IsWithin n) (items_variables is) (item_variables i) (items_variables_within n is (omega arith)) (item_variables_within n i (omega arith))
@@ -66,7 +66,7 @@ mutual
 -- ---- parts of statements
 
 module _ (ds : List Declaration) where
-  within : (e : Expression) (k : Kind) → HasKind ds e k → depth_of e ≤ 1000 → depth (phrase_of e) ≤ 1000
+  within : (e : Expression) (k : Kind) → HasKind ds e k → depth_of e ≤ 1000 → phrase_depth90 (phrase_of e) ≤ 1000
   within e k h l = let d = typed_depth ds e k h in omega arith
 
   step_is_within : (e : Expression) (k : Kind) → HasKind ds e k → depth_of e ≤ 1000 → AreWithin 1000 (step_expressions (step_phrase e))
@@ -82,11 +82,11 @@ module _ (ds : List Declaration) where
   assigned left right (Some d) h = (within (named left) d.kind h.0.suits h.0.depth, within right d.kind h.1.suits h.1.depth)
 
 -- a list of items that isn't too deep
-list_shallow : (d : Direction) (is : ItemPhrases) → items_depth is ≤ 1000 → nat_lt expression_depth90 (items_depth is) ≡ false
-list_shallow d is l = le-ltb 1000 (items_depth is) l
+list_shallow : (d : Direction) (is : ItemPhrases90) → items_depth90 is ≤ 1000 → nat_lt expression_depth90 (items_depth90 is) ≡ false
+list_shallow d is l = le-ltb 1000 (items_depth90 is) l
 
 -- no expression is too deep
-abbrev pub IsShallow : Form → Type 0
+abbrev pub IsShallow : Form90 → Type 0
 IsShallow f = has_deep_expression f ≡ false
 
 pub shallow_forms : (ds : List Declaration) → EachForm ds IsShallow
@@ -113,14 +113,14 @@ shallow_forms ds = record {
   reads = λ i is around h l.
       let ps = item_phrases (tree.item i is) in
       let e = printed_inputs_depth ds (tree.item i is) around h in
-      let k : items_depth ps ≤ 1000 = omega arith in
+      let k : items_depth90 ps ≤ 1000 = omega arith in
       both_false _ _ (list_shallow Input ps k)
       (none_deep _ (all_both (IsWithin 1000) (items_expressions Input ps) (items_variables ps) (items_expressions_within 1000 Input ps k) (items_variables_within 1000 ps k)));
   prints_nothing = refl;
   prints = λ i is around h l.
       let ps = item_phrases (tree.item i is) in
       let e = printed_outputs_depth ds (tree.item i is) around h in
-      let k : items_depth ps ≤ 1000 = omega arith in
+      let k : items_depth90 ps ≤ 1000 = omega arith in
       both_false _ _ (list_shallow Output ps k) (none_deep _ (all_both (IsWithin 1000) (items_expressions Output ps) [] (items_expressions_within 1000 Output ps k) tt));
   allocates = λ x es h. none_deep _ (all_both (IsWithin 1000) (phrases_of es) [] (scalars_within ds es Integer h.1 h.2) tt);
   deallocates = λ x h. refl;

@@ -11,65 +11,65 @@ use Rattle.meaning.specs.Value.{named}
 use Rattle.meaning.specs.Typed90.{HasKind, AreScalars}
 use Rattle.meaning.specs.Items90.{IsOutputItem, AreOutputItems, IsInputItem, AreInputItems}
 use Rattle.meaning.specs.Profile90.{IsWhole}
-use Rattle.f90_grammar.specs.Phrases.{Phrase}
-use Rattle.f90_grammar.specs.Items.{ItemPhrase, Of, Text, Loop, ItemPhrases, Sole, More, Direction, Input, Output}
+use Rattle.f90_grammar.specs.Phrases.{Phrase90}
+use Rattle.f90_grammar.specs.Items.{ItemPhrase90, Of, Text, Loop, ItemPhrases90, Sole, More, Direction, Input, Output}
 use Rattle.f90_grammar.specs.Printing.{phrase_of, is_one}
 use Rattle.f90_grammar.specs.PrintedForms.{reference_phrase, phrases_of, step_phrase, item_phrase, item_phrases, more_items}
-use Rattle.f90_grammar.specs.Forms.{Form}
-use Rattle.f90_grammar.specs.Contents.{expressions_of, variables_of, step_expressions, item_expressions, items_expressions, item_variables, items_variables}
+use Rattle.f90_grammar.specs.Forms.{Form90}
+use Rattle.f90_grammar.specs.Contents.{expressions_of, stored_variables_of, step_expressions, item_expressions, items_expressions, item_variables, items_variables}
 use Rattle.f90_laws.proofs.readings.Lists.{all_both}
 use Rattle.f90_laws.proofs.unrefused.PrintedForms.{EachForm}
 
 -- of expressions, and of variables that are stored into
-pub record EachPhrase (ds : List Declaration) (Good GoodVariable : Phrase → Type 0) : Type 0 where
+pub record EachPhrase (ds : List Declaration) (Good GoodVariable : Phrase90 → Type 0) : Type 0 where
   pub value : (e : Expression) (k : Kind) → HasKind ds e k → Good (phrase_of e)
   pub variable : (x : List ℕ) (ss : Subscripts) (k : Kind) → HasKind ds (tree.Named x ss) k → GoodVariable (phrase_of (tree.Named x ss))
 
-module _ (Good GoodVariable : Phrase → Type 0) where
-  abbrev AreGood : List Phrase → Type 0
+module _ (Good GoodVariable : Phrase90 → Type 0) where
+  abbrev AreGood : List Phrase90 → Type 0
   AreGood ps = AllByRecursion Good ps
 
-  abbrev AreGoodVariables : List Phrase → Type 0
+  abbrev AreGoodVariables : List Phrase90 → Type 0
   AreGoodVariables ps = AllByRecursion GoodVariable ps
 
-  pub record HasGoodPhrases (f : Form) : Type 0 where
+  pub record HasGoodPhrases (f : Form90) : Type 0 where
     pub expressions : AllByRecursion Good (expressions_of f)
-    pub variables : AllByRecursion GoodVariable (variables_of f)
+    pub variables : AllByRecursion GoodVariable (stored_variables_of f)
 
   -- ---- items
 
-  abbrev MayStand : Direction → Phrase → Type 0
+  abbrev MayStand : Direction → Phrase90 → Type 0
   MayStand Output p = Good p
   MayStand Input p = GoodVariable p
 
   abbrev mutual
-    ItemIsGood : Direction → ItemPhrase → Type 0
+    ItemIsGood : Direction → ItemPhrase90 → Type 0
     ItemIsGood d (Of p) = MayStand d p
     ItemIsGood d (Text t) = Unit {0}
     ItemIsGood d (Loop is x a b c) = ItemsAreGood d is × Good a × Good b × AreGood (step_expressions c)
 
-    ItemsAreGood : Direction → ItemPhrases → Type 0
+    ItemsAreGood : Direction → ItemPhrases90 → Type 0
     ItemsAreGood d (Sole i) = ItemIsGood d i
     ItemsAreGood d (More is i) = ItemsAreGood d is × ItemIsGood d i
 
   mutual
-    item_expressions_good : (d : Direction) (i : ItemPhrase) → ItemIsGood d i → AreGood (item_expressions d i)
+    item_expressions_good : (d : Direction) (i : ItemPhrase90) → ItemIsGood d i → AreGood (item_expressions d i)
     item_expressions_good Output (Of p) h = (h, tt)
     item_expressions_good Input (Of p) h = tt
     item_expressions_good d (Text t) h = tt
     item_expressions_good d (Loop is x a b c) h = all_both Good (items_expressions d is) (a ∷ b ∷ step_expressions c) (items_expressions_good d is h.0) (h.1, (h.2, h.3))
 
-    items_expressions_good : (d : Direction) (is : ItemPhrases) → ItemsAreGood d is → AreGood (items_expressions d is)
+    items_expressions_good : (d : Direction) (is : ItemPhrases90) → ItemsAreGood d is → AreGood (items_expressions d is)
     items_expressions_good d (Sole i) h = item_expressions_good d i h
     items_expressions_good d (More is i) h = all_both Good (items_expressions d is) (item_expressions d i) (items_expressions_good d is h.0) (item_expressions_good d i h.1)
 
   mutual
-    item_variables_good : (i : ItemPhrase) → ItemIsGood Input i → AreGoodVariables (item_variables i)
+    item_variables_good : (i : ItemPhrase90) → ItemIsGood Input i → AreGoodVariables (item_variables i)
     item_variables_good (Of p) h = (h, tt)
     item_variables_good (Text t) h = tt
     item_variables_good (Loop is x a b c) h = items_variables_good is h.0
 
-    items_variables_good : (is : ItemPhrases) → ItemsAreGood Input is → AreGoodVariables (items_variables is)
+    items_variables_good : (is : ItemPhrases90) → ItemsAreGood Input is → AreGoodVariables (items_variables is)
     items_variables_good (Sole i) h = item_variables_good i h
     items_variables_good (More is i) h = all_both GoodVariable (items_variables is) (item_variables i) (items_variables_good is h.0) (item_variables_good i h.1)
 
@@ -87,7 +87,7 @@ module _ (Good GoodVariable : Phrase → Type 0) where
       outputs_good tree.no_items w h = tt
       outputs_good (tree.item i is) w h = more_outputs_good (Sole (item_phrase i)) is w (output_good i w h.0) h.1
 
-      more_outputs_good : (ps : ItemPhrases) (is : Items) (around : List (List ℕ)) → ItemsAreGood Output ps → AreOutputItems ds is around → ItemsAreGood Output (more_items ps is)
+      more_outputs_good : (ps : ItemPhrases90) (is : Items) (around : List (List ℕ)) → ItemsAreGood Output ps → AreOutputItems ds is around → ItemsAreGood Output (more_items ps is)
       more_outputs_good ps tree.no_items w g h = g
       more_outputs_good ps (tree.item i is) w g h = more_outputs_good (More ps (item_phrase i)) is w (g, output_good i w h.0) h.1
 
@@ -103,7 +103,7 @@ module _ (Good GoodVariable : Phrase → Type 0) where
       inputs_good tree.no_items w h = tt
       inputs_good (tree.item i is) w h = more_inputs_good (Sole (item_phrase i)) is w (input_good i w h.0) h.1
 
-      more_inputs_good : (ps : ItemPhrases) (is : Items) (around : List (List ℕ)) → ItemsAreGood Input ps → AreInputItems ds is around → ItemsAreGood Input (more_items ps is)
+      more_inputs_good : (ps : ItemPhrases90) (is : Items) (around : List (List ℕ)) → ItemsAreGood Input ps → AreInputItems ds is around → ItemsAreGood Input (more_items ps is)
       more_inputs_good ps tree.no_items w g h = g
       more_inputs_good ps (tree.item i is) w g h = more_inputs_good (More ps (item_phrase i)) is w (g, input_good i w h.0) h.1
 

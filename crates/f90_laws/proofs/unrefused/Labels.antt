@@ -11,14 +11,14 @@ use Rattle.tree.specs.Plain.{Statement, Arms, Block, Declaration, Program}
 use Rattle.meaning.specs.Blocks.{Surroundings, outermost, within_loop, before_labels, labels_of}
 use Rattle.meaning.specs.Labels.{all_labels_of, all_labels_in_arms, all_labels_in, IsWithoutRepeats, IsLabel}
 use Rattle.meaning.specs.Profile90.{IsStatement, AreArms, IsBlock, IsProgram90}
-use Rattle.f90_grammar.specs.Words.{IsDigits}
+use Rattle.reading.specs.Characters.{IsDigits}
 use Rattle.f90_grammar.specs.Phrases.{value_of_digits}
 use Rattle.f90_grammar.specs.Forms as forms
-use Rattle.f90_grammar.specs.Forms.{Form}
+use Rattle.f90_grammar.specs.Forms.{Form90}
 use Rattle.f90_grammar.specs.PrintedForms.{Printed, unmarked, printed_statement, printed_arms, printed_else, printed_block, printed_declaration, printed_program}
 use Rattle.f90_grammar.specs.Blocks.{Placed}
-use Rattle.f90_grammar.specs.Order.{Place, IsPlaceIn}
-use Rattle.f90_grammar.specs.Surroundings.{label_in, bears_label, is_wrong_label}
+use Rattle.f90_grammar.specs.Order.{Place90, IsPlaceIn}
+use Rattle.f90_grammar.specs.Surroundings.{label_digits_in, bears_label, is_wrong_label90}
 use Rattle.f90_laws.proofs.printed.PhraseLevels.{decimal_digits}
 use Rattle.f90_laws.proofs.printed.PrintedBlocksPlaced.{ArePlaced}
 use Rattle.f90_laws.proofs.printed.PrintedBlocksPlaced.ArePlaced.{none, next}
@@ -98,7 +98,7 @@ program_labels p h =
 
 -- ---- none is 0
 
-abbrev HasPositiveLabel : Form → Type 0
+abbrev HasPositiveLabel : Form90 → Type 0
 HasPositiveLabel f = AllByRecursion (λ n. 0 < n) (label_values f)
 
 positive_forms : (ds : List Declaration) → EachForm ds HasPositiveLabel
@@ -128,7 +128,7 @@ positive_forms ds = record {
 
 -- ---- none stands twice
 
-bears : (n : ℕ) (f : Form) → bears_label n (label_in f) ≡ list_any (λ m. n == m) (label_values f)
+bears : (n : ℕ) (f : Form90) → bears_label n (label_digits_in f) ≡ list_any (λ m. n == m) (label_values f)
 bears n (forms.Continue []) = refl
 bears n (forms.Continue (d ∷ digits)) = by (n == value_of_digits (d ∷ digits))
   where
@@ -137,7 +137,7 @@ bears n (forms.Continue (d ∷ digits)) = by (n == value_of_digits (d ∷ digits
     by false = refl
 bears n f = refl
 
-all_bear : (n : ℕ) (ps : List Placed) → list_any (λ (p : Placed). bears_label n (label_in p.form)) ps ≡ list_any (λ m. n == m) (flat_labels ps)
+all_bear : (n : ℕ) (ps : List Placed) → list_any (λ (p : Placed). bears_label n (label_digits_in p.form)) ps ≡ list_any (λ m. n == m) (flat_labels ps)
 all_bear n [] = refl
 all_bear n (p ∷ ps) =
     ap₂ (λ a b. a || b) (bears n p.form) (all_bear n ps) ∙ sym (list_any-append (λ m. n == m) (label_values p.form) (flat_labels ps))
@@ -149,20 +149,20 @@ apart n (x ∷ xs) ys h =
     (ne_eqb n x (λ e. h.0 (subst (λ (m : ℕ). Contains (xs ++ n ∷ ys) m) e (Contains-append_right xs (n ∷ ys) n (here n ys))))) (apart n xs ys h.1)
 
 right_label : (before : List Placed) (digits : List ℕ) (more : List ℕ) → IsWithoutRepeats (flat_labels before ++ (label_values (forms.Continue digits) ++ more))
-    → AllByRecursion (λ n. 0 < n) (label_values (forms.Continue digits)) → is_wrong_label before digits ≡ false
+    → AllByRecursion (λ n. 0 < n) (label_values (forms.Continue digits)) → is_wrong_label90 before digits ≡ false
 right_label before [] more h g = refl
 right_label before (d ∷ digits) more h g =
     let n = value_of_digits (d ∷ digits) in
     let positive : 0 < n = g.0 in
     both_false (n == 0) _ (ne_eqb n 0 (λ e. omega arith)) (all_bear n before ∙ apart n (flat_labels before) more h)
 
-wrong_label : (before : List Placed) (f : Form) (more : List ℕ) → IsWithoutRepeats (flat_labels before ++ (label_values f ++ more))
-    → HasPositiveLabel f → is_wrong_label before (label_in f) ≡ false
+wrong_label : (before : List Placed) (f : Form90) (more : List ℕ) → IsWithoutRepeats (flat_labels before ++ (label_values f ++ more))
+    → HasPositiveLabel f → is_wrong_label90 before (label_digits_in f) ≡ false
 wrong_label before (forms.Continue digits) more h g = right_label before digits more h g
 wrong_label before f more h g = refl
 
-pub labels_right : (p : Program) → IsProgram90 p → (ps : List Placed) → ArePlaced (printed_program p) ps → (place : Place) → IsPlaceIn ps place
-    → is_wrong_label place.before (label_in place.here.form) ≡ false
+pub labels_right : (p : Program) → IsProgram90 p → (ps : List Placed) → ArePlaced (printed_program p) ps → (place : Place90) → IsPlaceIn ps place
+    → is_wrong_label90 place.before (label_digits_in place.here.form) ≡ false
 labels_right p h ps q place e =
     let same : flat_labels ps ≡ all_labels_in p.body = placed_labels (printed_program p) ps q ∙ program_labels p h in
     let parts : flat_labels ps ≡ flat_labels place.before ++ (label_values place.here.form ++ flat_labels place.after) =

@@ -10,11 +10,11 @@ use mathlib.Core.Path.{ap₂}
 use Rattle.tree.specs.Plain.{Program}
 use Rattle.tree.specs.declared.refusals.Refusal.{Refusal}
 use Rattle.meaning.specs.Profile90.{IsProgram90}
-use Rattle.f90_grammar.specs.FreeForm.{Piece, IsPiece, written_piece, ampersand, is_comment_line, is_nothing}
+use Rattle.f90_grammar.specs.FreeForm.{LinePiece, IsPiece, written_piece, ampersand, is_comment_line, is_nothing}
 use Rattle.f90_grammar.specs.Forms as forms
-use Rattle.f90_grammar.specs.PrintedForms.{Printed, unmarked, title_of, printed_declaration, printed_block, printed_program}
+use Rattle.f90_grammar.specs.PrintedForms.{Printed, unmarked, printed_title_of, printed_declaration, printed_block, printed_program}
 use Rattle.f90_grammar.specs.PrintedText.{printed_lines, program_lines, printed90, IsNote}
-use Rattle.f90_grammar.specs.LineCauses.{Standing, Between, Within, LeadTo, is_bad_byte, HasLineCause}
+use Rattle.f90_grammar.specs.LineCauses.{LineState, Between, Within, LeadTo, is_bad_byte90, HasLineCause}
 use Rattle.f90_grammar.specs.LineCauses.LeadTo.{nothing, comment, piece}
 use Rattle.f90_grammar.specs.LineCauses.HasLineCause.{HoldsBadByte, IsLong, EndsWithin}
 use Rattle.f90_laws.specs.printed.Laws.{IsFreeLine}
@@ -35,12 +35,12 @@ AreFree ls = AllByRecursion IsFreeLine ls
 line_good : (front back : List (List ℕ)) (line : List ℕ) (ls : List (List ℕ)) → AreFree ls → ls ≡ front ++ line ∷ back → IsFreeLine line
 line_good front back line ls h e = (all_right IsFreeLine front (line ∷ back) (subst AreFree e h)).0
 
-no_bad_byte : (t : List ℕ) → ArePrintable t → list_any is_bad_byte t ≡ false
+no_bad_byte : (t : List ℕ) → ArePrintable t → list_any is_bad_byte90 t ≡ false
 no_bad_byte [] h = refl
-no_bad_byte (c ∷ cs) h = let l : 32 ≤ c = h.0.0 in let u : c ≤ 126 = h.0.1 in both_false (is_bad_byte c) (list_any is_bad_byte cs) (both_false (nat_lt c 32) (nat_lt 126 c) (le-ltb c 32 l) (le-ltb 126 c u)) (no_bad_byte cs h.1)
+no_bad_byte (c ∷ cs) h = let l : 32 ≤ c = h.0.0 in let u : c ≤ 126 = h.0.1 in both_false (is_bad_byte90 c) (list_any is_bad_byte90 cs) (both_false (nat_lt c 32) (nat_lt 126 c) (le-ltb c 32 l) (le-ltb 126 c u)) (no_bad_byte cs h.1)
 
 -- the characters of a piece stand in its line
-piece_printable : (p : Piece) → ArePrintable (written_piece p) → ArePrintable p.chars
+piece_printable : (p : LinePiece) → ArePrintable (written_piece p) → ArePrintable p.chars
 piece_printable p h =
     all_left (λ c. (32 ≤ c) × (c ≤ 126)) p.chars (ampersand (p.is_continued && not p.is_single) ++ (p.behind ++ p.comment))
     (all_right (λ c. (32 ≤ c) × (c ≤ 126)) (ampersand p.is_pulled) _ (all_right (λ c. (32 ≤ c) × (c ≤ 126)) p.before _ h))
@@ -57,7 +57,7 @@ before_back : (xs ys : List ℕ) → has_ampersand xs ≡ true → has_ampersand
 before_back xs ys h = list_any-append (λ c. c == 38) xs ys ∙ ap (λ b. b || has_ampersand ys) h
 
 -- a line that is continued has an ampersand, which may be the one before its characters
-continued_has : (p : Piece) → (single pulled : Bool) → p.is_single ≡ single → p.is_pulled ≡ pulled → p.is_continued ≡ true
+continued_has : (p : LinePiece) → (single pulled : Bool) → p.is_single ≡ single → p.is_pulled ≡ pulled → p.is_continued ≡ true
     → IsTrue (not single || (pulled && (true && is_nothing p.chars))) → has_ampersand (written_piece p) ≡ true
 continued_has p false pulled s q c h =
     behind_front p.before _ (behind_front (ampersand p.is_pulled) _ (behind_front p.chars _
@@ -66,7 +66,7 @@ continued_has p true true s q c h =
     behind_front p.before _ (before_back (ampersand p.is_pulled) _ (ap (λ b. has_ampersand (ampersand b)) q))
 continued_has p true false s q c h = let k : false ≡ true = h in absurd cc
 
-piece_has : (o : Bool) (p : Piece) → IsPiece o p → p.is_continued ≡ true → has_ampersand (written_piece p) ≡ true
+piece_has : (o : Bool) (p : LinePiece) → IsPiece o p → p.is_continued ≡ true → has_ampersand (written_piece p) ≡ true
 piece_has o p h c =
     continued_has p p.is_single p.is_pulled refl refl c
     (subst (λ (b : Bool). IsTrue (not p.is_single || (p.is_pulled && (b && is_nothing p.chars)))) c h.single)
@@ -83,11 +83,11 @@ last_same (z ∷ xs) (w ∷ ys) x y e = last_same xs ys x y (let f : xs ++ x ∷
 abbrev EndsStatement : List ℕ → Type 0
 EndsStatement line = (is_comment_line line ≡ false) × (has_ampersand line ≡ false)
 
-continues : (b : Bool) (n : ℕ) (s : Standing) (o : Bool) (initial : ℕ) (q : Bool) → (if b then Within n q else Between) ≡ Within initial o → b ≡ true
+continues : (b : Bool) (n : ℕ) (s : LineState) (o : Bool) (initial : ℕ) (q : Bool) → (if b then Within n q else Between) ≡ Within initial o → b ≡ true
 continues true n s o initial q e = refl
 continues false n s o initial q e = cc
 
-ended : (ls : List (List ℕ)) (s : Standing) → LeadTo ls s → (front : List (List ℕ)) (last : List ℕ) → ls ≡ front ++ last ∷ [] → EndsStatement last
+ended : (ls : List (List ℕ)) (s : LineState) → LeadTo ls s → (front : List (List ℕ)) (last : List ℕ) → ls ≡ front ++ last ∷ [] → EndsStatement last
     → (initial : ℕ) (o : Bool) → s ≡ Within initial o → ⊥
 ended ls s nothing front last e h initial o f = cc
 ended ls s (comment lead line t c k) front last e h initial o f =
@@ -109,18 +109,18 @@ module _ (p : Program) (notes : List (List ℕ)) (good : AllByRecursion IsNote n
   are_lines = same_lines p notes good (each_readable (printed_program p) (printed_is_spelled p h) (program_suits p h))
 
   abbrev before_end : List Printed
-  before_end = unmarked (forms.Program (title_of p.name)) ∷ unmarked forms.ImplicitNone ∷ (map printed_declaration p.declarations ++ printed_block p.body)
+  before_end = unmarked (forms.Program (printed_title_of p.name)) ∷ unmarked forms.ImplicitNone ∷ (map printed_declaration p.declarations ++ printed_block p.body)
 
   ends_in_end : program_lines p notes ≡ (notes ++ flat_map printed_lines before_end) ++ codes "END" ∷ []
   ends_in_end =
-      ap (λ ss. notes ++ flat_map printed_lines (unmarked (forms.Program (title_of p.name)) ∷ unmarked forms.ImplicitNone ∷ ss)) (sym (append_assoc (map printed_declaration p.declarations) (printed_block p.body) (unmarked forms.End ∷ [])))
+      ap (λ ss. notes ++ flat_map printed_lines (unmarked (forms.Program (printed_title_of p.name)) ∷ unmarked forms.ImplicitNone ∷ ss)) (sym (append_assoc (map printed_declaration p.declarations) (printed_block p.body) (unmarked forms.End ∷ [])))
       ∙ (ap (λ ls. notes ++ ls) (flat_map-append printed_lines before_end (unmarked forms.End ∷ [])) ∙ sym (append_assoc notes (flat_map printed_lines before_end) (codes "END" ∷ [])))
 
   pub no_line_cause : (r : Refusal) → HasLineCause (printed90 p notes) r → ⊥
   no_line_cause r (HoldsBadByte front back q s e l i b) =
       let g = line_good front back (written_piece q) (lines (printed90 p notes)) program_free e in
       let f = no_bad_byte q.chars (piece_printable q g.printable) in
-      let t : list_any is_bad_byte q.chars ≡ true = b in cc
+      let t : list_any is_bad_byte90 q.chars ≡ true = b in cc
   no_line_cause r (IsLong front back line e l) =
       let g = line_good front back line (lines (printed90 p notes)) program_free e in
       let w = g.within in omega arith

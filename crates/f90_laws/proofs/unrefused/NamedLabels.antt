@@ -6,14 +6,14 @@ use Rattle.tree.specs.Plain.{Statement, Arms, Block}
 use Rattle.tree.specs.declared.functions.Intrinsic.{Intrinsic}
 use Rattle.f90_grammar.specs.Phrases.{value_of_digits}
 use Rattle.f90_grammar.specs.Forms as forms
-use Rattle.f90_grammar.specs.Forms.{Form}
-use Rattle.f90_grammar.specs.Blocks.{Placed, at, IsSimple, AreBlock, AreArms}
+use Rattle.f90_grammar.specs.Forms.{Form90}
+use Rattle.f90_grammar.specs.Blocks.{Placed, placed_form, IsSimple, AreBlock90, AreArms90}
 use Rattle.f90_grammar.specs.Blocks.IsSimple.{assigns, masks, goes, stops, reads, reads_nothing, prints, prints_nothing, allocates, deallocates}
-use Rattle.f90_grammar.specs.Blocks.AreBlock.{nothing, label, unnamed, simple, test, branch, loop}
-use Rattle.f90_grammar.specs.Blocks.AreArms.{ends, other, further}
+use Rattle.f90_grammar.specs.Blocks.AreBlock90.{nothing, label, unnamed, simple, test, branch, loop}
+use Rattle.f90_grammar.specs.Blocks.AreArms90.{ends, other, further}
 use Rattle.f90_grammar.specs.Reading.{names_label, arms_name_label, is_target_in}
 
-abbrev form_names : ℕ → Form → Bool
+abbrev form_names : ℕ → Form90 → Bool
 form_names n (forms.Go digits) = n == value_of_digits digits
 form_names n (forms.Test p f) = form_names n f
 form_names n f = false
@@ -46,24 +46,24 @@ module _ (function : List ℕ → Option Intrinsic) (is_target : ℕ → Bool) (
   simple_names s c (deallocates line x) = refl
 
   mutual
-    pub block_names : (ps : List Placed) (b : Block) → AreBlock function is_target ps b → is_target_in b n ≡ name_label n ps
+    pub block_names : (ps : List Placed) (b : Block) → AreBlock90 function is_target ps b → is_target_in b n ≡ name_label n ps
     block_names ps b nothing = refl
     block_names ps b (label line digits rest d t h) = block_names rest d h
     block_names ps b (unnamed line digits rest d t h) = block_names rest d h
     block_names ps b (simple s c rest d i h) = ap₂ (λ u v. u || v) (simple_names s c i) (block_names rest d h)
     block_names ps b (test line m p f inner d rest i h) =
-        ap₂ (λ u v. u || v) (or-false (is_target_in inner n || false) ∙ (or-false (is_target_in inner n) ∙ (block_names (at line m f ∷ []) inner i ∙ or-false (form_names n f)))) (block_names rest d h)
+        ap₂ (λ u v. u || v) (or-false (is_target_in inner n || false) ∙ (or-false (is_target_in inner n) ∙ (block_names (placed_form line m f ∷ []) inner i ∙ or-false (form_names n f)))) (block_names rest d h)
     block_names ps b (branch line p body ars rest first otherwise d more i a h) =
         ap₂ (λ u v. u || v) (or-assoc (is_target_in first n) (arms_name_label n more) (is_target_in otherwise n) ∙ ap₂ (λ u v. u || v) (block_names body first i) (arms_names ars more otherwise a)) (block_names rest d h)
         ∙ (or-assoc (name_label n body) (name_label n ars) (name_label n rest)
         ∙ (ap (λ u. name_label n body || u) (sym (name_both n ars rest)) ∙ sym (name_both n body (ars ++ rest))))
     block_names ps b (loop line end x p q r body rest inner d i h) =
-        ap₂ (λ u v. u || v) (block_names body inner i) (block_names rest d h) ∙ sym (name_both n body (at end None forms.EndDo ∷ rest))
+        ap₂ (λ u v. u || v) (block_names body inner i) (block_names rest d h) ∙ sym (name_both n body (placed_form end None forms.EndDo ∷ rest))
 
-    arms_names : (ps : List Placed) (m : Arms) (b : Block) → AreArms function is_target ps m b → (arms_name_label n m || is_target_in b n) ≡ name_label n ps
+    arms_names : (ps : List Placed) (m : Arms) (b : Block) → AreArms90 function is_target ps m b → (arms_name_label n m || is_target_in b n) ≡ name_label n ps
     arms_names ps m b (ends line) = refl
     arms_names ps m b (other line end body d h) =
-        block_names body d h ∙ (sym (or-false (name_label n body)) ∙ sym (name_both n body (at end None forms.EndIf ∷ [])))
+        block_names body d h ∙ (sym (or-false (name_label n body)) ∙ sym (name_both n body (placed_form end None forms.EndIf ∷ [])))
     arms_names ps m b (further line p body rest d o more h a) =
         or-assoc (is_target_in d n) (arms_name_label n more) (is_target_in o n)
         ∙ (ap₂ (λ u v. u || v) (block_names body d h) (arms_names rest more o a) ∙ sym (name_both n body rest))

@@ -15,17 +15,17 @@ use Rattle.meaning.specs.Profile90.{IsDeclaration, IsWholeScalar, IsAssignment, 
 use Rattle.meaning.specs.Profile90.{AreArms, IsBlock, IsProgram90}
 use Rattle.meaning.specs.Extents.{IsAllocatable}
 use Rattle.f90_grammar.specs.Forms as forms
-use Rattle.f90_grammar.specs.Forms.{Form}
+use Rattle.f90_grammar.specs.Forms.{Form90}
 use Rattle.f90_grammar.specs.Printing.{phrase_of}
-use Rattle.f90_grammar.specs.PrintedForms.{Printed, reference_phrase, phrases_of, step_phrase, item_phrases, title_of, printed_statement, printed_arms, printed_else, printed_block, printed_declaration, printed_program}
+use Rattle.f90_grammar.specs.PrintedForms.{Printed, reference_phrase, phrases_of, step_phrase, item_phrases, printed_title_of, printed_statement, printed_arms, printed_else, printed_block, printed_declaration, printed_program}
 use Rattle.f90_grammar.specs.Blocks.{Placed}
-use Rattle.f90_grammar.specs.Order.{Place, IsPlaceIn}
+use Rattle.f90_grammar.specs.Order.{Place90, IsPlaceIn}
 use Rattle.f90_laws.proofs.printed.PrintedBlocksPlaced.{ArePlaced}
 use Rattle.f90_laws.proofs.printed.PrintedBlocksPlaced.ArePlaced.{none, next}
 use Rattle.f90_laws.proofs.readings.Lists.{all_both, all_right}
 
 -- of each form that is printed for a part of a program with these declarations
-pub record EachForm (ds : List Declaration) (Good : Form → Type 0) : Type 0 where
+pub record EachForm (ds : List Declaration) (Good : Form90 → Type 0) : Type 0 where
   pub titles : (x : List ℕ) → Good (forms.Program x)
   pub implicit : Good forms.ImplicitNone
   pub declares : (d : Declaration) → IsDeclaration d → Good (printed_declaration d).form
@@ -52,7 +52,7 @@ pub record EachForm (ds : List Declaration) (Good : Form → Type 0) : Type 0 wh
   pub deallocates : (x : List ℕ) → IsSomeAnd (declared ds x) (λ (d : Declaration). IsAllocatable d.extent) → Good (forms.Deallocate x)
   pub ends : Good forms.End
 
-module _ (Good : Form → Type 0) where
+module _ (Good : Form90 → Type 0) where
   abbrev IsGood : Printed → Type 0
   IsGood s = Good s.form
 
@@ -103,7 +103,7 @@ module _ (Good : Form → Type 0) where
 
     pub program_forms : (p : Program) → p.declarations ≡ ds → IsProgram90 p → AllByRecursion (λ (s : Printed). Good s.form) (printed_program p)
     program_forms p e h = (
-      each.titles (title_of p.name),
+      each.titles (printed_title_of p.name),
       (
         each.implicit,
         all_both IsGood (map printed_declaration p.declarations) _ (declared_forms p.declarations h.declarations.each)
@@ -113,14 +113,14 @@ module _ (Good : Form → Type 0) where
 
 -- ---- statements on lines
 
-pub placed_forms : (Good : Form → Type 0) (ss : List Printed) (ps : List Placed) → ArePlaced ss ps → AllByRecursion (λ (s : Printed). Good s.form) ss
+pub placed_forms : (Good : Form90 → Type 0) (ss : List Printed) (ps : List Placed) → ArePlaced ss ps → AllByRecursion (λ (s : Printed). Good s.form) ss
     → AllByRecursion (λ (p : Placed). Good p.form) ps
 placed_forms Good ss ps none h = tt
 placed_forms Good ss ps (next line s k) h = (h.0, placed_forms Good _ _ k h.1)
 
 -- what holds of each printed form holds at each place
-pub at_each : (Good : Form → Type 0) (p : Program) (h : IsProgram90 p) (ps : List Placed) → ArePlaced (printed_program p) ps → EachForm p.declarations Good
-    → (place : Place) → IsPlaceIn ps place → Good place.here.form
+pub at_each : (Good : Form90 → Type 0) (p : Program) (h : IsProgram90 p) (ps : List Placed) → ArePlaced (printed_program p) ps → EachForm p.declarations Good
+    → (place : Place90) → IsPlaceIn ps place → Good place.here.form
 at_each Good p h ps q each place e =
     let good = placed_forms Good (printed_program p) ps q (program_forms Good p.declarations each p refl h) in
     (all_right (λ (s : Placed). Good s.form) place.before (place.here ∷ place.after) (subst (λ (ss : List Placed). AllByRecursion (λ (s : Placed). Good s.form) ss) e good)).0

@@ -10,10 +10,10 @@ use Rattle.meaning.specs.Items90.{IsInput, IsOutputItem, AreOutputItems, IsInput
 use Rattle.meaning.specs.Profile90.{IsWhole, IsAssignment, IsMasked}
 use Rattle.meaning.specs.Blocks.{Surroundings}
 use Rattle.f90_grammar.specs.Phrases.{tree_of}
-use Rattle.f90_grammar.specs.Items.{Input, Output, step_tree}
+use Rattle.f90_grammar.specs.Items.{Input, Output, step_tree90}
 use Rattle.f90_grammar.specs.Printing.{phrase_of}
 use Rattle.f90_grammar.specs.PrintedForms.{reference_phrase, step_phrase}
-use Rattle.f90_grammar.specs.Blocks.{reference_in}
+use Rattle.reading.specs.Signs.{reference_in}
 use Rattle.f90_grammar.specs.Reading.{function_by}
 use Rattle.f90_grammar.specs.Suited.{SuitsAssignment, SuitsMask, SuitsList, SuitsItem, SuitsItems, SuitsAllocation, Suits}
 use Rattle.f90_laws.proofs.printed.PrintedTrees.{typed_reads_back}
@@ -52,7 +52,7 @@ module _ (ds : List Declaration) where
   scalar_suits : (e : Expression) (k : Kind) → IsScalar ds e k → IsScalar ds (tree_of (function_by ds) (phrase_of e)) k
   scalar_suits e k h = subst (λ (t : Expression). IsScalar ds t k) (sym (back e k h.0)) h
 
-  step_suits : (e : Expression) (k : Kind) → IsScalar ds e k → IsScalar ds (step_tree (function_by ds) (step_phrase e)) k
+  step_suits : (e : Expression) (k : Kind) → IsScalar ds e k → IsScalar ds (step_tree90 (function_by ds) (step_phrase e)) k
   step_suits e k h = subst (λ (t : Expression). IsScalar ds t k) (sym (step_back ds back e k h.0)) h
 
   -- ---- items

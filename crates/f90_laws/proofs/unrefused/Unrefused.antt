@@ -15,16 +15,16 @@ use Rattle.meaning.specs.Extents.{array_elements}
 use Rattle.meaning.specs.Names.{IsInByteOrder}
 use Rattle.meaning.specs.Typed.{dimensions}
 use Rattle.f90_grammar.specs.PrintedForms.{Printed, printed_program}
-use Rattle.f90_grammar.specs.Blocks.{Placed, AreBlock}
+use Rattle.f90_grammar.specs.Blocks.{Placed, AreBlock90}
 use Rattle.f90_grammar.specs.Reading.{is_target_in, function_by}
-use Rattle.f90_grammar.specs.Order.{Place, IsPlaceIn, blocks_round}
+use Rattle.f90_grammar.specs.Order.{Place90, IsPlaceIn, blocks_round}
 use Rattle.f90_grammar.specs.Phrases.{SuitsCalls}
 use Rattle.f90_grammar.specs.Contents.{VariableSuitsCalls, SuitsCallsIn}
-use Rattle.f90_grammar.specs.Declared.{declarations_of, names_of, functions_in, declares_again, HasKnownNames}
+use Rattle.f90_grammar.specs.Declared.{declarations_of, declared_names_of, functions_in, declares_again, HasKnownNames}
 use Rattle.f90_grammar.specs.Suited.{Suits}
 use Rattle.f90_grammar.specs.Surroundings.{AreBody, IsMisplaced, SuitsSurroundings}
 use Rattle.f90_grammar.specs.Surroundings.IsMisplaced.{HasWrongLabel, HasWrongSurroundings}
-use Rattle.f90_grammar.specs.Bounds.{PassesLimit, opens_block}
+use Rattle.f90_grammar.specs.Bounds.{PassesLimit, opens_block90}
 use Rattle.f90_grammar.specs.Bounds.PassesLimit.{OfBlocks, OfBounds, OfElements}
 use Rattle.f90_grammar.specs.Refusals.{HoldsAt, HoldsIn}
 use Rattle.f90_grammar.specs.Refusals.HoldsIn.{AtPlace, HasNoStatement, IsWrongInBlocks}
@@ -105,32 +105,32 @@ module _ (p : Program) (h : IsProgram90 p) (ps : List Placed) (q : ArePlaced (pr
       (placed_forms (HasGoodPhrases (SuitsCalls (function_by p.declarations)) (VariableSuitsCalls (function_by p.declarations))) (printed_program p) ps q
       (program_forms (HasGoodPhrases (SuitsCalls (function_by p.declarations)) (VariableSuitsCalls (function_by p.declarations))) p.declarations (called_forms p.declarations) p refl h)))
 
-  block_limit : (place : Place) → IsPlaceIn ps place → IsTrue (opens_block place.here.form && nat_le 300 (length (blocks_round place))) → ⊥
+  block_limit : (place : Place90) → IsPlaceIn ps place → IsTrue (opens_block90 place.here.form && nat_le 300 (length (blocks_round place))) → ⊥
   block_limit place e t =
       let deep = h.blocks in
       let d = same_depth p.body r.body same.body in
       let within = blocks_open ps r are 300 (omega arith) in
-      let opens : opens_block place.here.form ≡ true = left_true (opens_block place.here.form) _ t in
-      let least : 300 ≤ length (blocks_round place) = leb-true 300 (length (blocks_round place)) (right_true (opens_block place.here.form) _ t) in
+      let opens : opens_block90 place.here.form ≡ true = left_true (opens_block90 place.here.form) _ t in
+      let least : 300 ≤ length (blocks_round place) = leb-true 300 (length (blocks_round place)) (right_true (opens_block90 place.here.form) _ t) in
       let most : length (blocks_round place) < 300 = within_at 300 [] place.before place.here place.after (subst (OpensWithin 300 []) e within) opens in
       omega arith
 
-  limit : (place : Place) → IsPlaceIn ps place → PassesLimit place → ⊥
+  limit : (place : Place90) → IsPlaceIn ps place → PassesLimit place → ⊥
   limit place e (OfBlocks t) = block_limit place e t
   limit place e (OfBounds f) = f (has_bounds ps (subst (λ (ds : List Declaration). AllByRecursion IsDeclaration ds) (sym all_declarations) h.declarations.each) place e)
   limit place e (OfElements l) =
       let few = few_elements ps place e in
-      let most = subst (λ (ds : List Declaration). sum (map (λ (d : Declaration). array_elements (dimensions d.extent)) ds) ≤ limits.array_elements) (sym all_declarations) h.declarations.elements in
+      let most = subst (λ (ds : List Declaration). sum (map (λ (d : Declaration). array_elements (dimensions d.extent)) ds) ≤ limits.most_array_elements) (sym all_declarations) h.declarations.elements in
       omega arith
 
-  declared_well : (place : Place) → IsPlaceIn ps place → IsTrue (declares_again place.before place.here.form) ⊎ (HasKnownNames (declarations_of ps) place.here.form → ⊥) → ⊥
+  declared_well : (place : Place90) → IsPlaceIn ps place → IsTrue (declares_again place.before place.here.form) ⊎ (HasKnownNames (declarations_of ps) place.here.form → ⊥) → ⊥
   declared_well place e (inl t) =
-      let once = declared_once ps (subst (λ (ds : List Declaration). IsInByteOrder (names_of ds)) (sym all_declarations) h.declarations.ordered) place e in
+      let once = declared_once ps (subst (λ (ds : List Declaration). IsInByteOrder (declared_names_of ds)) (sym all_declarations) h.declarations.ordered) place e in
       cc
   declared_well place e (inr f) =
       f (subst (λ (ds : List Declaration). HasKnownNames ds place.here.form) (sym all_declarations) (at_each (HasKnownNames p.declarations) p h ps q (known_forms p.declarations) place e))
 
-  at_place : (c : Cause) (place : Place) → IsPlaceIn ps place → HoldsAt c ps place → ⊥
+  at_place : (c : Cause) (place : Place90) → IsPlaceIn ps place → HoldsAt c ps place → ⊥
   at_place WideLiteral90 place e t = let g = at_each HasNarrowLiterals p h ps q (narrow_forms p.declarations) place e in cc
   at_place Deep90 place e t = let g = at_each IsShallow p h ps q (shallow_forms p.declarations) place e in cc
   at_place Structure place e t = let g = in_order ps r are place e in cc
@@ -147,11 +147,11 @@ module _ (p : Program) (h : IsProgram90 p) (ps : List Placed) (q : ArePlaced (pr
 
   one_body : (b : Block) → AreBody ps b → r.body ≡ b
   one_body b k =
-      let body = subst (λ (ss : List Placed). AreBlock (functions_in ps) (is_target_in b) ss b) (body_is ps r are) k in
-      let mine = subst (λ (ds : List Declaration). AreBlock (function_by ds) (is_target_in r.body) are.body r.body) (sym same_functions) are.block in
+      let body = subst (λ (ss : List Placed). AreBlock90 (functions_in ps) (is_target_in b) ss b) (body_is ps r are) k in
+      let mine = subst (λ (ds : List Declaration). AreBlock90 (function_by ds) (is_target_in r.body) are.body r.body) (sym same_functions) are.block in
       let targets : is_target_in r.body ≡ is_target_in b =
       fun_ext (λ n. block_names (functions_in ps) (is_target_in r.body) n are.body r.body mine ∙ sym (block_names (functions_in ps) (is_target_in b) n are.body b body)) in
-      one_block (functions_in ps) (is_target_in b) are.body r.body b (subst (λ (t : ℕ → Bool). AreBlock (functions_in ps) t are.body r.body) targets mine) body
+      one_block (functions_in ps) (is_target_in b) are.body r.body b (subst (λ (t : ℕ → Bool). AreBlock90 (functions_in ps) t are.body r.body) targets mine) body
 
   body_suits : BlockSuits p.declarations r.body outermost
   body_suits = renumbered_suits p.declarations p.body r.body outermost same.body (block_suits p.declarations p.body outermost h.statements tt)

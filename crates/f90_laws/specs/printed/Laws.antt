@@ -4,7 +4,7 @@ use Rattle.std.specs.List.{AllByRecursion}
 use Rattle.std.specs.Str.Lines.{lines}
 use Rattle.tree.specs.Plain.{Program}
 use Rattle.meaning.specs.Profile90.{IsProgram90}
-use Rattle.f90_grammar.specs.PrintedForms.{title_of}
+use Rattle.f90_grammar.specs.PrintedForms.{printed_title_of}
 use Rattle.f90_grammar.specs.PrintedText.{IsNote, printed90}
 use Rattle.f90_grammar.specs.Blocks.{Placed}
 use Rattle.f90_grammar.specs.Programs.{IsProgramOf}
@@ -18,7 +18,7 @@ pub record IsReadBack (p : Program) (text : List ℕ) : Type 0 where
   pub program : Program
   pub of_text : AreStatementsOf text statements
   pub are : IsProgramOf statements program
-  pub title : program.name ≡ Some (title_of p.name)
+  pub title : program.name ≡ Some (printed_title_of p.name)
   pub same : SameButNumbers p program
 
 -- with any notes before it

@@ -6,17 +6,17 @@ use Rattle.meaning.specs.Names.{begins_with}
 use Rattle.meaning.specs.SymbolicNames.{is_letter, is_digit}
 use Rattle.meaning.specs.Profile90.{IsProgram90}
 use Rattle.f90_grammar.specs.FreeForm.{has_comment, is_open_behind}
-use Rattle.f90_grammar.specs.Words.{Word, HasWords}
-use Rattle.f90_grammar.specs.Forms.{Form, IsWritten}
+use Rattle.f90_grammar.specs.Words.{Word90, HasWords}
+use Rattle.f90_grammar.specs.Forms.{Form90, IsWritten90}
 use Rattle.f90_grammar.specs.PrintedForms.{Printed, printed_program}
 use Rattle.f90_grammar.specs.PrintedText.{form_text}
 
 -- The text of a form has words in which the form is written (ISO/IEC 1539:1991, section 3.2). Its characters are
 -- printable, it has no comment and closes each constant, and a letter or a digit stands first
-pub record IsSpelled (f : Form) : Type 0 where
-  pub in_words : List Word
+pub record IsSpelled (f : Form90) : Type 0 where
+  pub in_words : List Word90
   pub has_words : HasWords (form_text f) in_words
-  pub is_written : IsWritten f in_words
+  pub is_written : IsWritten90 f in_words
   pub printable : AllByRecursion (λ c. (32 ≤ c) × (c ≤ 126)) (form_text f)
   pub no_comment : has_comment false (form_text f) ≡ false
   pub closed : is_open_behind false (form_text f) ≡ false

@@ -1,7 +1,7 @@
 -- The text of a printed program conforms as the program, and no text conforms as two programs.
 use Rattle.std.specs.Prelude.{◌≡◌, Some, ℕ, List}
 use Rattle.tree.specs.Plain.{Program}
-use Rattle.f90_grammar.specs.PrintedForms.{title_of}
+use Rattle.f90_grammar.specs.PrintedForms.{printed_title_of}
 use Rattle.f90_grammar.specs.Refusals.{Conforms90}
 use Rattle.f90_laws.specs.printed.ReadBack.{SameButNumbers}
 
@@ -10,5 +10,5 @@ use Rattle.f90_laws.specs.printed.ReadBack.{SameButNumbers}
 pub record IsReadAs (p : Program) (text : List ℕ) : Type 0 where
   pub program : Program
   pub reads : Conforms90 text program
-  pub title : program.name ≡ Some (title_of p.name)
+  pub title : program.name ≡ Some (printed_title_of p.name)
   pub same : SameButNumbers p program

@@ -23,10 +23,10 @@ use Rattle.reading.specs.refusal_order.Answered.{IsAnswered, comes_before}
 use Rattle.reading.proofs.refusal_order.Answered.{one_answer}
 use Rattle.f90_grammar.specs.Blocks as grammar
 use Rattle.f90_grammar.specs.Contents.{SuitsCallsIn}
-use Rattle.f90_grammar.specs.Forms.{Form}
+use Rattle.f90_grammar.specs.Forms.{Form90}
 use Rattle.f90_grammar.specs.FreeForm.{FreeStatement, AreStatements}
-use Rattle.f90_grammar.specs.Reading.{HaveForms, takes_mark, last_of, if_taken, left_over}
-use Rattle.f90_grammar.specs.Refusals.{IsFormOf, IsDeclaredIn, HasNoForm, functions_but}
+use Rattle.f90_grammar.specs.Reading.{HaveForms, takes_mark, last_mark, if_taken, mark_left_over}
+use Rattle.f90_grammar.specs.Refusals.{IsFormOf90, IsDeclaredIn, HasNoForm90, functions_but}
 use Rattle.f90_laws.proofs.readings.Lists.{here, nowhere, cases_of, all_at, all_both, any_true, found}
 use Rattle.f90_laws.proofs.read_back.DeclaredNames.{same_functions}
 use Rattle.f90_laws.proofs.unique.Statements.{one_statement}
@@ -73,7 +73,7 @@ module _ (function : List ℕ → Option Intrinsic) (ss : List FreeStatement) (h
   function_is : function ≡ functions_but hides.declared
   function_is = fun_ext hides.same
 
-  has_none : (s : FreeStatement) → (HasSuitedForm function s → ⊥) → HasNoForm ss s
+  has_none : (s : FreeStatement) → (HasSuitedForm function s → ⊥) → HasNoForm90 ss s
   has_none s h = record {
     declared = hides.declared;
     are_declared = hides.are_declared;
@@ -86,13 +86,13 @@ module _ (function : List ℕ → Option Intrinsic) (ss : List FreeStatement) (h
         });
   }
 
-  has_one : (s : FreeStatement) → HasSuitedForm function s → HasNoForm ss s → ⊥
+  has_one : (s : FreeStatement) → HasSuitedForm function s → HasNoForm90 ss s → ⊥
   has_one s h n =
       n.none h.form h.is
       (subst (λ (g : List ℕ → Option Intrinsic). SuitsCallsIn g h.form)
       (function_is ∙ same_but ss hides.declared n.declared hides.are_declared n.are_declared) h.suits)
 
-  pub unrefused : AllByRecursion (HasSuitedForm function) ss → (s : FreeStatement) → Contains ss s → HasNoForm ss s → ⊥
+  pub unrefused : AllByRecursion (HasSuitedForm function) ss → (s : FreeStatement) → Contains ss s → HasNoForm90 ss s → ⊥
   unrefused h s c n = has_one s (all_at (HasSuitedForm function) ss s h c) n
 
   -- ---- the first without a form is answered
@@ -128,7 +128,7 @@ module _ (function : List ℕ → Option Intrinsic) (ss : List FreeStatement) (h
           (subst (AreStatements 1 (lines text))
           (f.in_text ∙ ap (λ (ts : List FreeStatement). f.before ++ f.statement ∷ ts) b.same) of_text)
 
-      not_sooner : (t : FreeStatement) → Contains ss t → HasNoForm ss t → f.statement.line ≤ t.line
+      not_sooner : (t : FreeStatement) → Contains ss t → HasNoForm90 ss t → f.statement.line ≤ t.line
       not_sooner t c n =
           by (Contains-append_cases f.before (f.statement ∷ f.after) t
           (subst (λ (ts : List FreeStatement). Contains ts t) f.in_text c))
@@ -164,7 +164,7 @@ module _ (function : List ℕ → Option Intrinsic) (ss : List FreeStatement) (h
 
   -- one has none
   pub refused : (line : ℕ) → IsFirstFormless function ss line
-      → ((s : FreeStatement) → Contains ss s → HasNoForm ss s → ⊥) → ⊥
+      → ((s : FreeStatement) → Contains ss s → HasNoForm90 ss s → ⊥) → ⊥
   refused line f h =
       h f.statement
       (subst (λ (ts : List FreeStatement). Contains ts f.statement) (sym f.in_text)
@@ -179,7 +179,7 @@ module _ (function : List ℕ → Option Intrinsic) (ss : List FreeStatement) (h
   calls m ts [] h k = tt
   calls m [] (p ∷ ps) h k = absurd h
   calls m (t ∷ ts) (p ∷ ps) h k = (
-    subst (λ (f : Form). SuitsCallsIn function f) (one_statement t k.0.form p.form k.0.is h.2) k.0.suits,
+    subst (λ (f : Form90). SuitsCallsIn function f) (one_statement t k.0.form p.form k.0.is h.2) k.0.suits,
     calls _ ts
         ps h.3 k.1,
   )
@@ -203,10 +203,10 @@ pub have_places : (function : List ℕ → Option Intrinsic) (m : Option Mark) (
     → (ps : List grammar.Placed) × HaveForms m ss ps
 have_places function m [] k = ([], tt)
 have_places function m (s ∷ ss) k =
-    let mark : Option Mark = last_of m s.ahead in
+    let mark : Option Mark = last_mark m s.ahead in
     let taken : Bool = takes_mark k.0.form in
-    let more = have_places function (last_of (left_over taken mark) s.within) ss k.1 in
-    (grammar.at s.line (if_taken taken mark) k.0.form ∷ more.0, (refl, refl, k.0.is, more.1))
+    let more = have_places function (last_mark (mark_left_over taken mark) s.within) ss k.1 in
+    (grammar.placed_form s.line (if_taken taken mark) k.0.form ∷ more.0, (refl, refl, k.0.is, more.1))
 
 -- what is answered is answered once
 pub answered_once : (ss : List FreeStatement) (r s : Refusal) → IsAnswered (IsFormless ss) r
@@ -216,22 +216,22 @@ answered_once ss r s h k = one_answer (IsFormless ss) r s h k
 -- ---- one statement
 
 form_by : (function : List ℕ → Option Intrinsic) (s : FreeStatement) (made : Statement) (r : Result Bool Memory)
-    → ((f : Form) → IsStatementOf made f → Tells r (SuitsCallsIn function f)) → HasForm s made
+    → ((f : Form90) → IsStatementOf made f → Tells r (SuitsCallsIn function f)) → HasForm s made
     → Tells r (HasSuitedForm function s)
 form_by function s made r t h =
     tells_by r (λ k. record { form = h.form; is = h.of; suits = k })
-    (λ q. subst (λ (f : Form). SuitsCallsIn function f) (one_statement s q.form h.form q.is h.of) q.suits)
+    (λ q. subst (λ (f : Form90). SuitsCallsIn function f) (one_statement s q.form h.form q.is h.of) q.suits)
     (t h.form h.is_of)
 
 pub form_told : (function : List ℕ → Option Intrinsic) (s : FreeStatement) (form : Option Statement) (made : Statement)
     (r : Result Bool Memory) → form ≡ Some made
-    → ((f : Form) → IsStatementOf made f → Tells r (SuitsCallsIn function f)) → IsFormIn form s
+    → ((f : Form90) → IsStatementOf made f → Tells r (SuitsCallsIn function f)) → IsFormIn form s
     → Tells r (HasSuitedForm function s)
 form_told function s form made r e t h =
     form_by function s made r t (subst (λ (o : Option Statement). IsFormIn o s) e h)
 
 no_form_by : (function : List ℕ → Option Intrinsic) (s : FreeStatement) (b : Bool) → b ≡ false
-    → ((f : Form) → IsFormOf s f → ⊥) → IsTrue b ↔ HasSuitedForm function s
+    → ((f : Form90) → IsFormOf90 s f → ⊥) → IsTrue b ↔ HasSuitedForm function s
 no_form_by function s true e h = absurd (cc)
 no_form_by function s false e h = (λ t. absurd (cc), λ q. absurd (h q.form q.is))
 

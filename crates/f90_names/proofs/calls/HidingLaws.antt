@@ -9,9 +9,9 @@ use Rattle.std.proofs.lemmas.List.{drop_more, drop_all}
 use Rattle.tree.specs.declared.functions.Intrinsic.{Intrinsic}
 use Rattle.tree.specs.declared.ops.Kind.{Kind}
 use Rattle.f90_grammar.specs.Forms as forms
-use Rattle.f90_grammar.specs.Forms.{Form}
+use Rattle.f90_grammar.specs.Forms.{Form90}
 use Rattle.f90_grammar.specs.FreeForm.{FreeStatement}
-use Rattle.f90_grammar.specs.Refusals.{IsFormOf, IsDeclaredIn}
+use Rattle.f90_grammar.specs.Refusals.{IsFormOf90, IsDeclaredIn}
 use Rattle.f90_laws.proofs.readings.Lists.{here, there, nowhere, cases_of, in_flat, from_flat}
 use Rattle.f90_laws.proofs.unique.Statements.{one_statement}
 use Rattle.f90_trees.specs.Hiding.{function_in, without}
@@ -112,16 +112,16 @@ has_read (o ∷ os) (t ∷ ss) s a c = by (has_read os ss s a.1) (cases_of t ss 
     by more (inl e) = record { it = o; among = here o os; is = subst (λ (r : FreeStatement). IsFormIn o r) e a.0 }
     by more (inr d) = let r = more d in record { it = r.it; among = there o os r.it r.among; is = r.is }
 
-same_names : (es : List Entity) (ds : List forms.Entity) → AreOf IsEntityOf es ds
-    → names_of es ≡ map (λ (d : forms.Entity). d.name) ds
+same_names : (es : List Entity) (ds : List forms.EntityForm90) → AreOf IsEntityOf es ds
+    → names_of es ≡ map (λ (d : forms.EntityForm90). d.name) ds
 same_names [] [] a = refl
 same_names [] (d ∷ ds) a = absurd a
 same_names (e ∷ es) [] a = absurd a
 same_names (e ∷ es) (d ∷ ds) a = ap₂ (λ (x : List ℕ) (xs : List (List ℕ)). x ∷ xs) a.0.name (same_names es ds a.1)
 
-declares_form : (ss : List FreeStatement) (s : FreeStatement) (k : Kind) (b : Bool) (es : List Entity) (f : Form)
+declares_form : (ss : List FreeStatement) (s : FreeStatement) (k : Kind) (b : Bool) (es : List Entity) (f : Form90)
     (x : List ℕ) → Contains ss s → IsStatementOf (Declare k b es) f
-    → IsFormOf s f → Contains (names_of es) x → IsDeclaredIn ss x
+    → IsFormOf90 s f → Contains (names_of es) x → IsDeclaredIn ss x
 declares_form ss s k b es (forms.Declare l a ds) x m is of c = record {
   statement = s;
   stands = m;
@@ -138,7 +138,7 @@ by_statement : (ss : List FreeStatement) (s : FreeStatement) (o : Option Stateme
 by_statement ss s (Some (Declare k b es)) x m is c = declares_form ss s k b es is.form x m is.is_of is.of c
 by_statement ss s o x m is c = absurd (nowhere x c)
 
-no_action : (a : Action) (k : Kind) (b : Bool) (ds : List forms.Entity) → IsActionOf a (forms.Declare k b ds) → ⊥
+no_action : (a : Action) (k : Kind) (b : Bool) (ds : List forms.EntityForm90) → IsActionOf a (forms.Declare k b ds) → ⊥
 no_action (Assign l r) k b ds h = h
 no_action (Go n) k b ds h = h
 no_action Continue k b ds h = h
@@ -148,8 +148,8 @@ no_action (Read None) k b ds h = h
 no_action (Print (Some l)) k b ds h = h
 no_action (Print None) k b ds h = h
 
-in_declaration : (made : Statement) (k : Kind) (b : Bool) (ds : List forms.Entity) (x : List ℕ)
-    → IsStatementOf made (forms.Declare k b ds) → Contains (map (λ (d : forms.Entity). d.name) ds) x
+in_declaration : (made : Statement) (k : Kind) (b : Bool) (ds : List forms.EntityForm90) (x : List ℕ)
+    → IsStatementOf made (forms.Declare k b ds) → Contains (map (λ (d : forms.EntityForm90). d.name) ds) x
     → Contains (declared_by (Some made)) x
 in_declaration (Declare l a es) k b ds x is c =
     subst (λ (q : List (List ℕ)). Contains q x) (sym (same_names es ds is.2)) c
@@ -161,7 +161,7 @@ declared_in : (ss : List FreeStatement) (x : List ℕ) (i : IsDeclaredIn ss x) (
 declared_in ss x i None h = absurd (h (forms.Declare i.kind i.allocatable i.entities) i.form)
 declared_in ss x i (Some made) h =
     let e : h.form ≡ forms.Declare i.kind i.allocatable i.entities = one_statement i.statement h.form _ h.of i.form in
-    in_declaration made i.kind i.allocatable i.entities x (subst (λ (f : Form). IsStatementOf made f) e h.is_of) i.name
+    in_declaration made i.kind i.allocatable i.entities x (subst (λ (f : Form90). IsStatementOf made f) e h.is_of) i.name
 
 pub names_declared : (os : List (Option Statement)) (ss : List FreeStatement) → AreOf IsFormIn os ss → (x : List ℕ)
     → Contains (declared_names os) x ↔ IsDeclaredIn ss x

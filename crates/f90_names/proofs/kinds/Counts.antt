@@ -1,7 +1,7 @@
 -- How many parts stand in lists of trees.
 use Rattle.std.proofs.Common.{◌≡◌, ℕ, suc, ◌+◌, List, [], ◌∷◌, map, length, refl, ap, ◌∙◌, arith}
 use Rattle.tree.specs.Plain.{expressions, subscripts}
-use Rattle.tree.specs.View.{expression_of, subscript_of, loop_of, loops}
+use Rattle.tree.specs.View.{expression_of, subscript_of, loop_of, constructor_loops}
 use Rattle.tree.specs.declared.exprs.Expr.{Expr}
 use Rattle.tree.specs.declared.exprs.Sub.{Sub}
 use Rattle.tree.specs.declared.exprs.Turn.{Turn}
@@ -19,7 +19,7 @@ pub subscripts_counted : (ss : List Sub) → number_of_subscripts (subscripts (m
 subscripts_counted [] = refl
 subscripts_counted (s ∷ ss) = ap (λ n. 1 + n) (subscripts_counted ss) ∙ one_more (length ss)
 
-pub loops_counted : (ls : List Turn) → number_of_loops (loops (map loop_of ls)) ≡ length ls
+pub loops_counted : (ls : List Turn) → number_of_loops (constructor_loops (map loop_of ls)) ≡ length ls
 loops_counted [] = refl
 loops_counted (l ∷ ls) = ap (λ n. 1 + n) (loops_counted ls) ∙ one_more (length ls)
 

@@ -12,7 +12,7 @@ use Rattle.tree.specs.Functions.{intrinsic_named}
 use Rattle.meaning.specs.Typed.{number_of_subscripts, declared, rank_of_extent}
 use Rattle.f90_grammar.specs.Items.{Direction, Input, Output}
 use Rattle.f90_grammar.specs.Reading.{function_by}
-use Rattle.f90_grammar.specs.Declared.{IsKnown, use_of}
+use Rattle.f90_grammar.specs.Declared.{IsKnown, use90_of}
 use Rattle.f90_names.specs.declared.kinds.declarations.names.Declared.{Declared}
 use Rattle.f90_names.specs.kinds.declarations.Names.{Tells}
 use Rattle.f90_names.specs.kinds.Known.{KnowsNames, KnowsAll, KnowsSubscripts, KnowsSubscript, KnowsLoops, KnowsReference}
@@ -41,12 +41,12 @@ none_alone (Some k) x = refl
 
 module _ (ds : List Declaration) (known : List ℕ → Option Declared)
     (tells : (x : List ℕ) → Tells (known x) (declared ds x)) where
-  pub name-known : (x : List ℕ) (n : ℕ) → Decides (is_known (known x) n) (IsKnown ds (use_of x n))
+  pub name-known : (x : List ℕ) (n : ℕ) → Decides (is_known (known x) n) (IsKnown ds (use90_of x n))
   name-known x n = known-is (known x) (declared ds x) n (tells x)
 
   -- with subscripts
   listed-known : (x : List ℕ) (m : ℕ) → Decides (is_known_or_function (known x) x (1 + m))
-      ((is_some (function_by ds x) ≡ true) ⊎ IsKnown ds (use_of x (1 + m)))
+      ((is_some (function_by ds x) ≡ true) ⊎ IsKnown ds (use90_of x (1 + m)))
   listed-known x m = by (known x) (declared ds x) (tells x) (function_undeclared ds x) (function_declared ds x)
     where
       by : (o : Option Declared) (d : Option Declaration) → Tells o d
@@ -82,7 +82,7 @@ module _ (ds : List Declaration) (known : List ℕ → Option Declared)
     names-known (Logic b) = (λ e. tt, λ h. refl)
     names-known (Named x no_subscripts) =
         let d = Decides-and (is_known_or_function (known x) x 0) true
-        (subst (λ b. Decides b (IsKnown ds (use_of x 0))) (sym (none_alone (known x) x)) (name-known x 0))
+        (subst (λ b. Decides b (IsKnown ds (use90_of x 0))) (sym (none_alone (known x) x)) (name-known x 0))
         (subscripts-known no_subscripts) in
         (λ e. (d.0 e).0, λ h. d.1 (h, tt))
     names-known (Named x (subscript p ps)) =

@@ -5,8 +5,8 @@ use Rattle.tree.specs.declared.functions.Intrinsic.{Intrinsic}
 use Rattle.tree.specs.declared.lists.Memory.{Memory}
 use Rattle.f90_grammar.specs.Contents.{VariableSuitsCalls, step_expressions, items_expressions, items_variables}
 use Rattle.f90_grammar.specs.Items as items
-use Rattle.f90_grammar.specs.Items.{ItemPhrases}
-use Rattle.f90_grammar.specs.Phrases.{Phrase, SuitsCalls}
+use Rattle.f90_grammar.specs.Items.{ItemPhrases90}
+use Rattle.f90_grammar.specs.Phrases.{Phrase90, SuitsCalls}
 use Rattle.f90_statement.specs.items.Flat.{Node, Of, Text, Begin, Turns}
 use Rattle.f90_statement.specs.declared.items.nodes.Direction.{Direction}
 use Rattle.f90_statement.specs.declared.items.nodes.Direction.TheVariants.{Input, Output}
@@ -26,11 +26,11 @@ module _ (function : List ℕ → Option Intrinsic) where
   NodeSuits d (Turns x a b c) = AllByRecursion (SuitsCalls function) (a ∷ (b ∷ step_expressions c))
 
   -- the expressions of a list, and what is read into
-  abbrev pub ListSuits : Direction → ItemPhrases → Type 0
+  abbrev pub ListSuits : Direction → ItemPhrases90 → Type 0
   ListSuits Input is =
       AllByRecursion (SuitsCalls function) (items_expressions items.Input is)
       × AllByRecursion (VariableSuitsCalls function) (items_variables is)
   ListSuits Output is = AllByRecursion (SuitsCalls function) (items_expressions items.Output is)
 
-  abbrev pub AssignmentSuits : Phrase → Phrase → Type 0
+  abbrev pub AssignmentSuits : Phrase90 → Phrase90 → Type 0
   AssignmentSuits l r = SuitsCalls function r × VariableSuitsCalls function l

@@ -9,10 +9,10 @@ use Rattle.tree.specs.declared.refusals.Refusal.{Refusal}
 use Rattle.f90_grammar.specs.Blocks as grammar
 use Rattle.f90_grammar.specs.Contents.{SuitsCallsIn}
 use Rattle.f90_grammar.specs.Declared.{functions_in}
-use Rattle.f90_grammar.specs.Forms.{Form}
+use Rattle.f90_grammar.specs.Forms.{Form90}
 use Rattle.f90_grammar.specs.FreeForm.{FreeStatement}
 use Rattle.f90_grammar.specs.Reading.{HaveForms}
-use Rattle.f90_grammar.specs.Refusals.{IsFormOf, HasNoForm}
+use Rattle.f90_grammar.specs.Refusals.{IsFormOf90, HasNoForm90}
 use Rattle.f90_blocks.specs.places.forms.Places.{IsPlacedOf}
 use Rattle.f90_blocks.specs.declared.places.forms.placing.Placed.{Placed}
 use Rattle.f90_statement.specs.Views.{AreOf}
@@ -21,7 +21,7 @@ use Rattle.f90_statement.specs.Views.{AreOf}
 pub record IsFormless (ss : List FreeStatement) (r : Refusal) : Type 0 where
   pub statement : FreeStatement
   pub stands : Contains ss statement
-  pub none : HasNoForm ss statement
+  pub none : HasNoForm90 ss statement
   pub refusal : r ≡ refusal_at Syntax90 statement.line
 
 -- the statements have these forms, lines and marks, and each call in them has arguments that may stand there
@@ -35,8 +35,8 @@ pub record HaveSuitedForms (ss : List FreeStatement) (text : List Placed) : Type
 
 -- the statement has a form in which each call has arguments that may stand there
 pub record HasSuitedForm (function : List ℕ → Option Intrinsic) (s : FreeStatement) : Type 0 where
-  pub form : Form
-  pub is : IsFormOf s form
+  pub form : Form90
+  pub is : IsFormOf90 s form
   pub suits : SuitsCallsIn function form
 
 -- the first statement that has none begins in the line

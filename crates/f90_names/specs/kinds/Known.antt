@@ -8,12 +8,13 @@ use Rattle.tree.specs.Plain.{Section}
 use Rattle.tree.specs.Plain.{Subscripts, no_subscripts, subscript, Loops, no_loops, loop, Reference, Declaration}
 use Rattle.tree.specs.Plain.{Item, Single, Constant, ImpliedDo, Items, no_items, item, items}
 use Rattle.meaning.specs.Typed.{number_of_subscripts, declared}
-use Rattle.f90_grammar.specs.Phrases.{Phrase, SuitsCalls, tree_of}
-use Rattle.f90_grammar.specs.Items.{Direction, Input, Output, IsReference, ItemPhrases, AreItems, item_trees}
-use Rattle.f90_grammar.specs.Blocks.{reference_in, trees}
+use Rattle.f90_grammar.specs.Phrases.{Phrase90, SuitsCalls, tree_of}
+use Rattle.f90_grammar.specs.Items.{Direction, Input, Output, IsReference90, ItemPhrases90, AreItems90, item_trees90}
+use Rattle.f90_grammar.specs.Blocks.{trees_by}
+use Rattle.reading.specs.Signs.{reference_in}
 use Rattle.f90_grammar.specs.Reading.{function_by}
 use Rattle.f90_grammar.specs.Contents.{VariableSuitsCalls, items_expressions, items_variables}
-use Rattle.f90_grammar.specs.Declared.{IsKnown, use_of, uses_in, uses_in_variable}
+use Rattle.f90_grammar.specs.Declared.{IsKnown, use90_of, uses90_in, uses90_in_variable}
 
 module _ (ds : List Declaration) where
   abbrev mutual
@@ -21,9 +22,9 @@ module _ (ds : List Declaration) where
     pub KnowsNames : Expression → Type 0
     KnowsNames (Number n) = Unit {0}
     KnowsNames (Logic b) = Unit {0}
-    KnowsNames (Named x no_subscripts) = IsKnown ds (use_of x 0)
+    KnowsNames (Named x no_subscripts) = IsKnown ds (use90_of x 0)
     KnowsNames (Named x (subscript p ps)) =
-        (IsSome (function_by ds x) ⊎ IsKnown ds (use_of x (number_of_subscripts (subscript p ps))))
+        (IsSome (function_by ds x) ⊎ IsKnown ds (use90_of x (number_of_subscripts (subscript p ps))))
         × KnowsSubscripts (subscript p ps)
     KnowsNames (Unary o a) = KnowsNames a
     KnowsNames (Binary o a b) = KnowsNames a × KnowsNames b
@@ -49,11 +50,11 @@ module _ (ds : List Declaration) where
     -- the variables of loops too
     pub KnowsLoops : Loops → Type 0
     KnowsLoops no_loops = Unit {0}
-    KnowsLoops (loop x a b ls) = IsKnown ds (use_of x 0) × KnowsNames a × KnowsNames b × KnowsLoops ls
+    KnowsLoops (loop x a b ls) = IsKnown ds (use90_of x 0) × KnowsNames a × KnowsNames b × KnowsLoops ls
 
   -- what is stored into is never a function
   abbrev pub KnowsReference : Reference → Type 0
-  KnowsReference r = IsKnown ds (use_of r.name (number_of_subscripts r.subscripts)) × KnowsSubscripts r.subscripts
+  KnowsReference r = IsKnown ds (use90_of r.name (number_of_subscripts r.subscripts)) × KnowsSubscripts r.subscripts
 
   -- what is read into is a reference
   abbrev pub KnowsSingle : Direction → Expression → Type 0
@@ -77,31 +78,31 @@ module _ (ds : List Declaration) where
 -- ---- the names of a tree are those of the phrase that it is the tree of
 
 abbrev pub TreeKnowsNames : Type 0
-TreeKnowsNames = (ds : List Declaration) (p : Phrase) → SuitsCalls (function_by ds) p
-    → AllByRecursion (IsKnown ds) (uses_in (function_by ds) p) ↔ KnowsNames ds (tree_of (function_by ds) p)
+TreeKnowsNames = (ds : List Declaration) (p : Phrase90) → SuitsCalls (function_by ds) p
+    → AllByRecursion (IsKnown ds) (uses90_in (function_by ds) p) ↔ KnowsNames ds (tree_of (function_by ds) p)
 
 abbrev pub TreesKnowNames : Type 0
-TreesKnowNames = (ds : List Declaration) (ps : List Phrase) → AllByRecursion (SuitsCalls (function_by ds)) ps
-    → AllByRecursion (IsKnown ds) (flat_map (uses_in (function_by ds)) ps)
-    ↔ KnowsAll ds (expressions (trees (tree_of (function_by ds)) ps))
+TreesKnowNames = (ds : List Declaration) (ps : List Phrase90) → AllByRecursion (SuitsCalls (function_by ds)) ps
+    → AllByRecursion (IsKnown ds) (flat_map (uses90_in (function_by ds)) ps)
+    ↔ KnowsAll ds (expressions (trees_by (tree_of (function_by ds)) ps))
 
 -- where no declared name is empty
 abbrev pub ReferenceKnowsNames : Type 0
-ReferenceKnowsNames = (ds : List Declaration) (p : Phrase) → declared ds [] ≡ None → IsReference p
+ReferenceKnowsNames = (ds : List Declaration) (p : Phrase90) → declared ds [] ≡ None → IsReference90 p
     → VariableSuitsCalls (function_by ds) p
-    → AllByRecursion (IsKnown ds) (uses_in_variable (function_by ds) p)
+    → AllByRecursion (IsKnown ds) (uses90_in_variable (function_by ds) p)
     ↔ KnowsReference ds (reference_in (tree_of (function_by ds) p))
 
 abbrev pub OutputKnowsNames : Type 0
-OutputKnowsNames = (ds : List Declaration) (is : ItemPhrases)
+OutputKnowsNames = (ds : List Declaration) (is : ItemPhrases90)
     → AllByRecursion (SuitsCalls (function_by ds)) (items_expressions Output is)
-    → AllByRecursion (IsKnown ds) (flat_map (uses_in (function_by ds)) (items_expressions Output is))
-    ↔ KnowsItems ds Output (items (item_trees (function_by ds) is))
+    → AllByRecursion (IsKnown ds) (flat_map (uses90_in (function_by ds)) (items_expressions Output is))
+    ↔ KnowsItems ds Output (items (item_trees90 (function_by ds) is))
 
 abbrev pub InputKnowsNames : Type 0
-InputKnowsNames = (ds : List Declaration) (is : ItemPhrases) → AreItems Input is
+InputKnowsNames = (ds : List Declaration) (is : ItemPhrases90) → AreItems90 Input is
     → AllByRecursion (SuitsCalls (function_by ds)) (items_expressions Input is)
     → AllByRecursion (VariableSuitsCalls (function_by ds)) (items_variables is)
-    → AllByRecursion (IsKnown ds) (flat_map (uses_in (function_by ds)) (items_expressions Input is)
-    ++ flat_map (uses_in_variable (function_by ds)) (items_variables is))
-    ↔ KnowsItems ds Input (items (item_trees (function_by ds) is))
+    → AllByRecursion (IsKnown ds) (flat_map (uses90_in (function_by ds)) (items_expressions Input is)
+    ++ flat_map (uses90_in_variable (function_by ds)) (items_variables is))
+    ↔ KnowsItems ds Input (items (item_trees90 (function_by ds) is))

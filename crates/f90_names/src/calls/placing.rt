@@ -4,7 +4,7 @@ ghost use Rattle.std.specs.Str.Lines.{lines};
 ghost use Rattle.tree.specs.declared.refusals.Refusal.{Refusal};
 ghost use Rattle.reading.specs.refusal_order.Answered.{IsAnswered};
 ghost use Rattle.f90_grammar.specs.FreeForm.{FreeStatement, AreStatements};
-ghost use Rattle.f90_grammar.specs.Refusals.{HasNoForm};
+ghost use Rattle.f90_grammar.specs.Refusals.{HasNoForm90};
 ghost use Rattle.f90_lines.specs.Views.{statements_seen};
 ghost use Rattle.f90_statement.specs.Views.{AreOf};
 ghost use Rattle.f90_blocks.specs.places.forms.Forms.{IsFormIn};
@@ -54,13 +54,13 @@ fn first_formless(
 pub fn placed(alloc: Global, statements: &[Written]) -> Result<Seq<Placed>, Refused>
     ensures ok { IfOk result (λ text. HaveSuitedForms (statements_seen statements.now) text) }
     ensures unrefused { IfOk result (λ text. (s : FreeStatement) → Contains (statements_seen statements.now) s
-        → HasNoForm (statements_seen statements.now) s → ⊥) }
+        → HasNoForm90 (statements_seen statements.now) s → ⊥) }
     ensures refused { (text : List ℕ) (r : Refusal) → AreStatements 1 (lines text) (statements_seen statements.now)
         → result ≡ Err (Refused.Refusal r) → IsAnswered (IsFormless (statements_seen statements.now)) r }
 
     // Statements that have forms, or are refused, have no other answer, unless memory runs out.
     ensures only_placed { ((s : FreeStatement) → Contains (statements_seen statements.now) s
-        → HasNoForm (statements_seen statements.now) s → ⊥)
+        → HasNoForm90 (statements_seen statements.now) s → ⊥)
         → IsOkAnd result (λ text. HaveSuitedForms (statements_seen statements.now) text)
         ⊎ (result ≡ Err Refused.Memory) }
     ensures only_refused { (text : List ℕ) (r : Refusal)

@@ -2,9 +2,9 @@
 ghost use Rattle.std.specs.Prelude.{List, Option, ◌∷◌};
 ghost use Rattle.std.specs.List.{AllByRecursion};
 ghost use Rattle.f90_grammar.specs.Contents.{SuitsCallsIn, step_expressions};
-ghost use Rattle.f90_grammar.specs.Forms.{Form};
-ghost use Rattle.f90_grammar.specs.Items.{ItemPhrases};
-ghost use Rattle.f90_grammar.specs.Phrases.{Phrase, SuitsCalls};
+ghost use Rattle.f90_grammar.specs.Forms.{Form90};
+ghost use Rattle.f90_grammar.specs.Items.{ItemPhrases90};
+ghost use Rattle.f90_grammar.specs.Phrases.{Phrase90, SuitsCalls};
 ghost use Rattle.f90_expressions.specs.Reading.{IsMadeOf};
 ghost use Rattle.f90_statement.specs.items.parts.Bounds.{AreBoundsOf};
 ghost use Rattle.f90_statement.specs.items.Flat as flats;
@@ -27,7 +27,7 @@ fn all_suit(
     expressions: &[Expression],
     functions: &Functions,
 ) -> Result<bool, Memory>
-    ensures { (ps : List Phrase) → AreOf IsMadeOf expressions.now ps
+    ensures { (ps : List Phrase90) → AreOf IsMadeOf expressions.now ps
         → Tells result (AllByRecursion (SuitsCalls (function_in functions.now)) ps) }
 {
     for expression in expressions {
@@ -40,7 +40,7 @@ fn all_suit(
 
 // The parameters of a loop.
 fn bounds_suit(alloc: Global, bounds: &Bounds, functions: &Functions) -> Result<bool, Memory>
-    ensures { (a b : Phrase) (c : Option Phrase) → AreBoundsOf bounds.now a b c
+    ensures { (a b : Phrase90) (c : Option Phrase90) → AreBoundsOf bounds.now a b c
         → Tells result (AllByRecursion (SuitsCalls (function_in functions.now)) (a ∷ (b ∷ step_expressions c))) }
 {
     if !suits_calls(alloc, &bounds.first, functions)? {
@@ -63,7 +63,7 @@ fn value_suits(
     value: &Expression,
     functions: &Functions,
 ) -> Result<bool, Memory>
-    ensures { (p : Phrase) → IsMadeOf value.now p
+    ensures { (p : Phrase90) → IsMadeOf value.now p
         → Tells result (NodeSuits (function_in functions.now) direction (flats.Of p)) }
 {
     match direction {
@@ -112,7 +112,7 @@ fn list_suits(
     list: &ItemList,
     functions: &Functions,
 ) -> Result<bool, Memory>
-    ensures { (is : ItemPhrases) → IsListOf list.now is
+    ensures { (is : ItemPhrases90) → IsListOf list.now is
         → Tells result (ListSuits (function_in functions.now) direction is) }
 {
     nodes_suit(alloc, direction, list.nodes.as_slice(), functions)
@@ -126,7 +126,7 @@ fn assignment_suits(
     right: &Expression,
     functions: &Functions,
 ) -> Result<bool, Memory>
-    ensures { (l r : Phrase) → IsMadeOf left.now l → IsMadeOf right.now r
+    ensures { (l r : Phrase90) → IsMadeOf left.now l → IsMadeOf right.now r
         → Tells result (AssignmentSuits (function_in functions.now) l r) }
 {
     if !suits_calls(alloc, right, functions)? {
@@ -136,7 +136,7 @@ fn assignment_suits(
 }
 
 fn action_suits(alloc: Global, action: &Action, functions: &Functions) -> Result<bool, Memory>
-    ensures { (f : Form) → IsActionOf action.now f → Tells result (SuitsCallsIn (function_in functions.now) f) }
+    ensures { (f : Form90) → IsActionOf action.now f → Tells result (SuitsCallsIn (function_in functions.now) f) }
 {
     match action {
         Action::Assign(left, right) => assignment_suits(alloc, left, right, functions),
@@ -158,7 +158,7 @@ fn masked_suits(
     right: &Expression,
     functions: &Functions,
 ) -> Result<bool, Memory>
-    ensures { (m l r : Phrase) → IsMadeOf mask.now m → IsMadeOf left.now l → IsMadeOf right.now r
+    ensures { (m l r : Phrase90) → IsMadeOf mask.now m → IsMadeOf left.now l → IsMadeOf right.now r
         → Tells result (SuitsCalls (function_in functions.now) m × AssignmentSuits (function_in functions.now) l r) }
 {
     if !suits_calls(alloc, mask, functions)? {
@@ -174,7 +174,7 @@ fn test_suits(
     action: &Action,
     functions: &Functions,
 ) -> Result<bool, Memory>
-    ensures { (p : Phrase) (f : Form) → IsMadeOf condition.now p → IsActionOf action.now f
+    ensures { (p : Phrase90) (f : Form90) → IsMadeOf condition.now p → IsActionOf action.now f
         → Tells result (SuitsCalls (function_in functions.now) p × SuitsCallsIn (function_in functions.now) f) }
 {
     if !suits_calls(alloc, condition, functions)? {
@@ -189,7 +189,7 @@ pub(crate) fn statement_suits(
     statement: &Statement,
     functions: &Functions,
 ) -> Result<bool, Memory>
-    ensures { (f : Form) → IsStatementOf statement.now f → Tells result (SuitsCallsIn (function_in functions.now) f) }
+    ensures { (f : Form90) → IsStatementOf statement.now f → Tells result (SuitsCallsIn (function_in functions.now) f) }
 {
     match statement {
         Statement::Act(action) => action_suits(alloc, action, functions),

@@ -1,7 +1,7 @@
 //! The kind and the rank of an expression.
 ghost use Rattle.std.specs.Prelude.{◌≡◌, ◌≤◌, List, [], ◌∷◌, map, IfSome};
 ghost use Rattle.tree.specs.Plain.{expressions, subscripts, Declaration};
-ghost use Rattle.tree.specs.View.{expression_of, subscript_of, reference_of, loop_of, loops};
+ghost use Rattle.tree.specs.View.{expression_of, subscript_of, reference_of, loop_of, constructor_loops};
 ghost use Rattle.meaning.specs.Value.{named};
 ghost use Rattle.f90_names.specs.kinds.declarations.Names.{AreNamesOf, found};
 ghost use Rattle.f90_names.specs.kinds.Found as plain;
@@ -122,7 +122,7 @@ pub(crate) fn are_scalars(exprs: &Seq<Expr>, kind: Kind, names: &Names) -> bool
 #[cycle(kinds)]
 #[tactic(auto, using(tree::proofs::Equations::expression_equations, crate::proofs::kinds::Counts::counts))]
 fn is_loop(turn: &Turn, names: &Names) -> bool
-    ensures { result ≡ plain.are_loops (found names.now) (loops (loop_of turn.now ∷ [])) }
+    ensures { result ≡ plain.are_loops (found names.now) (constructor_loops (loop_of turn.now ∷ [])) }
 {
     let first = find_kind(&turn.first, names);
     suits_loop(names.find(turn.var), first, find_kind(&turn.last, names))
@@ -130,7 +130,7 @@ fn is_loop(turn: &Turn, names: &Names) -> bool
 
 #[cycle(kinds)]
 fn are_loops(turns: &Seq<Turn>, names: &Names) -> bool
-    ensures { result ≡ plain.are_loops (found names.now) (loops (map loop_of turns.now)) }
+    ensures { result ≡ plain.are_loops (found names.now) (constructor_loops (map loop_of turns.now)) }
 {
     for turn in turns.as_slice() {
         if !is_loop(turn, names) {

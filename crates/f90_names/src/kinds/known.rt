@@ -1,9 +1,9 @@
 //! Whether the names in expressions and statements are declared (ISO/IEC 1539:1991, sections 5 and 6.2).
 ghost use Rattle.std.specs.Prelude.{◌≡◌, ◌↔◌, List, [], ◌∷◌, IsTrue, map};
 ghost use Rattle.tree.specs.Plain.{expressions, subscripts, items, Declaration};
-ghost use Rattle.tree.specs.View.{expression_of, subscript_of, reference_of, loop_of, loops, item_of};
+ghost use Rattle.tree.specs.View.{expression_of, subscript_of, reference_of, loop_of, constructor_loops, item_of};
 ghost use Rattle.tree.specs.declared.exprs.Expr.TheVariants as exprs;
-ghost use Rattle.f90_grammar.specs.Declared.{IsKnown, use_of};
+ghost use Rattle.f90_grammar.specs.Declared.{IsKnown, use90_of};
 ghost use Rattle.f90_grammar.specs.Items.{Input, Output};
 ghost use Rattle.f90_names.specs.kinds.declarations.Names.{AreNamesOf, found};
 ghost use Rattle.f90_names.specs.kinds.Directions.{direction_of};
@@ -11,7 +11,7 @@ ghost use Rattle.f90_names.specs.kinds.FoundNames as plain;
 ghost use Rattle.f90_names.specs.kinds.Known.{KnowsNames, KnowsAll, KnowsReference, KnowsItems};
 
 use crate::kinds::declarations::Names;
-use crate::kinds::statements::Way;
+use crate::kinds::statements::Transfer;
 use tree::{Expr, Intrinsic, Item, Name, Ref, Seq, Sub, Turn};
 
 /// Whether the names in the expression are declared, and have as many subscripts as dimensions or none.
@@ -40,7 +40,7 @@ pub fn reference_knows_names(reference: &Ref, names: &Names) -> bool
 
 /// Whether the name is declared.
 pub fn is_declared(name: Name, names: &Names) -> bool
-    ensures { (ds : List Declaration) → AreNamesOf names.now ds → IsTrue result ↔ IsKnown ds (use_of name 0) }
+    ensures { (ds : List Declaration) → AreNamesOf names.now ds → IsTrue result ↔ IsKnown ds (use90_of name 0) }
 {
     is_known(name, 0, names)
 }
@@ -50,7 +50,7 @@ pub fn input_knows_names(list: &Seq<Item>, names: &Names) -> bool
     ensures { (ds : List Declaration) → AreNamesOf names.now ds → IsTrue result
         ↔ KnowsItems ds Input (items (map item_of list.now)) }
 {
-    knows_items(list, Way::In, names)
+    knows_items(list, Transfer::In, names)
 }
 
 /// Whether the names in the list of PRINT are known, but for the variables of implied DO lists.
@@ -58,7 +58,7 @@ pub fn output_knows_names(list: &Seq<Item>, names: &Names) -> bool
     ensures { (ds : List Declaration) → AreNamesOf names.now ds → IsTrue result
         ↔ KnowsItems ds Output (items (map item_of list.now)) }
 {
-    knows_items(list, Way::Out, names)
+    knows_items(list, Transfer::Out, names)
 }
 
 fn is_known(name: Name, subscripts: usize, names: &Names) -> bool
@@ -123,14 +123,14 @@ fn knows_all(exprs: &Seq<Expr>, names: &Names) -> bool
 #[cycle(names)]
 #[tactic(auto, using(tree::proofs::Equations::expression_equations, crate::proofs::kinds::Counts::counts))]
 fn knows_loop(turn: &Turn, names: &Names) -> bool
-    ensures { result ≡ plain.knows_loops (found names.now) (loops (loop_of turn.now ∷ [])) }
+    ensures { result ≡ plain.knows_loops (found names.now) (constructor_loops (loop_of turn.now ∷ [])) }
 {
     is_known(turn.var, 0, names) && knows(&turn.first, names) && knows(&turn.last, names)
 }
 
 #[cycle(names)]
 fn knows_loops(turns: &Seq<Turn>, names: &Names) -> bool
-    ensures { result ≡ plain.knows_loops (found names.now) (loops (map loop_of turns.now)) }
+    ensures { result ≡ plain.knows_loops (found names.now) (constructor_loops (map loop_of turns.now)) }
 {
     for turn in turns.as_slice() {
         if !knows_loop(turn, names) {
@@ -191,18 +191,18 @@ fn knows_input(expr: &Expr, names: &Names) -> bool
     }
 }
 
-fn knows_single(expr: &Expr, way: Way, names: &Names) -> bool
+fn knows_single(expr: &Expr, way: Transfer, names: &Names) -> bool
     ensures { result ≡ plain.knows_single (found names.now) (direction_of way) (expression_of expr.now) }
 {
     match way {
-        Way::Out => knows(expr, names),
-        Way::In => knows_input(expr, names),
+        Transfer::Out => knows(expr, names),
+        Transfer::In => knows_input(expr, names),
     }
 }
 
 #[cycle(listed)]
 #[tactic(auto, using(tree::proofs::Equations::item_equations))]
-fn knows_item(item: &Item, way: Way, names: &Names) -> bool
+fn knows_item(item: &Item, way: Transfer, names: &Names) -> bool
     ensures { result ≡ plain.knows_item (found names.now) (direction_of way) (item_of item.now) }
 {
     match item {
@@ -218,7 +218,7 @@ fn knows_item(item: &Item, way: Way, names: &Names) -> bool
 }
 
 #[cycle(listed)]
-fn knows_items(list: &Seq<Item>, way: Way, names: &Names) -> bool
+fn knows_items(list: &Seq<Item>, way: Transfer, names: &Names) -> bool
     ensures { result ≡ plain.knows_items (found names.now) (direction_of way) (items (map item_of list.now)) }
 {
     for item in list.as_slice() {

@@ -20,7 +20,7 @@ use tree::{Expr, Item, Kind, Name, Ref, Seq};
 
 /// The list of READ, or that of PRINT.
 #[derive(Clone, Copy, Debug)]
-pub(crate) enum Way {
+pub(crate) enum Transfer {
     In,
     Out,
 }
@@ -74,12 +74,12 @@ pub fn is_condition(expr: &Expr, names: &Names) -> bool
 }
 
 #[tactic(auto, using(tree::proofs::Equations::expression_equations, crate::proofs::kinds::Counts::counts))]
-fn suits_alone(expr: &Expr, way: Way, names: &Names) -> bool
+fn suits_alone(expr: &Expr, way: Transfer, names: &Names) -> bool
     ensures { result ≡ plain.suits_alone (found names.now) (direction_of way) (expression_of expr.now) }
 {
     match way {
-        Way::Out => find_kind(expr, names).is_some(),
-        Way::In => is_input(expr, names),
+        Transfer::Out => find_kind(expr, names).is_some(),
+        Transfer::In => is_input(expr, names),
     }
 }
 
@@ -105,7 +105,7 @@ fn is_input(expr: &Expr, names: &Names) -> bool
 
 #[cycle(items)]
 #[tactic(auto, using(tree::proofs::Equations::item_equations))]
-fn suits_item(item: &Item, way: Way, names: &Names) -> bool
+fn suits_item(item: &Item, way: Transfer, names: &Names) -> bool
     ensures { result ≡ plain.suits_item (found names.now) (direction_of way) (item_of item.now) }
 {
     match item {
@@ -118,7 +118,7 @@ fn suits_item(item: &Item, way: Way, names: &Names) -> bool
 }
 
 #[cycle(items)]
-fn suits_items(list: &Seq<Item>, way: Way, names: &Names) -> bool
+fn suits_items(list: &Seq<Item>, way: Transfer, names: &Names) -> bool
     ensures { result ≡ plain.suits_items (found names.now) (direction_of way) (items (map item_of list.now)) }
 {
     for item in list.as_slice() {
@@ -134,7 +134,7 @@ pub fn suits_input(list: &Seq<Item>, names: &Names) -> bool
     ensures { (ds : List Declaration) → AreNamesOf names.now ds → IsTrue result
         ↔ SuitsItems ds Input (items (map item_of list.now)) }
 {
-    suits_items(list, Way::In, names)
+    suits_items(list, Transfer::In, names)
 }
 
 /// Whether the list of PRINT suits (ISO/IEC 1539:1991, section 9.4.2).
@@ -142,7 +142,7 @@ pub fn suits_output(list: &Seq<Item>, names: &Names) -> bool
     ensures { (ds : List Declaration) → AreNamesOf names.now ds → IsTrue result
         ↔ SuitsItems ds Output (items (map item_of list.now)) }
 {
-    suits_items(list, Way::Out, names)
+    suits_items(list, Transfer::Out, names)
 }
 
 #[tactic(auto, using(crate::proofs::kinds::Counts::counts))]

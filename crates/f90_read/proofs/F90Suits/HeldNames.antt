@@ -4,7 +4,7 @@ use Rattle.tree.specs.Plain as tree
 use Rattle.tree.specs.Plain.{Expression, Expressions, Subscript, Subscripts, Loops, Reference, Item, Items}
 use Rattle.tree.specs.Plain.{Statement, Declaration}
 use Rattle.meaning.specs.Typed.{number_of_subscripts}
-use Rattle.f90_grammar.specs.Declared.{IsKnown, use_of}
+use Rattle.f90_grammar.specs.Declared.{IsKnown, use90_of}
 use Rattle.f90_grammar.specs.Items.{Direction, Input, Output}
 use Rattle.f90_grammar.specs.Reading.{function_by}
 use Rattle.f90_names.specs.kinds.Known.{KnowsNames, KnowsAll, KnowsSubscripts, KnowsSubscript, KnowsLoops, KnowsReference}
@@ -33,14 +33,14 @@ counted tree.no_subscripts = refl
 counted (tree.subscript s ss) = ap (λ (n : ℕ). 1 + n) (counted ss)
 
 module _ (ds : List Declaration) where
-  named : (x : List ℕ) (m n : ℕ) → m ≡ n → (IsKnown ds (use_of x m) ↔ IsKnown ds (use_of x n))
-  named x m n e = subst (λ k. IsKnown ds (use_of x m) ↔ IsKnown ds (use_of x k)) e same
+  named : (x : List ℕ) (m n : ℕ) → m ≡ n → (IsKnown ds (use90_of x m) ↔ IsKnown ds (use90_of x n))
+  named x m n e = subst (λ k. IsKnown ds (use90_of x m) ↔ IsKnown ds (use90_of x k)) e same
 
   called : (x : List ℕ) (m n : ℕ) → m ≡ n
-      → ((IsSome (function_by ds x) ⊎ IsKnown ds (use_of x m)) ↔
-      (IsSome (function_by ds x) ⊎ IsKnown ds (use_of x n)))
-  called x m n e = subst (λ k. (IsSome (function_by ds x) ⊎ IsKnown ds (use_of x m)) ↔
-      (IsSome (function_by ds x) ⊎ IsKnown ds (use_of x k))) e same
+      → ((IsSome (function_by ds x) ⊎ IsKnown ds (use90_of x m)) ↔
+      (IsSome (function_by ds x) ⊎ IsKnown ds (use90_of x n)))
+  called x m n e = subst (λ k. (IsSome (function_by ds x) ⊎ IsKnown ds (use90_of x m)) ↔
+      (IsSome (function_by ds x) ⊎ IsKnown ds (use90_of x k))) e same
 
   mutual
     pub held_known : (e : Expression) → (KnowsNames ds (held e) ↔ KnowsNames ds e)

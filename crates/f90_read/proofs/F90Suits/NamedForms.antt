@@ -10,19 +10,20 @@ use Rattle.tree.specs.declared.stmts.Stmt.{Stmt}
 use Rattle.meaning.specs.Typed.{declared}
 use Rattle.meaning.proofs.CellFrame.{first_part, second_part}
 use Rattle.meaning.proofs.Columns.{join}
-use Rattle.f90_grammar.specs.Blocks.{Placed, IsSimple, reference_in, at, trees}
+use Rattle.f90_grammar.specs.Blocks.{Placed, IsSimple, placed_form, trees_by}
+use Rattle.reading.specs.Signs.{reference_in}
 use Rattle.f90_grammar.specs.Blocks.IsSimple.{assigns, masks, goes, stops, reads, reads_nothing, prints}
 use Rattle.f90_grammar.specs.Blocks.IsSimple.{prints_nothing, allocates, deallocates}
-use Rattle.f90_grammar.specs.Contents.{expressions_of, variables_of, step_expressions, SuitsCallsIn}
+use Rattle.f90_grammar.specs.Contents.{expressions_of, stored_variables_of, step_expressions, SuitsCallsIn}
 use Rattle.f90_grammar.specs.Contents.{VariableSuitsCalls}
-use Rattle.f90_grammar.specs.Declared.{Use, IsKnown, use_of, uses_in, uses_in_variable, array_use, HasKnownNames}
+use Rattle.f90_grammar.specs.Declared.{Use90, IsKnown, use90_of, uses90_in, uses90_in_variable, array_use, HasKnownNames}
 use Rattle.f90_grammar.specs.Forms as forms
-use Rattle.f90_grammar.specs.Forms.{Form, IsWritten, IsInner}
-use Rattle.f90_grammar.specs.Items.{IsReference, step_tree}
-use Rattle.f90_grammar.specs.Order.{is_executable}
-use Rattle.f90_grammar.specs.Phrases.{Phrase, SuitsCalls, tree_of}
+use Rattle.f90_grammar.specs.Forms.{Form90, IsWritten90, IsInner90}
+use Rattle.f90_grammar.specs.Items.{IsReference90, step_tree90}
+use Rattle.f90_grammar.specs.Order.{is_executable90}
+use Rattle.f90_grammar.specs.Phrases.{Phrase90, SuitsCalls, tree_of}
 use Rattle.f90_grammar.specs.Reading.{function_by}
-use Rattle.f90_grammar.specs.Words.{Word}
+use Rattle.f90_grammar.specs.Words.{Word90}
 use Rattle.f90_names.specs.kinds.Known.{KnowsNames, KnowsAll, KnowsReference}
 use Rattle.f90_names.proofs.kinds.KnownLaws.{trees_know_names, reference_knows_names, output_knows_names, input_knows_names}
 use Rattle.f90_trees.specs.Building.{held}
@@ -51,54 +52,54 @@ stores true h = refl
 stores false h = absurd cc
 
 -- a statement that has the form f, and whose calls suit
-pub record IsFormed (ds : List Declaration) (f : Form) : Type 0 where
-  pub written : (ws : List Word) × IsWritten f ws
+pub record IsFormed (ds : List Declaration) (f : Form90) : Type 0 where
+  pub written : (ws : List Word90) × IsWritten90 f ws
   pub calls : SuitsCallsIn (function_by ds) f
 
 module _ (ds : List Declaration) where
-  abbrev AllKnown : List Use → Type 0
+  abbrev AllKnown : List Use90 → Type 0
   AllKnown us = AllByRecursion (IsKnown ds) us
 
-  abbrev tree_by : Phrase → Expression
+  abbrev tree_by : Phrase90 → Expression
   tree_by p = tree_of (function_by ds) p
 
-  abbrev expression_uses : List Phrase → List Use
-  expression_uses ps = flat_map (uses_in (function_by ds)) ps
+  abbrev expression_uses : List Phrase90 → List Use90
+  expression_uses ps = flat_map (uses90_in (function_by ds)) ps
 
-  abbrev variable_uses : List Phrase → List Use
-  variable_uses ps = flat_map (uses_in_variable (function_by ds)) ps
+  abbrev variable_uses : List Phrase90 → List Use90
+  variable_uses ps = flat_map (uses90_in_variable (function_by ds)) ps
 
-  abbrev AllTreesKnown : List Phrase → Type 0
-  AllTreesKnown ps = KnowsAll ds (tree.expressions (trees tree_by ps))
+  abbrev AllTreesKnown : List Phrase90 → Type 0
+  AllTreesKnown ps = KnowsAll ds (tree.expressions (trees_by tree_by ps))
 
-  split : (us vs : List Use) → (AllKnown (us ++ vs) ↔ (AllKnown us × AllKnown vs))
+  split : (us vs : List Use90) → (AllKnown (us ++ vs) ↔ (AllKnown us × AllKnown vs))
   split us vs = (
     λ h. (first_part (IsKnown ds) us vs h, second_part (IsKnown ds) us vs h),
     λ h. join
         (IsKnown ds) us vs h.0 h.1,
   )
 
-  parts : (us vs ws : List Use) → (AllKnown (us ++ (vs ++ ws)) ↔ (AllKnown us × AllKnown vs × AllKnown ws))
+  parts : (us vs ws : List Use90) → (AllKnown (us ++ (vs ++ ws)) ↔ (AllKnown us × AllKnown vs × AllKnown ws))
   parts us vs ws = (
     λ h. let k = (split us (vs ++ ws)).0 h in let j = (split vs ws).0 k.1 in (k.0, j.0, j.1),
     λ h. (split us (vs ++ ws)).1 (h.0, (split vs ws).1 (h.1, h.2)),
   )
 
   -- with the trees of its expressions
-  uses : (f : Form) → SuitsCallsIn (function_by ds) f
+  uses : (f : Form90) → SuitsCallsIn (function_by ds) f
       → (HasKnownNames ds f ↔ (AllKnown (array_use (function_by ds) f) × AllTreesKnown (expressions_of f) × AllKnown
-      (variable_uses (variables_of f))))
+      (variable_uses (stored_variables_of f))))
   uses f c =
       through (parts (array_use (function_by ds) f) (expression_uses (expressions_of f))
-      (variable_uses (variables_of f)))
+      (variable_uses (stored_variables_of f)))
       (three same (trees_know_names ds (expressions_of f) c.0) same)
 
-  one_variable : (l : Phrase) → declared ds [] ≡ None → IsReference l → VariableSuitsCalls (function_by ds) l
+  one_variable : (l : Phrase90) → declared ds [] ≡ None → IsReference90 l → VariableSuitsCalls (function_by ds) l
       → (AllKnown (variable_uses (l ∷ [])) ↔ KnowsReference ds (reference_in (tree_by l)))
   one_variable l e r c =
       let k = reference_knows_names ds l e r c in (
-        λ h. k.0 ((split (uses_in_variable (function_by ds) l) []).0 h).0,
-        λ h. (split (uses_in_variable (function_by ds) l) []).1 (k.1 h, tt),
+        λ h. k.0 ((split (uses90_in_variable (function_by ds) l) []).0 h).0,
+        λ h. (split (uses90_in_variable (function_by ds) l) []).1 (k.1 h, tt),
       )
 
   -- ---- statements without others in them
@@ -131,15 +132,15 @@ module _ (ds : List Declaration) where
 
   -- ---- trees
 
-  no_array : (f : Form) → IsInner f → AllKnown (array_use (function_by ds) f)
+  no_array : (f : Form90) → IsInner90 f → AllKnown (array_use (function_by ds) f)
   no_array (forms.Allocate x es) i = absurd i
   no_array (forms.Deallocate x) i = absurd i
   no_array f i = tt
 
-  inner : (q : Phrase) (f : Form) → IsFormed ds (forms.Test q f) → IsFormed ds f
+  inner : (q : Phrase90) (f : Form90) → IsFormed ds (forms.Test q f) → IsFormed ds f
   inner q f k = record { written = (k.written.1.0, k.written.1.3); calls = (k.calls.0.1, k.calls.1) }
 
-  tested : (q : Phrase) (f : Form) → IsFormed ds (forms.Test q f)
+  tested : (q : Phrase90) (f : Form90) → IsFormed ds (forms.Test q f)
       → ((KnowsNames ds (tree_by q) × HasKnownNames ds f) ↔ HasKnownNames ds (forms.Test q f))
   tested q f k =
       let u = uses (forms.Test q f) k.calls in
@@ -148,18 +149,18 @@ module _ (ds : List Declaration) where
         λ h. let j = u.0 h in (j.1.0, v.1 (no_array f k.written.1.4, j.1.1, j.2)),
       )
 
-  one_tree : (f : Form) (p : Phrase) → array_use (function_by ds) f ≡ [] → expressions_of f ≡ p ∷ []
-      → variables_of f ≡ [] → IsFormed ds f
+  one_tree : (f : Form90) (p : Phrase90) → array_use (function_by ds) f ≡ [] → expressions_of f ≡ p ∷ []
+      → stored_variables_of f ≡ [] → IsFormed ds f
       → (KnowsNames ds (tree_by p) ↔ HasKnownNames ds f)
   one_tree f p a e v k =
       let u = uses f k.calls in (
         λ h. u.1 (
-          subst (λ (us : List Use). AllKnown us) (sym a) tt,
-          subst (λ (ps : List Phrase). AllTreesKnown ps)
+          subst (λ (us : List Use90). AllKnown us) (sym a) tt,
+          subst (λ (ps : List Phrase90). AllTreesKnown ps)
               (sym e) (h, tt),
-          subst (λ (ps : List Phrase). AllKnown (variable_uses ps)) (sym v) tt,
+          subst (λ (ps : List Phrase90). AllKnown (variable_uses ps)) (sym v) tt,
         ),
-        λ h. (subst (λ (ps : List Phrase). AllTreesKnown ps) e (u.0 h).1).0,
+        λ h. (subst (λ (ps : List Phrase90). AllTreesKnown ps) e (u.0 h).1).0,
       )
 
   stmt_known : (p : Placed) (s : Stmt) → IsHeldStmtOf (function_by ds) p s → declared ds [] ≡ None
@@ -169,8 +170,8 @@ module _ (ds : List Declaration) where
       subst (λ (c : Statement). KnowsStatement ds c ↔ HasKnownNames ds p.form) (sym h.same)
       (through (statement_known ds h.statement) (simple_known p h.statement h.is e k))
 
-  empty_known : (f : Form) → f ≡ forms.Continue [] → (Unit {0} ↔ HasKnownNames ds f)
-  empty_known f e = subst (λ (g : Form). Unit {0} ↔ HasKnownNames ds g) (sym e) same
+  empty_known : (f : Form90) → f ≡ forms.Continue [] → (Unit {0} ↔ HasKnownNames ds f)
+  empty_known f e = subst (λ (g : Form90). Unit {0} ↔ HasKnownNames ds g) (sym e) same
 
   done_known : (p : Placed) (s : Option Stmt) → IsHeldDone (function_by ds) p s → declared ds [] ≡ None
       → IsFormed ds p.form
@@ -178,18 +179,18 @@ module _ (ds : List Declaration) where
   done_known p (Some s) h e k = stmt_known p s h e k
   done_known p None h e k = empty_known p.form h
 
-  tree_known : (x : Expression) (q : Phrase) → x ≡ held (tree_by q) → (KnowsNames ds x ↔ KnowsNames ds (tree_by q))
+  tree_known : (x : Expression) (q : Phrase90) → x ≡ held (tree_by q) → (KnowsNames ds x ↔ KnowsNames ds (tree_by q))
   tree_known x q e = subst (λ (y : Expression). KnowsNames ds y ↔ KnowsNames ds (tree_by q)) (sym e)
       (held_known ds (tree_by q))
 
-  step_known : (x : Expression) (s : Option Phrase) → x ≡ held (step_tree (function_by ds) s)
+  step_known : (x : Expression) (s : Option Phrase90) → x ≡ held (step_tree90 (function_by ds) s)
       → (KnowsNames ds x ↔ AllTreesKnown (step_expressions s))
   step_known x None e = subst (λ (y : Expression). KnowsNames ds y ↔ Unit {0}) (sym e) same
   step_known x (Some q) e = let k = tree_known x q e in (λ h. (k.0 h, tt), λ h. k.1 h.0)
 
-  loop_known : (x : List ℕ) (a b c : Expression) (q r : Phrase) (s : Option Phrase) → IsFormed ds (forms.Do x q r s)
+  loop_known : (x : List ℕ) (a b c : Expression) (q r : Phrase90) (s : Option Phrase90) → IsFormed ds (forms.Do x q r s)
       → a ≡ held (tree_by q) → b ≡ held (tree_by r)
-      → c ≡ held (step_tree (function_by ds) s)
+      → c ≡ held (step_tree90 (function_by ds) s)
       → ((KnowsNames ds a × KnowsNames ds b × KnowsNames ds c) ↔ HasKnownNames ds (forms.Do x q r s))
   loop_known x a b c q r s k e g h =
       let u = uses (forms.Do x q r s) k.calls in
@@ -199,10 +200,10 @@ module _ (ds : List Declaration) where
       (λ j. u.1 (tt, (v.0 j.0, (w.0 j.1, z.0 j.2)), tt), λ j. let i = (u.0 j).1 in (v.1 i.0, w.1 i.1.0, z.1 i.1.1))
 
   -- as another form, which is the same
-  at_form : (A : Type 0) (f g : Form) → f ≡ g → IsFormed ds f → (IsFormed ds g → (A ↔ HasKnownNames ds g))
+  at_form : (A : Type 0) (f g : Form90) → f ≡ g → IsFormed ds f → (IsFormed ds g → (A ↔ HasKnownNames ds g))
       → (A ↔ HasKnownNames ds f)
-  at_form A f g e k h = subst (λ (i : Form). A ↔ HasKnownNames ds i) (sym e)
-      (h (subst (λ (i : Form). IsFormed ds i) e k))
+  at_form A f g e k h = subst (λ (i : Form90). A ↔ HasKnownNames ds i) (sym e)
+      (h (subst (λ (i : Form90). IsFormed ds i) e k))
 
   form_of : (p q : Placed) → p ≡ q → p.form ≡ q.form
   form_of p q e = ap (λ (x : Placed). x.form) e
@@ -214,7 +215,7 @@ module _ (ds : List Declaration) where
   known_by_tree p (Test x s) h e k =
       at_form _ p.form (forms.Test h.0 h.1) h.2 k
       (λ j. through (pair (tree_known (expression_of x) h.0 h.3)
-      (done_known (at p.line p.mark h.1) s h.4 e (inner h.0 h.1 j))) (tested h.0 h.1 j))
+      (done_known (placed_form p.line p.mark h.1) s h.4 e (inner h.0 h.1 j))) (tested h.0 h.1 j))
   known_by_tree p (If x) h e k =
       at_form _ p.form (forms.If h.0) (form_of _ _ h.1) k
       (λ j. through (tree_known (expression_of x) h.0 h.2) (one_tree (forms.If h.0) h.0 refl refl refl j))
@@ -233,7 +234,7 @@ module _ (ds : List Declaration) where
 
   -- ---- without a tree
 
-  idle_known : (f : Form) → is_executable f ≡ false → HasKnownNames ds f
+  idle_known : (f : Form90) → is_executable90 f ≡ false → HasKnownNames ds f
   idle_known (forms.Program x) h = tt
   idle_known forms.ImplicitNone h = tt
   idle_known (forms.Declare k a es) h = tt
@@ -241,7 +242,7 @@ module _ (ds : List Declaration) where
   idle_known (forms.EndProgram x) h = tt
   idle_known f h = absurd cc
 
-  left_unknown : (l : Phrase) → declared ds [] ≡ None → IsReference l → VariableSuitsCalls (function_by ds) l
+  left_unknown : (l : Phrase90) → declared ds [] ≡ None → IsReference90 l → VariableSuitsCalls (function_by ds) l
       → is_call (function_by ds) l ≡ true
       → AllKnown (variable_uses (l ∷ [])) → ⊥
   left_unknown l e r c n h =
@@ -249,7 +250,7 @@ module _ (ds : List Declaration) where
       ((one_variable l e r c).0 h) in
       nothing (declared ds []) _ e k.0
 
-  call_unknown : (f : Form) → declared ds [] ≡ None → IsFormed ds f → stores_into_call (function_by ds) f ≡ true
+  call_unknown : (f : Form90) → declared ds [] ≡ None → IsFormed ds f → stores_into_call (function_by ds) f ≡ true
       → HasKnownNames ds f → ⊥
   call_unknown (forms.Assign l r) e k n h = left_unknown l e k.written.1.1 k.calls.1.0 n
       ((uses (forms.Assign l r) k.calls).0 h).2
@@ -258,11 +259,11 @@ module _ (ds : List Declaration) where
   call_unknown (forms.Test q f) e k n h = call_unknown f e (inner q f k) n ((tested q f k).1 h).1
   call_unknown f e k n h = absurd cc
 
-  pub known_without_tree : (f : Form) → declared ds [] ≡ None → IsFormed ds f → has_tree (function_by ds) f ≡ false
-      → Decides (not (is_executable f)) (HasKnownNames ds f)
-  known_without_tree f e k h = by (is_executable f) refl
+  pub known_without_tree : (f : Form90) → declared ds [] ≡ None → IsFormed ds f → has_tree (function_by ds) f ≡ false
+      → Decides (not (is_executable90 f)) (HasKnownNames ds f)
+  known_without_tree f e k h = by (is_executable90 f) refl
     where
-      by : (b : Bool) → is_executable f ≡ b → Decides (not b) (HasKnownNames ds f)
+      by : (b : Bool) → is_executable90 f ≡ b → Decides (not b) (HasKnownNames ds f)
       by true i = (
         λ j. absurd (cc),
         λ j. absurd

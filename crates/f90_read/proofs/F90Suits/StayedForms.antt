@@ -16,19 +16,20 @@ use Rattle.meaning.specs.Typed.{declared}
 use Rattle.meaning.specs.Typed90.{HasKind, IsScalar, AreScalars, HasSomeKind}
 use Rattle.meaning.proofs.CellFrame.{first_part, second_part}
 use Rattle.meaning.proofs.Columns.{join}
-use Rattle.f90_grammar.specs.Blocks.{Placed, IsSimple, reference_in, trees}
+use Rattle.f90_grammar.specs.Blocks.{Placed, IsSimple, trees_by}
+use Rattle.reading.specs.Signs.{reference_in}
 use Rattle.f90_grammar.specs.Blocks.IsSimple.{assigns, masks, goes, stops, reads, reads_nothing, prints}
 use Rattle.f90_grammar.specs.Blocks.IsSimple.{prints_nothing, allocates, deallocates}
-use Rattle.f90_grammar.specs.Contents.{expressions_of, variables_of, step_expressions, item_expressions}
-use Rattle.f90_grammar.specs.Contents.{items_expressions, item_variables, items_variables, has_wide_literal}
+use Rattle.f90_grammar.specs.Contents.{expressions_of, stored_variables_of, step_expressions, item_expressions}
+use Rattle.f90_grammar.specs.Contents.{items_expressions, item_variables, items_variables, has_wide_literal90}
 use Rattle.f90_grammar.specs.Contents.{has_wide_literal_in}
 use Rattle.f90_grammar.specs.Contents.{is_declared_wide}
 use Rattle.f90_grammar.specs.Forms as forms
-use Rattle.f90_grammar.specs.Forms.{Form}
+use Rattle.f90_grammar.specs.Forms.{Form90}
 use Rattle.f90_grammar.specs.Items as itemised
-use Rattle.f90_grammar.specs.Items.{Direction, Input, Output, ItemPhrase, ItemPhrases, item_tree, item_trees}
-use Rattle.f90_grammar.specs.Items.{step_tree}
-use Rattle.f90_grammar.specs.Phrases.{Phrase, tree_of}
+use Rattle.f90_grammar.specs.Items.{Direction, Input, Output, ItemPhrase90, ItemPhrases90, item_tree90, item_trees90}
+use Rattle.f90_grammar.specs.Items.{step_tree90}
+use Rattle.f90_grammar.specs.Phrases.{Phrase90, tree_of}
 use Rattle.f90_grammar.specs.Reading.{function_by}
 use Rattle.f90_grammar.specs.Suited.{SuitsAssignment, SuitsMask, AreNumbers, SuitsList, SuitsItem, SuitsItems, Suits}
 use Rattle.f90_trees.specs.Building.{held, held_all}
@@ -71,32 +72,32 @@ IsNarrowStatement (tree.Allocate line x es) = AreNarrow es
 IsNarrowStatement s = Unit {0}
 
 module _ (function : List ℕ → Option Intrinsic) where
-  abbrev AreNarrowTrees : List Phrase → Type 0
-  AreNarrowTrees ps = AllByRecursion (λ (p : Phrase). IsNarrow (tree_of function p)) ps
+  abbrev AreNarrowTrees : List Phrase90 → Type 0
+  AreNarrowTrees ps = AllByRecursion (λ (p : Phrase90). IsNarrow (tree_of function p)) ps
 
   -- the trees of its expressions have no literal that is too great
-  pub record IsNarrowForm (f : Form) : Type 0 where
+  pub record IsNarrowForm (f : Form90) : Type 0 where
     pub expressions : AreNarrowTrees (expressions_of f)
-    pub variables : AreNarrowTrees (variables_of f)
+    pub variables : AreNarrowTrees (stored_variables_of f)
 
-  none_wide : (ps : List Phrase) → list_any has_wide_literal ps ≡ false → AreNarrowTrees ps
+  none_wide : (ps : List Phrase90) → list_any has_wide_literal90 ps ≡ false → AreNarrowTrees ps
   none_wide [] h = tt
   none_wide (p ∷ ps) h = (literals_stay function p (left _ _ h), none_wide ps (right _ _ h))
 
-  pub narrow_form : (f : Form) → has_wide_literal_in f ≡ false → IsNarrowForm f
+  pub narrow_form : (f : Form90) → has_wide_literal_in f ≡ false → IsNarrowForm f
   narrow_form f h =
-      let n = none_wide (expressions_of f ++ variables_of f) (right (is_declared_wide f) _ h) in
+      let n = none_wide (expressions_of f ++ stored_variables_of f) (right (is_declared_wide f) _ h) in
       record {
-        expressions = first_part (λ (p : Phrase). IsNarrow (tree_of function p)) (expressions_of f)
-            (variables_of f) n;
-        variables = second_part (λ (p : Phrase). IsNarrow (tree_of function p)) (expressions_of f) (variables_of f) n;
+        expressions = first_part (λ (p : Phrase90). IsNarrow (tree_of function p)) (expressions_of f)
+            (stored_variables_of f) n;
+        variables = second_part (λ (p : Phrase90). IsNarrow (tree_of function p)) (expressions_of f) (stored_variables_of f) n;
       }
 
   narrow_reference : (e : Expression) → IsNarrow e → IsNarrow (named (reference_in e))
   narrow_reference (tree.Named x ss) h = h
   narrow_reference e h = tt
 
-  narrow_list : (ps : List Phrase) → AreNarrowTrees ps → AreNarrow (tree.expressions (trees (tree_of function) ps))
+  narrow_list : (ps : List Phrase90) → AreNarrowTrees ps → AreNarrow (tree.expressions (trees_by (tree_of function) ps))
   narrow_list [] h = tt
   narrow_list (p ∷ ps) h = (h.0, narrow_list ps h.1)
 
@@ -104,53 +105,53 @@ module _ (function : List ℕ → Option Intrinsic) where
   narrow_items_of [] h = tt
   narrow_items_of (i ∷ is) h = (h.0, narrow_items_of is h.1)
 
-  abbrev NarrowVariables : Direction → List Phrase → Type 0
+  abbrev NarrowVariables : Direction → List Phrase90 → Type 0
   NarrowVariables Output ps = Unit {0}
   NarrowVariables Input ps = AreNarrowTrees ps
 
-  narrow_single : (d : Direction) (p : Phrase) → AreNarrowTrees (item_expressions d (itemised.Of p))
+  narrow_single : (d : Direction) (p : Phrase90) → AreNarrowTrees (item_expressions d (itemised.Of p))
       → NarrowVariables d (p ∷ []) → IsNarrow (tree_of function p)
   narrow_single Output p h v = h.0
   narrow_single Input p h v = v.0
 
-  front_variables : (d : Direction) (ps qs : List Phrase) → NarrowVariables d (ps ++ qs) → NarrowVariables d ps
+  front_variables : (d : Direction) (ps qs : List Phrase90) → NarrowVariables d (ps ++ qs) → NarrowVariables d ps
   front_variables Output ps qs h = tt
-  front_variables Input ps qs h = first_part (λ (p : Phrase). IsNarrow (tree_of function p)) ps qs h
+  front_variables Input ps qs h = first_part (λ (p : Phrase90). IsNarrow (tree_of function p)) ps qs h
 
-  last_variables : (d : Direction) (ps qs : List Phrase) → NarrowVariables d (ps ++ qs) → NarrowVariables d qs
+  last_variables : (d : Direction) (ps qs : List Phrase90) → NarrowVariables d (ps ++ qs) → NarrowVariables d qs
   last_variables Output ps qs h = tt
-  last_variables Input ps qs h = second_part (λ (p : Phrase). IsNarrow (tree_of function p)) ps qs h
+  last_variables Input ps qs h = second_part (λ (p : Phrase90). IsNarrow (tree_of function p)) ps qs h
 
-  pub narrow_step : (s : Option Phrase) → AreNarrowTrees (step_expressions s) → IsNarrow (step_tree function s)
+  pub narrow_step : (s : Option Phrase90) → AreNarrowTrees (step_expressions s) → IsNarrow (step_tree90 function s)
   narrow_step None h = ap pos one_small
   narrow_step (Some p) h = h.0
 
   mutual
-    narrow_item : (d : Direction) (i : ItemPhrase) → AreNarrowTrees (item_expressions d i) → NarrowVariables d
-        (item_variables i) → IsNarrowItem (item_tree function i)
+    narrow_item : (d : Direction) (i : ItemPhrase90) → AreNarrowTrees (item_expressions d i) → NarrowVariables d
+        (item_variables i) → IsNarrowItem (item_tree90 function i)
     narrow_item d (itemised.Of p) h v = narrow_single d p h v
     narrow_item d (itemised.Text t) h v = tt
     narrow_item d (itemised.Loop is x a b c) h v =
-        let k = second_part (λ (p : Phrase). IsNarrow (tree_of function p)) (items_expressions d is)
+        let k = second_part (λ (p : Phrase90). IsNarrow (tree_of function p)) (items_expressions d is)
         (a ∷ (b ∷ step_expressions c)) h in (
-          narrow_items_of (item_trees function is)
-              (narrow_items d is (first_part (λ (p : Phrase). IsNarrow (tree_of function p)) (items_expressions d is)
+          narrow_items_of (item_trees90 function is)
+              (narrow_items d is (first_part (λ (p : Phrase90). IsNarrow (tree_of function p)) (items_expressions d is)
               (a ∷ (b ∷ step_expressions c)) h) v),
           k.0,
           k.1.0,
           narrow_step c k.1.1,
         )
 
-    narrow_items : (d : Direction) (is : ItemPhrases) → AreNarrowTrees (items_expressions d is) → NarrowVariables d
+    narrow_items : (d : Direction) (is : ItemPhrases90) → AreNarrowTrees (items_expressions d is) → NarrowVariables d
         (items_variables is)
-        → AllByRecursion IsNarrowItem (item_trees function is)
+        → AllByRecursion IsNarrowItem (item_trees90 function is)
     narrow_items d (itemised.Sole i) h v = (narrow_item d i h v, tt)
     narrow_items d (itemised.More is i) h v =
-        join IsNarrowItem (item_trees function is) (item_tree function i ∷ [])
-        (narrow_items d is (first_part (λ (p : Phrase). IsNarrow (tree_of function p)) (items_expressions d is)
+        join IsNarrowItem (item_trees90 function is) (item_tree90 function i ∷ [])
+        (narrow_items d is (first_part (λ (p : Phrase90). IsNarrow (tree_of function p)) (items_expressions d is)
         (item_expressions d i) h)
         (front_variables d (items_variables is) (item_variables i) v)) (
-          narrow_item d i (second_part (λ (p : Phrase). IsNarrow (tree_of function p)) (items_expressions d is)
+          narrow_item d i (second_part (λ (p : Phrase90). IsNarrow (tree_of function p)) (items_expressions d is)
               (item_expressions d i) h)
               (last_variables d (items_variables is) (item_variables i) v),
           tt,
@@ -163,10 +164,10 @@ module _ (function : List ℕ → Option Intrinsic) where
       (n.expressions.0, narrow_reference (tree_of function l) n.variables.0, n.expressions.1.0)
   narrow_simple _ _ (goes line label) n = tt
   narrow_simple _ _ (stops line) n = tt
-  narrow_simple _ _ (reads line is) n = narrow_items_of (item_trees function is)
+  narrow_simple _ _ (reads line is) n = narrow_items_of (item_trees90 function is)
       (narrow_items Input is n.expressions n.variables)
   narrow_simple _ _ (reads_nothing line) n = tt
-  narrow_simple _ _ (prints line is) n = narrow_items_of (item_trees function is)
+  narrow_simple _ _ (prints line is) n = narrow_items_of (item_trees90 function is)
       (narrow_items Output is n.expressions tt)
   narrow_simple _ _ (prints_nothing line) n = tt
   narrow_simple _ _ (allocates line x es) n = narrow_list es n.expressions
@@ -276,7 +277,7 @@ module _ (ds : List Declaration) where
 
   -- ---- what suits is held as it is
 
-  pub held_form : (f : Form) → IsNarrowForm (function_by ds) f → Suits ds f → IsHeldForm (function_by ds) f
+  pub held_form : (f : Form90) → IsNarrowForm (function_by ds) f → Suits ds f → IsHeldForm (function_by ds) f
   held_form (forms.Assign l r) n h =
       assignment_stays (reference_in (tree_of (function_by ds) l)) (tree_of (function_by ds) r)
       (narrow_reference (function_by ds) (tree_of (function_by ds) l) n.variables.0)
@@ -295,17 +296,17 @@ module _ (ds : List Declaration) where
   held_form (forms.ElseIf p) n h = scalar_stays (tree_of (function_by ds) p) Logical n.expressions.0 (inl h)
   held_form (forms.Do x a b c) n h =
       numbers_stay (tree_of (function_by ds) a) (tree_of (function_by ds) b)
-      (step_tree (function_by ds) c) n.expressions.0 n.expressions.1.0
+      (step_tree90 (function_by ds) c) n.expressions.0 n.expressions.1.0
       (narrow_step (function_by ds) c n.expressions.1.1) (inl h)
   held_form (forms.Read is) n h =
-      items_stay Input (tree.items (item_trees (function_by ds) is))
-      (narrow_items_of (function_by ds) (item_trees (function_by ds) is)
+      items_stay Input (tree.items (item_trees90 (function_by ds) is))
+      (narrow_items_of (function_by ds) (item_trees90 (function_by ds) is)
       (narrow_items (function_by ds) Input is n.expressions n.variables)) (inl h)
   held_form (forms.Print is) n h =
-      items_stay Output (tree.items (item_trees (function_by ds) is))
-      (narrow_items_of (function_by ds) (item_trees (function_by ds) is)
+      items_stay Output (tree.items (item_trees90 (function_by ds) is))
+      (narrow_items_of (function_by ds) (item_trees90 (function_by ds) is)
       (narrow_items (function_by ds) Output is n.expressions tt)) (inl h)
   held_form (forms.Allocate x es) n h =
-      scalars_stay (tree.expressions (trees (tree_of (function_by ds)) es)) Integer
+      scalars_stay (tree.expressions (trees_by (tree_of (function_by ds)) es)) Integer
       (narrow_list (function_by ds) es n.expressions) (inl h.1)
   held_form f n h = tt

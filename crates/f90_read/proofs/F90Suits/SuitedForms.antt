@@ -9,14 +9,15 @@ use Rattle.tree.specs.declared.ops.Kind.TheVariants.{Integer, Logical}
 use Rattle.tree.specs.declared.stmts.Stmt.{Stmt}
 use Rattle.meaning.specs.Typed.{declared}
 use Rattle.meaning.specs.Typed90.{IsScalar}
-use Rattle.f90_grammar.specs.Blocks.{Placed, IsSimple, reference_in, at}
+use Rattle.f90_grammar.specs.Blocks.{Placed, IsSimple, placed_form}
+use Rattle.reading.specs.Signs.{reference_in}
 use Rattle.f90_grammar.specs.Blocks.IsSimple.{assigns, masks, goes, stops, reads, reads_nothing, prints}
 use Rattle.f90_grammar.specs.Blocks.IsSimple.{prints_nothing, allocates, deallocates}
 use Rattle.f90_grammar.specs.Forms as forms
-use Rattle.f90_grammar.specs.Forms.{Form}
-use Rattle.f90_grammar.specs.Items.{step_tree}
-use Rattle.f90_grammar.specs.Order.{is_executable}
-use Rattle.f90_grammar.specs.Phrases.{Phrase, tree_of}
+use Rattle.f90_grammar.specs.Forms.{Form90}
+use Rattle.f90_grammar.specs.Items.{step_tree90}
+use Rattle.f90_grammar.specs.Order.{is_executable90}
+use Rattle.f90_grammar.specs.Phrases.{Phrase90, tree_of}
 use Rattle.f90_grammar.specs.Reading.{function_by}
 use Rattle.f90_grammar.specs.Suited.{SuitsAssignment, AreNumbers, Suits}
 use Rattle.f90_trees.specs.Building.{held}
@@ -33,7 +34,7 @@ use Rattle.f90_read.proofs.F90Suits.StayedForms.{IsNarrowForm, narrow_simple, na
 use Rattle.f90_read.proofs.F90Suits.StayedForms.{statement_stays}
 
 module _ (ds : List Declaration) where
-  abbrev tree_by : Phrase → Expression
+  abbrev tree_by : Phrase90 → Expression
   tree_by p = tree_of (function_by ds) p
 
   simple_suited : (p : Placed) (s : Statement) → IsSimple (function_by ds) (λ n. false) p s
@@ -66,15 +67,15 @@ module _ (ds : List Declaration) where
       (statement_stays ds h.statement (narrow_simple (function_by ds) p h.statement h.is n)))
       (simple_suited p h.statement h.is)
 
-  empty_suited : (f : Form) → f ≡ forms.Continue [] → (Unit {0} ↔ Suits ds f)
-  empty_suited f e = subst (λ (g : Form). Unit {0} ↔ Suits ds g) (sym e) same
+  empty_suited : (f : Form90) → f ≡ forms.Continue [] → (Unit {0} ↔ Suits ds f)
+  empty_suited f e = subst (λ (g : Form90). Unit {0} ↔ Suits ds g) (sym e) same
 
   done_suited : (p : Placed) (s : Option Stmt) → IsHeldDone (function_by ds) p s → IsNarrowForm
       (function_by ds) p.form → (SuitsDone ds s ↔ Suits ds p.form)
   done_suited p (Some s) h n = stmt_suited p s h n
   done_suited p None h n = empty_suited p.form h
 
-  condition_suited : (x : Expression) (q : Phrase) → IsNarrow (tree_by q) → x ≡ held (tree_by q)
+  condition_suited : (x : Expression) (q : Phrase90) → IsNarrow (tree_by q) → x ≡ held (tree_by q)
       → (IsScalar ds x Logical ↔ IsScalar ds (tree_by q) Logical)
   condition_suited x q n e = (
     λ h. let j = subst (λ (y : Expression). IsScalar ds y Logical) e h in subst
@@ -105,15 +106,15 @@ module _ (ds : List Declaration) where
   )
 
   -- as another form, which is the same
-  at_form : (A : Type 0) (f g : Form) → f ≡ g → IsNarrowForm (function_by ds) f
+  at_form : (A : Type 0) (f g : Form90) → f ≡ g → IsNarrowForm (function_by ds) f
       → (IsNarrowForm (function_by ds) g → (A ↔ Suits ds g)) → (A ↔ Suits ds f)
-  at_form A f g e n h = subst (λ (i : Form). A ↔ Suits ds i) (sym e)
-      (h (subst (λ (i : Form). IsNarrowForm (function_by ds) i) e n))
+  at_form A f g e n h = subst (λ (i : Form90). A ↔ Suits ds i) (sym e)
+      (h (subst (λ (i : Form90). IsNarrowForm (function_by ds) i) e n))
 
   form_of : (p q : Placed) → p ≡ q → p.form ≡ q.form
   form_of p q e = ap (λ (x : Placed). x.form) e
 
-  inner : (q : Phrase) (f : Form) → IsNarrowForm (function_by ds) (forms.Test q f) → IsNarrowForm (function_by ds) f
+  inner : (q : Phrase90) (f : Form90) → IsNarrowForm (function_by ds) (forms.Test q f) → IsNarrowForm (function_by ds) f
   inner q f n = record { expressions = n.expressions.1; variables = n.variables }
 
   pub suited_by_tree : (p : Placed) (t : StatementTree) → IsHeldTreeOf (function_by ds) p t → IsNarrowForm
@@ -122,7 +123,7 @@ module _ (ds : List Declaration) where
   suited_by_tree p (Test x s) h n =
       at_form _ p.form (forms.Test h.0 h.1) h.2 n
       (λ j. pair (condition_suited (expression_of x) h.0 j.expressions.0 h.3)
-      (done_suited (at p.line p.mark h.1) s h.4 (inner h.0 h.1 j)))
+      (done_suited (placed_form p.line p.mark h.1) s h.4 (inner h.0 h.1 j)))
   suited_by_tree p (If x) h n = at_form _ p.form (forms.If h.0) (form_of _ _ h.1) n
       (λ j. condition_suited (expression_of x) h.0 j.expressions.0 h.2)
   suited_by_tree p (ElseIf x) h n = at_form _ p.form (forms.ElseIf h.0) (form_of _ _ h.1) n
@@ -133,7 +134,7 @@ module _ (ds : List Declaration) where
       at_form _ p.form (forms.Do x h.0 h.1 h.2) (form_of _ _ h.3) n
       (λ j.
       numbers_suited (expression_of a) (expression_of b) (expression_of c) (tree_by h.0) (tree_by h.1)
-      (step_tree (function_by ds) h.2)
+      (step_tree90 (function_by ds) h.2)
       j.expressions.0 j.expressions.1.0 (narrow_step (function_by ds) h.2 j.expressions.1.1) h.4 h.5 h.6)
   suited_by_tree p EndDo h n = at_form _ p.form forms.EndDo (form_of _ _ h) n (λ j. same)
   suited_by_tree p (Continue None) h n = at_form _ p.form (forms.Continue []) (form_of _ _ h) n (λ j. same)
@@ -142,7 +143,7 @@ module _ (ds : List Declaration) where
 
   -- ---- without a tree
 
-  idle_suited : (f : Form) → is_executable f ≡ false → Suits ds f
+  idle_suited : (f : Form90) → is_executable90 f ≡ false → Suits ds f
   idle_suited (forms.Program x) h = tt
   idle_suited forms.ImplicitNone h = tt
   idle_suited (forms.Declare k a es) h = tt
@@ -150,24 +151,24 @@ module _ (ds : List Declaration) where
   idle_suited (forms.EndProgram x) h = tt
   idle_suited f h = absurd cc
 
-  left_unsuited : (l : Phrase) (e : Expression) → declared ds [] ≡ None → is_call (function_by ds) l ≡ true
+  left_unsuited : (l : Phrase90) (e : Expression) → declared ds [] ≡ None → is_call (function_by ds) l ≡ true
       → SuitsAssignment ds (reference_in (tree_by l)) e → ⊥
   left_unsuited l e z n h =
       let k : SuitsAssignment ds nameless e = subst (λ (r : Reference). SuitsAssignment ds r e)
       (unnamed (tree_by l) n) h in
       nothing (declared ds []) _ z k.0
 
-  call_unsuited : (f : Form) → declared ds [] ≡ None → stores_into_call (function_by ds) f ≡ true → Suits ds f → ⊥
+  call_unsuited : (f : Form90) → declared ds [] ≡ None → stores_into_call (function_by ds) f ≡ true → Suits ds f → ⊥
   call_unsuited (forms.Assign l r) z n h = left_unsuited l (tree_by r) z n h
   call_unsuited (forms.Where m l r) z n h = left_unsuited l (tree_by r) z n h.1
   call_unsuited (forms.Test q f) z n h = call_unsuited f z n h.1
   call_unsuited f z n h = absurd cc
 
-  pub suited_without_tree : (f : Form) → declared ds [] ≡ None → has_tree (function_by ds) f ≡ false → Decides
-      (not (is_executable f)) (Suits ds f)
-  suited_without_tree f z h = by (is_executable f) refl
+  pub suited_without_tree : (f : Form90) → declared ds [] ≡ None → has_tree (function_by ds) f ≡ false → Decides
+      (not (is_executable90 f)) (Suits ds f)
+  suited_without_tree f z h = by (is_executable90 f) refl
     where
-      by : (b : Bool) → is_executable f ≡ b → Decides (not b) (Suits ds f)
+      by : (b : Bool) → is_executable90 f ≡ b → Decides (not b) (Suits ds f)
       by true i = (
         λ j. absurd (cc),
         λ j. absurd
@@ -177,11 +178,11 @@ module _ (ds : List Declaration) where
       by false i = (λ j. idle_suited f i, λ j. refl)
 
   -- a statement that suits has a tree if it is executable
-  pub idle_without_tree : (f : Form) → declared ds [] ≡ None → Suits ds f → has_tree (function_by ds) f ≡ false
-      → is_executable f ≡ false
-  idle_without_tree f z s h = by (is_executable f) refl
+  pub idle_without_tree : (f : Form90) → declared ds [] ≡ None → Suits ds f → has_tree (function_by ds) f ≡ false
+      → is_executable90 f ≡ false
+  idle_without_tree f z s h = by (is_executable90 f) refl
     where
-      by : (b : Bool) → is_executable f ≡ b → b ≡ false
+      by : (b : Bool) → is_executable90 f ≡ b → b ≡ false
       by true i = absurd (call_unsuited f z
           (stores _ (ap (λ (b : Bool). b && not (stores_into_call (function_by ds) f)) (sym i) ∙ h)) s)
       by false i = refl

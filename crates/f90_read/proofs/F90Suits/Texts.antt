@@ -10,7 +10,7 @@ use Rattle.f90_blocks.specs.places.forms.Places.{IsPlacedOf}
 use Rattle.f90_blocks.specs.declared.places.forms.placing.Placed as code
 use Rattle.f90_grammar.specs.Blocks.{Placed}
 use Rattle.f90_grammar.specs.Declared.{HasKnownNames}
-use Rattle.f90_grammar.specs.Order.{Place, is_executable}
+use Rattle.f90_grammar.specs.Order.{Place90, is_executable90}
 use Rattle.f90_grammar.specs.Reading.{function_by}
 use Rattle.f90_grammar.specs.Suited.{Suits}
 use Rattle.f90_statement.specs.Views.{AreOf}
@@ -47,7 +47,7 @@ module _ (functions : Functions) (ds : List Declaration) (of : AreFunctionsOf fu
       (KnowsTree ds t) → Decides b (HasKnownNames ds p.form)
   known_of_tree t b g d = through d (known_by_tree ds p t (given (Some t) g).0 of.named formed)
 
-  pub known_of_none : (b : Bool) → Gives (function_in functions) p None → b ≡ is_executable p.form → Decides (not b)
+  pub known_of_none : (b : Bool) → Gives (function_in functions) p None → b ≡ is_executable90 p.form → Decides (not b)
       (HasKnownNames ds p.form)
   known_of_none b g e =
       subst (λ (c : Bool). Decides (not c) (HasKnownNames ds p.form)) (sym e)
@@ -58,7 +58,7 @@ module _ (functions : Functions) (ds : List Declaration) (of : AreFunctionsOf fu
   suited_of_tree t b g d = through d (suited_by_tree ds p t (given (Some t) g).0
       (narrow_form (function_by ds) p.form ready.narrow))
 
-  pub suited_of_none : (b : Bool) → Gives (function_in functions) p None → b ≡ is_executable p.form → Decides (not b)
+  pub suited_of_none : (b : Bool) → Gives (function_in functions) p None → b ≡ is_executable90 p.form → Decides (not b)
       (Suits ds p.form)
   suited_of_none b g e = subst (λ (c : Bool). Decides (not c) (Suits ds p.form)) (sym e)
       (suited_without_tree ds p.form of.named (given None g))
@@ -72,7 +72,7 @@ module _ (functions : Functions) (ds : List Declaration) (of : AreFunctionsOf fu
   pub tree_of_some : (t : StatementTree) → IsTreeOf (function_in functions) p t → IsTreeOf (function_by ds) p t
   tree_of_some t h = subst (λ (f : List ℕ → Option Intrinsic). IsTreeOf f p t) same_functions h
 
-  pub idle_of_none : Suits ds p.form → Gives (function_in functions) p None → is_executable p.form ≡ false
+  pub idle_of_none : Suits ds p.form → Gives (function_in functions) p None → is_executable90 p.form ≡ false
   idle_of_none s g = idle_without_tree ds p.form of.named s (given None g)
 
   pub tree_in : (t : Option StatementTree) → Suits ds p.form → Gives (function_in functions) p t → IfSome t

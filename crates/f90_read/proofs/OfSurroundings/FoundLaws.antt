@@ -9,7 +9,7 @@ use Rattle.tree.specs.Plain.{Declaration}
 use Rattle.meaning.specs.Names.{is_among}
 use Rattle.f90_laws.specs.blocks.Places.{SuitsPlace, surroundings_of, loop_variables, labels_ahead}
 use Rattle.f90_grammar.specs.Blocks.{Placed}
-use Rattle.f90_grammar.specs.Order.{Place, IsPlaceIn, opened_behind, opened_by}
+use Rattle.f90_grammar.specs.Order.{Place90, IsPlaceIn, opened_behind, opened_by}
 use Rattle.f90_names.specs.kinds.declarations.Names.{AreNamesOf}
 use Rattle.f90_names.specs.declared.kinds.declarations.names.Names.{Names}
 use Rattle.f90_blocks.specs.places.First.{IsFirstPlace, FindsFirst}
@@ -24,14 +24,14 @@ use Rattle.f90_read.proofs.OfSurroundings.SuitLaws.{form_right, plain_next}
 
 -- ---- the earlier of two
 
-module _ (ps : List Placed) (p q : Place → Bool) where
-  abbrev pub Passes : (Place → Bool) → Place → Type 0
+module _ (ps : List Placed) (p q : Place90 → Bool) where
+  abbrev pub Passes : (Place90 → Bool) → Place90 → Type 0
   Passes r o = r o ≡ true
 
-  abbrev pub one_passes : Place → Type 0
+  abbrev pub one_passes : Place90 → Type 0
   one_passes o = (p o || q o) ≡ true
 
-  of_left : (i : ℕ) → IsFirstPlace ps (Passes p) i → ((o : Place) → IsPlaceIn ps o → q o ≡ true → i ≤ length o.before) → IsFirstPlace ps one_passes i
+  of_left : (i : ℕ) → IsFirstPlace ps (Passes p) i → ((o : Place90) → IsPlaceIn ps o → q o ≡ true → i ≤ length o.before) → IsFirstPlace ps one_passes i
   of_left i f g = record {
     place = f.place;
     in_text = f.in_text;
@@ -40,7 +40,7 @@ module _ (ps : List Placed) (p q : Place → Bool) where
     first = λ o k h. elim (or_cases (p o) (q o) h) [ inl x ↦ f.first o k x | inr y ↦ g o k y ];
   }
 
-  of_right : (i : ℕ) → IsFirstPlace ps (Passes q) i → ((o : Place) → IsPlaceIn ps o → p o ≡ true → i ≤ length o.before) → IsFirstPlace ps one_passes i
+  of_right : (i : ℕ) → IsFirstPlace ps (Passes q) i → ((o : Place90) → IsPlaceIn ps o → p o ≡ true → i ≤ length o.before) → IsFirstPlace ps one_passes i
   of_right i f g = record {
     place = f.place;
     in_text = f.in_text;
@@ -73,13 +73,13 @@ next (p ∷ ps) zero l = (p, ps, refl)
 next (p ∷ ps) (suc i) l = next ps i (omega arith)
 
 module _ (names : Names) (ds : List Declaration) (function : List ℕ → Option Intrinsic) (of : AreNamesOf names ds) (proper : AreProper ds function) (ps : List Placed) where
-  abbrev pub wrong_at : Place → Bool
+  abbrev pub wrong_at : Place90 → Bool
   wrong_at p = misuses_at (scalar_in names) p || jumps_wrongly_at p
 
-  abbrev pub Wrong : Place → Type 0
+  abbrev pub Wrong : Place90 → Type 0
   Wrong p = wrong_at p ≡ true
 
-  abbrev pub Unsuited : Place → Type 0
+  abbrev pub Unsuited : Place90 → Type 0
   Unsuited p = SuitsPlace ds function p.here.form (surroundings_of p) → ⊥
 
   plain_behind : (n : ℕ) → NoneBefore ps Wrong n → (i : ℕ) → i ≤ n → i ≤ length ps → ArePlain function (loop_variables (opened_behind [] (take i ps)))
@@ -94,7 +94,7 @@ module _ (names : Names) (ds : List Declaration) (function : List ℕ → Option
       subst (λ os. ArePlain function (loop_variables os)) (sym (opened_next ps i m.0 m.1 [] m.2))
       (plain_next names ds function of proper m.0.form (opened_behind [] (take i ps)) a g)
 
-  right_at : (n : ℕ) → NoneBefore ps Wrong n → AllByRecursion IsWrittenOut ps → (q : Place) → IsPlaceIn ps q → length q.before ≤ n
+  right_at : (n : ℕ) → NoneBefore ps Wrong n → AllByRecursion IsWrittenOut ps → (q : Place90) → IsPlaceIn ps q → length q.before ≤ n
       → Refutes (wrong_at q) (SuitsPlace ds function q.here.form (surroundings_of q))
   right_at n none h q o l =
       let w = written_at q.before q.here q.after (subst (AllByRecursion IsWrittenOut) o h) in

@@ -4,8 +4,8 @@ use Rattle.std.proofs.lemmas.Bool.{true≢false}
 use Rattle.std.proofs.lemmas.List.{drop_all}
 use Rattle.f90_laws.specs.blocks.Places.{labels_ahead}
 use Rattle.f90_grammar.specs.Blocks as grammar
-use Rattle.f90_grammar.specs.Forms.{Form}
-use Rattle.f90_grammar.specs.Order.{Place}
+use Rattle.f90_grammar.specs.Forms.{Form90}
+use Rattle.f90_grammar.specs.Order.{Place90}
 use Rattle.f90_blocks.specs.places.forms.Places.{IsPlacedOf}
 use Rattle.f90_blocks.specs.declared.places.forms.placing.Placed.{Placed}
 use Rattle.f90_blocks.specs.places.First.{FindsFirst}
@@ -15,7 +15,7 @@ use Rattle.f90_read.specs.declared.surroundings.jumping.LabelsAhead.{LabelsAhead
 use Rattle.f90_read.proofs.OfSurroundings.PlaceLaws.{FindsFrom, meets, of_length, drop_next, found_here, passed, none_behind, from_start}
 
 module _ (ps : List grammar.Placed) where
-  abbrev pub Missed : Place → Type 0
+  abbrev pub Missed : Place90 → Type 0
   Missed p = jumps_wrongly_at p ≡ true
 
   pub record IsBehind (ahead : LabelsAhead) (found : Option ℕ) (i : ℕ) : Type 0 where
@@ -33,7 +33,7 @@ module _ (ps : List grammar.Placed) where
 
   pub further : (text : List Placed) (i j : ℕ) (x : Placed) (missed : Bool) (ahead now : LabelsAhead) (found then : Option ℕ) → AreOf IsPlacedOf text ps → i ≡ suc j → j < length text
       → get_or text j x ≡ x
-      → ((f : Form) (qs : List grammar.Placed) → IsStatementOf x.statement f → AreAhead ahead qs → missed ≡ leads_wrongly (target_of f) (labels_ahead qs 0))
+      → ((f : Form90) (qs : List grammar.Placed) → IsStatementOf x.statement f → AreAhead ahead qs → missed ≡ leads_wrongly (target_of f) (labels_ahead qs 0))
       → then ≡ cond missed (Some j) found
       → ((p : grammar.Placed) (qs : List grammar.Placed) → IsStatementOf x.statement p.form → AreAhead ahead qs → AreAhead now (p ∷ qs))
       → IsBehind ahead found i → IsBehind now then j

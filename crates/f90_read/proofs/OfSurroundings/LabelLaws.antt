@@ -10,7 +10,7 @@ use Rattle.std.proofs.lemmas.Option.{slice_get_within}
 use Rattle.f90_laws.specs.blocks.Places.{labels_ahead, opened_since, with_label_at}
 use Rattle.f90_grammar.specs.Blocks.{Placed}
 use Rattle.f90_grammar.specs.Forms as forms
-use Rattle.f90_grammar.specs.Forms.{Form}
+use Rattle.f90_grammar.specs.Forms.{Form90}
 use Rattle.f90_grammar.specs.Phrases.{value_of_digits}
 use Rattle.f90_read.specs.surroundings.Jumps.{AreHeld, kept, AreStarts, is_there, with_first, entered, left, front, others}
 

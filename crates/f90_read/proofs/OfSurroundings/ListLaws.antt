@@ -6,7 +6,7 @@ use Rattle.std.proofs.lemmas.List.Sorted.{list_any-IsPermutation, IsPermutation-
 use Rattle.std.specs.Str.{bytes_eq}
 use Rattle.meaning.specs.Names.{is_among}
 use Rattle.f90_grammar.specs.Items as items
-use Rattle.f90_grammar.specs.Items.{Direction, ItemPhrase, ItemPhrases, Sole, More}
+use Rattle.f90_grammar.specs.Items.{Direction, ItemPhrase90, ItemPhrases90, Sole, More}
 use Rattle.f90_statement.specs.items.Flat as flats
 use Rattle.f90_statement.specs.items.Flat.{Of, Text, Begin, Turns, flat_item, flat_items}
 use Rattle.f90_statement.specs.items.Views.{IsNodeOf, AreNodesOf}
@@ -16,7 +16,7 @@ use Rattle.f90_expressions.specs.Flat.{flat, flat_parts, flat_values, flat_turn}
 use Rattle.f90_expressions.specs.Views.{node_seen, nodes_seen}
 use Rattle.f90_expressions.specs.declared.nodes.Node as expr
 use Rattle.f90_grammar.specs.Phrases as phrases
-use Rattle.f90_grammar.specs.Phrases.{Phrase}
+use Rattle.f90_grammar.specs.Phrases.{Phrase90}
 use Rattle.std.proofs.lemmas.List.{map_push}
 use Rattle.f90_read.specs.surroundings.Lists.{stored_name, name_in_node, is_round, Walked, walked, item_misuses, items_misuse, with_node, with_nodes}
 
@@ -52,7 +52,7 @@ module _ (scalar round : List ℕ → Bool) (d : Direction) where
   nodes_append (n ∷ a) b w = ap (with_node scalar round d n) (nodes_append a b w)
 
   mutual
-    item_walked : (i : ItemPhrase) (b : Bool) (ls : List (List ℕ))
+    item_walked : (i : ItemPhrase90) (b : Bool) (ls : List (List ℕ))
         → with_nodes scalar round d (flat_item i) (walked b ls) ≡ walked (b || item_misuses scalar round d i ls) ls
     item_walked (items.Of p) b ls = refl
     item_walked (items.Text t) b ls = wrongs b (b || false) ls (or_none b)
@@ -61,7 +61,7 @@ module _ (scalar round : List ℕ → Bool) (d : Direction) where
         (nodes_append (flat_items is) (Turns x l u s ∷ []) (walked b ls) ∙ items_walked is _ (x ∷ ls))
         ∙ wrongs _ _ ls (or_assoc b _ _)
 
-    items_walked : (is : ItemPhrases) (b : Bool) (ls : List (List ℕ))
+    items_walked : (is : ItemPhrases90) (b : Bool) (ls : List (List ℕ))
         → with_nodes scalar round d (flat_items is) (walked b ls) ≡ walked (b || items_misuse scalar round d is ls) ls
     items_walked (Sole i) b ls = item_walked i b ls
     items_walked (More is i) b ls =
@@ -69,7 +69,7 @@ module _ (scalar round : List ℕ → Bool) (d : Direction) where
         ∙ (ap (with_nodes scalar round d (flat_items is)) (item_walked i b ls)
         ∙ (items_walked is (b || item_misuses scalar round d i ls) ls ∙ wrongs _ _ ls (or_assoc b _ _)))
 
-  pub whole_walked : (is : ItemPhrases) → with_nodes scalar round d (flat_items is) (walked false []) ≡ walked (items_misuse scalar round d is []) []
+  pub whole_walked : (is : ItemPhrases90) → with_nodes scalar round d (flat_items is) (walked false []) ≡ walked (items_misuse scalar round d is []) []
   whole_walked is = items_walked is false []
 
 -- ---- node by node, from the end
@@ -93,7 +93,7 @@ module _ (scalar round : List ℕ → Bool) (d : Direction) where
       one_walked nodes parts (suc j) j x w now a.1 refl (omega arith) g s
       (ap (λ (q : ℕ). with_nodes scalar round d (drop q (p ∷ parts)) (walked false [])) (sym k) ∙ e)
 
-  pub told : (is : ItemPhrases) (i : ℕ) (wrong : Bool) (lists : List (List ℕ)) → i ≤ 0
+  pub told : (is : ItemPhrases90) (i : ℕ) (wrong : Bool) (lists : List (List ℕ)) → i ≤ 0
       → with_nodes scalar round d (drop i (flat_items is)) (walked false []) ≡ walked wrong lists → wrong ≡ items_misuse scalar round d is []
   told is zero wrong lists l e = ap (λ (w : Walked). w.wrong) (sym e ∙ whole_walked scalar round d is)
   told is (suc i) wrong lists l e = absurd (omega arith)
@@ -110,7 +110,7 @@ end_push [] n = refl
 end_push (m ∷ []) n = refl
 end_push (m ∷ k ∷ ns) n = end_push (k ∷ ns) n
 
-named_at_end : (p : Phrase) → name_at_end (flat p) ≡ stored_name p
+named_at_end : (p : Phrase90) → name_at_end (flat p) ≡ stored_name p
 named_at_end (phrases.Literal t) = refl
 named_at_end (phrases.Truth b) = refl
 named_at_end (phrases.Name x) = refl
@@ -122,7 +122,7 @@ named_at_end (phrases.Joined o a b) =
 named_at_end (phrases.Values ps) = end_push (flat_nodes.Begin ∷ flat_values ps) flat_nodes.Values
 named_at_end (phrases.Looped t) = end_push (flat_nodes.Begin ∷ flat_turn t) flat_nodes.Looped
 
-pub name_told : (slice nodes front : List expr.Node) (n : expr.Node) (p : Phrase) → slice ≡ nodes → slice ≡ front ++ n ∷ [] → nodes_seen nodes ≡ flat p
+pub name_told : (slice nodes front : List expr.Node) (n : expr.Node) (p : Phrase90) → slice ≡ nodes → slice ≡ front ++ n ∷ [] → nodes_seen nodes ≡ flat p
     → name_in_node (node_seen n) ≡ stored_name p
 name_told slice nodes front n p s e h =
     sym (end_push (map node_seen front) (node_seen n))

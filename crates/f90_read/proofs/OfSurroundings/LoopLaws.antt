@@ -5,8 +5,8 @@ use Rattle.std.proofs.lemmas.Bool.{true≢false}
 use Rattle.meaning.specs.Names.{is_among}
 use Rattle.f90_laws.specs.blocks.Places.{loop_variables}
 use Rattle.f90_grammar.specs.Blocks as grammar
-use Rattle.f90_grammar.specs.Forms.{Form}
-use Rattle.f90_grammar.specs.Order.{Place, Opened, opened_by, opened_behind}
+use Rattle.f90_grammar.specs.Forms.{Form90}
+use Rattle.f90_grammar.specs.Order.{Place90, Opened, opened_by, opened_behind}
 use Rattle.f90_blocks.specs.places.forms.Places.{IsPlacedOf}
 use Rattle.f90_blocks.specs.declared.places.forms.placing.Placed.{Placed}
 use Rattle.f90_blocks.specs.places.First.{FindsFirst}
@@ -23,7 +23,7 @@ opened_next (q ∷ ps) zero p rest os e = let h : q ≡ p = cc in ap (λ (r : gr
 opened_next (q ∷ ps) (suc i) p rest os e = opened_next ps i p rest (opened_by q.form os) e
 
 module _ (scalar : List ℕ → Bool) (ps : List grammar.Placed) where
-  abbrev pub Misused : Place → Type 0
+  abbrev pub Misused : Place90 → Type 0
   Misused p = misuses_at scalar p ≡ true
 
   pub record IsPassed (blocks : OpenBlocks) (i : ℕ) : Type 0 where
@@ -38,7 +38,7 @@ module _ (scalar : List ℕ → Bool) (ps : List grammar.Placed) where
 
   module _ (text : List Placed) (i : ℕ) (x : Placed) (wrong : Bool) (blocks : OpenBlocks) where
     abbrev pub Tells : Type 0
-    Tells = (f : Form) → IsStatementOf x.statement f → wrong ≡ misuses_form scalar (is_among (reverse blocks.variables.items)) f
+    Tells = (f : Form90) → IsStatementOf x.statement f → wrong ≡ misuses_form scalar (is_among (reverse blocks.variables.items)) f
 
     told : (p : grammar.Placed) → IsPlacedOf x p → Tells → IsPassed blocks i → wrong ≡ misuses_form scalar (is_among (loop_variables (opened_behind [] (take i ps)))) p.form
     told p k t h = t p.form k.is ∙ ap (λ (vs : List (List ℕ)). misuses_form scalar (is_among vs) p.form) h.are_open.variables
@@ -49,7 +49,7 @@ module _ (scalar : List ℕ → Bool) (ps : List grammar.Placed) where
         found_first ps Misused i m.0 m.1 h.none m.2 (sym (told m.0 m.3 t h) ∙ e)
 
     pub further : (now : OpenBlocks) → AreOf IsPlacedOf text ps → i < length text → get_or text i x ≡ x → Tells → wrong ≡ false
-        → ((f : Form) (os : List Opened) → IsStatementOf x.statement f → AreOpen blocks os → AreOpen now (opened_by f os)) → IsPassed blocks i → IsPassed now (i + 1)
+        → ((f : Form90) (os : List Opened) → IsStatementOf x.statement f → AreOpen blocks os → AreOpen now (opened_by f os)) → IsPassed blocks i → IsPassed now (i + 1)
     further now a l g t e s h =
         let m = meets IsPlacedOf text ps i x a l g in
         record {

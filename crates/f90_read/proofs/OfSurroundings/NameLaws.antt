@@ -16,10 +16,10 @@ use Rattle.tree.specs.Plain.{Declaration, Expression, Subscript}
 use Rattle.meaning.specs.Names.{is_among}
 use Rattle.meaning.specs.Typed.{declared, rank_of_extent}
 use Rattle.meaning.specs.Typed90.{IsIntegerScalar, IsDoVariable}
-use Rattle.f90_grammar.specs.Blocks.{reference_in}
-use Rattle.f90_grammar.specs.Items.{Input, IsReference, IsVariable}
+use Rattle.reading.specs.Signs.{reference_in}
+use Rattle.f90_grammar.specs.Items.{Input, IsReference90, IsVariable}
 use Rattle.f90_grammar.specs.Phrases as phrases
-use Rattle.f90_grammar.specs.Phrases.{Phrase, tree_of, called, trees_of_parts}
+use Rattle.f90_grammar.specs.Phrases.{Phrase90, tree_of, called, trees_of_parts}
 use Rattle.f90_grammar.specs.Reading.{declares}
 use Rattle.f90_grammar.specs.Surroundings.{KeepsVariables}
 use Rattle.f90_names.specs.kinds.declarations.Names.{AreNamesOf, Tells, IsOf, found}
@@ -103,7 +103,7 @@ called_name Reshape x (a ∷ []) = inl refl
 called_name Reshape x (a ∷ b ∷ []) = inr refl
 called_name Reshape x (a ∷ b ∷ c ∷ ss) = inl refl
 
-pub is_reference : (p : Phrase) → IsVariable p → IsReference p
+pub is_reference : (p : Phrase90) → IsVariable p → IsReference90 p
 is_reference (phrases.Literal t) h = absurd h
 is_reference (phrases.Truth b) h = absurd h
 is_reference (phrases.Name x) h = tt
@@ -175,7 +175,7 @@ module _ (names : Names) (ds : List Declaration) (function : List ℕ → Option
 
   -- ---- what is stored into
 
-  pub stored : (p : Phrase) (vs : List (List ℕ)) → IsReference p → ArePlain function vs
+  pub stored : (p : Phrase90) (vs : List (List ℕ)) → IsReference90 p → ArePlain function vs
       → Refutes (stored_in vs (stored_name p)) (Contains vs (name_of (tree_of function p)) → ⊥)
   stored (phrases.Literal t) vs r a = absurd r
   stored (phrases.Truth b) vs r a = absurd r

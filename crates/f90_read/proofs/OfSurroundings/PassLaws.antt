@@ -3,7 +3,7 @@ use Rattle.std.proofs.Common.{zero, suc, ◌≡◌, ℕ, Option, Some, None, Res
 use Rattle.f90_laws.specs.blocks.Places.{labels_ahead, opened_since, with_label_at}
 use Rattle.f90_grammar.specs.Blocks.{Placed}
 use Rattle.f90_grammar.specs.Forms as forms
-use Rattle.f90_grammar.specs.Forms.{Form}
+use Rattle.f90_grammar.specs.Forms.{Form90}
 use Rattle.f90_expressions.specs.declared.nodes.Expression.{Expression}
 use Rattle.f90_statement.specs.declared.items.parts.bounds.Bounds.{Bounds}
 use Rattle.f90_statement.specs.Views.{IsStatementOf}
@@ -13,44 +13,44 @@ use Rattle.f90_read.specs.surroundings.Jumps.{AreLevels, AreAhead, with_first, e
 use Rattle.f90_read.specs.declared.surroundings.jumping.LabelsAhead.{LabelsAhead}
 
 -- ahead of a statement of this form, where those were behind it
-abbrev pub before_form : Form → (ℕ → List ℕ) → ℕ → List ℕ
+abbrev pub before_form : Form90 → (ℕ → List ℕ) → ℕ → List ℕ
 before_form f at n = with_label_at n f (at (opened_since f n))
 
 levels_same : (a : LabelsAhead) (at bt : ℕ → List ℕ) → ((n : ℕ) → at n ≡ bt n) → AreLevels a at → AreLevels a bt
 levels_same a at bt e l = record { same = λ n. l.same n ∙ e n; are_starts = l.are_starts; found = l.found }
 
 module _ (at : ℕ → List ℕ) where
-  if_begins : (e : Expression) (f : Form) → IsStatementOf (statements.If e) f → (n : ℕ) → left at n ≡ before_form f at n
+  if_begins : (e : Expression) (f : Form90) → IsStatementOf (statements.If e) f → (n : ℕ) → left at n ≡ before_form f at n
   if_begins e (forms.If p) h zero = refl
   if_begins e (forms.If p) h (suc n) = refl
   if_begins e f h n = absurd h
 
-  loop_begins : (x : List ℕ) (k : Bounds) (f : Form) → IsStatementOf (statements.Do x k) f → (n : ℕ) → left at n ≡ before_form f at n
+  loop_begins : (x : List ℕ) (k : Bounds) (f : Form90) → IsStatementOf (statements.Do x k) f → (n : ℕ) → left at n ≡ before_form f at n
   loop_begins x k (forms.Do y l u s) h zero = refl
   loop_begins x k (forms.Do y l u s) h (suc n) = refl
   loop_begins x k f h n = absurd h
 
-  if_ends : (f : Form) → IsStatementOf statements.EndIf f → (n : ℕ) → entered at n ≡ before_form f at n
+  if_ends : (f : Form90) → IsStatementOf statements.EndIf f → (n : ℕ) → entered at n ≡ before_form f at n
   if_ends forms.EndIf h zero = refl
   if_ends forms.EndIf h (suc n) = refl
   if_ends f h n = absurd h
 
-  loop_ends : (f : Form) → IsStatementOf statements.EndDo f → (n : ℕ) → entered at n ≡ before_form f at n
+  loop_ends : (f : Form90) → IsStatementOf statements.EndDo f → (n : ℕ) → entered at n ≡ before_form f at n
   loop_ends forms.EndDo h zero = refl
   loop_ends forms.EndDo h (suc n) = refl
   loop_ends f h n = absurd h
 
-  arm_begins : (e : Expression) (f : Form) → IsStatementOf (statements.ElseIf e) f → (n : ℕ) → entered (left at) n ≡ before_form f at n
+  arm_begins : (e : Expression) (f : Form90) → IsStatementOf (statements.ElseIf e) f → (n : ℕ) → entered (left at) n ≡ before_form f at n
   arm_begins e (forms.ElseIf p) h zero = refl
   arm_begins e (forms.ElseIf p) h (suc n) = refl
   arm_begins e f h n = absurd h
 
-  else_begins : (f : Form) → IsStatementOf statements.Else f → (n : ℕ) → entered (left at) n ≡ before_form f at n
+  else_begins : (f : Form90) → IsStatementOf statements.Else f → (n : ℕ) → entered (left at) n ≡ before_form f at n
   else_begins forms.Else h zero = refl
   else_begins forms.Else h (suc n) = refl
   else_begins f h n = absurd h
 
-  label_stands : (m : ℕ) (f : Form) → IsStatementOf (statements.Label m) f → (n : ℕ) → with_first m at n ≡ before_form f at n
+  label_stands : (m : ℕ) (f : Form90) → IsStatementOf (statements.Label m) f → (n : ℕ) → with_first m at n ≡ before_form f at n
   label_stands m (forms.Continue (d ∷ ds)) h zero = ap (λ (k : ℕ). k ∷ at 0) h
   label_stands m (forms.Continue (d ∷ ds)) h (suc n) = refl
   label_stands m f h n = absurd h

@@ -4,7 +4,7 @@ use Rattle.std.proofs.Math.Seq.{drop-append_seam, take-append_seam}
 use Rattle.std.proofs.lemmas.Bool.{cases_lt, cases_eq}
 use Rattle.std.proofs.lemmas.List.{take-append-drop, length-append, drop_all}
 use Rattle.f90_grammar.specs.Blocks.{Placed}
-use Rattle.f90_grammar.specs.Order.{Place, IsPlaceIn}
+use Rattle.f90_grammar.specs.Order.{Place90, IsPlaceIn}
 use Rattle.f90_blocks.specs.places.First.{IsFirstPlace, FindsFirst}
 use Rattle.f90_statement.specs.Views.{AreOf}
 
@@ -42,7 +42,7 @@ drop_next [] (suc i) x rest e = absurd (cc)
 drop_next (a ∷ xs) zero x rest e = cc
 drop_next (a ∷ xs) (suc i) x rest e = drop_next xs i x rest e
 
-abbrev pub place_at : List Placed → ℕ → Placed → List Placed → Place
+abbrev pub place_at : List Placed → ℕ → Placed → List Placed → Place90
 place_at ps i p rest = record { before = take i ps; here = p; after = rest }
 
 pub is_in_text : (ps : List Placed) (i : ℕ) (p : Placed) (rest : List Placed) → drop i ps ≡ p ∷ rest → IsPlaceIn ps (place_at ps i p rest)
@@ -54,10 +54,10 @@ numbered [] (suc i) p rest e = absurd (cc)
 numbered (q ∷ ps) zero p rest e = refl
 numbered (q ∷ ps) (suc i) p rest e = ap suc (numbered ps i p rest e)
 
-abbrev placed : List Placed → Placed → List Placed → Place
+abbrev placed : List Placed → Placed → List Placed → Place90
 placed b h a = record { before = b; here = h; after = a }
 
-pub same_place : (ps : List Placed) (i : ℕ) (p : Placed) (rest : List Placed) (q : Place) → drop i ps ≡ p ∷ rest → IsPlaceIn ps q → length q.before ≡ i
+pub same_place : (ps : List Placed) (i : ℕ) (p : Placed) (rest : List Placed) (q : Place90) → drop i ps ≡ p ∷ rest → IsPlaceIn ps q → length q.before ≡ i
     → q ≡ place_at ps i p rest
 same_place ps i p rest q e o n =
     let d : drop i ps ≡ q.here ∷ q.after
@@ -68,14 +68,14 @@ same_place ps i p rest q e o n =
     by : (b : List Placed) (h : Placed) (a : List Placed) → b ≡ take i ps → h ∷ a ≡ p ∷ rest → placed b h a ≡ placed (take i ps) p rest
     by b h a t d = cc
 
-pub within : (ps : List Placed) (q : Place) → IsPlaceIn ps q → length q.before < length ps
+pub within : (ps : List Placed) (q : Place90) → IsPlaceIn ps q → length q.before < length ps
 within ps q o = omega (arith, ap length o ∙ length-append q.before (q.here ∷ q.after))
 
-module _ (ps : List Placed) (H : Place → Type 0) where
+module _ (ps : List Placed) (H : Place90 → Type 0) where
   -- ---- from the front
 
   abbrev pub NoneBefore : ℕ → Type 0
-  NoneBefore i = (q : Place) → IsPlaceIn ps q → length q.before < i → H q → ⊥
+  NoneBefore i = (q : Place90) → IsPlaceIn ps q → length q.before < i → H q → ⊥
 
   pub none_yet : NoneBefore 0
   none_yet q o l h = absurd (omega arith)
@@ -102,15 +102,15 @@ module _ (ps : List Placed) (H : Place → Type 0) where
   -- ---- from the end
 
   pub record IsFirstFrom (i n : ℕ) : Type 0 where
-    pub place : Place
+    pub place : Place90
     pub in_text : IsPlaceIn ps place
     pub holds : H place
     pub number : n ≡ length place.before
-    pub first : (other : Place) → IsPlaceIn ps other → i ≤ length other.before → H other → n ≤ length other.before
+    pub first : (other : Place90) → IsPlaceIn ps other → i ≤ length other.before → H other → n ≤ length other.before
 
   abbrev pub FindsFrom : ℕ → Option ℕ → Type 0
   FindsFrom i (Some n) = IsFirstFrom i n
-  FindsFrom i None = (q : Place) → IsPlaceIn ps q → i ≤ length q.before → H q → ⊥
+  FindsFrom i None = (q : Place90) → IsPlaceIn ps q → i ≤ length q.before → H q → ⊥
 
   pub none_behind : (i : ℕ) → length ps ≤ i → FindsFrom i None
   none_behind i l q o k h = let w = within ps q o in absurd (omega (arith, w))

@@ -13,13 +13,13 @@ use Rattle.meaning.specs.Names.{is_among}
 use Rattle.meaning.specs.Typed90.{IsDoVariable}
 use Rattle.f90_laws.specs.blocks.Places.{SuitsPlace, loop_variables}
 use Rattle.f90_grammar.specs.Forms as forms
-use Rattle.f90_grammar.specs.Forms.{Form, IsWritten}
+use Rattle.f90_grammar.specs.Forms.{Form90, IsWritten90}
 use Rattle.f90_grammar.specs.Items as items
-use Rattle.f90_grammar.specs.Items.{Direction, Input, Output, ItemPhrase, ItemPhrases, Sole, More, IsItem, AreItems, item_tree, item_trees}
+use Rattle.f90_grammar.specs.Items.{Direction, Input, Output, ItemPhrase90, ItemPhrases90, Sole, More, IsItem90, AreItems90, item_tree90, item_trees90}
 use Rattle.f90_grammar.specs.Order.{Opened, InIf, InElse, InDo, opened_by}
 use Rattle.f90_grammar.specs.Phrases.{value_of_digits, tree_of}
 use Rattle.f90_grammar.specs.Surroundings.{ItemKeepsVariables, ItemsKeepVariables}
-use Rattle.f90_grammar.specs.Words.{Word}
+use Rattle.f90_grammar.specs.Words.{Word90}
 use Rattle.f90_names.specs.kinds.declarations.Names.{AreNamesOf}
 use Rattle.f90_names.specs.declared.kinds.declarations.names.Names.{Names}
 use Rattle.f90_read.specs.surroundings.Lists.{scalar_in, stored_name, item_misuses, items_misuse}
@@ -59,8 +59,8 @@ module _ (ds : List Declaration) (d : Direction) (around : List (List ℕ)) wher
 
 module _ (names : Names) (ds : List Declaration) (function : List ℕ → Option Intrinsic) (of : AreNamesOf names ds) (proper : AreProper ds function) (vars : List (List ℕ)) where
   mutual
-    item_right : (d : Direction) (i : ItemPhrase) (lists : List (List ℕ)) → IsItem d i → ArePlain function (lists ++ vars)
-        → Refutes (item_misuses (scalar_in names) (is_among vars) d i lists) (ItemKeepsVariables ds d (item_tree function i) (lists ++ vars))
+    item_right : (d : Direction) (i : ItemPhrase90) (lists : List (List ℕ)) → IsItem90 d i → ArePlain function (lists ++ vars)
+        → Refutes (item_misuses (scalar_in names) (is_among vars) d i lists) (ItemKeepsVariables ds d (item_tree90 function i) (lists ++ vars))
     item_right Output (items.Of p) lists g a = never tt
     item_right Input (items.Of p) lists g a =
         same_answer (stores_is vars lists (stored_name p))
@@ -69,20 +69,20 @@ module _ (names : Names) (ds : List Declaration) (function : List ℕ → Option
     item_right d (items.Loop is x l u s) lists g a =
         both _ _ (variable_is names ds function of proper x vars lists) (λ v. items_right d is (x ∷ lists) g.0 (scalar_plain names ds function of proper x v.integer, a))
 
-    items_right : (d : Direction) (is : ItemPhrases) (lists : List (List ℕ)) → AreItems d is → ArePlain function (lists ++ vars)
-        → Refutes (items_misuse (scalar_in names) (is_among vars) d is lists) (ItemsKeepVariables ds d (tree.items (item_trees function is)) (lists ++ vars))
+    items_right : (d : Direction) (is : ItemPhrases90) (lists : List (List ℕ)) → AreItems90 d is → ArePlain function (lists ++ vars)
+        → Refutes (items_misuse (scalar_in names) (is_among vars) d is lists) (ItemsKeepVariables ds d (tree.items (item_trees90 function is)) (lists ++ vars))
     items_right d (Sole i) lists g a = either_way (item_right d i lists g a) (λ h. (h, tt)) (λ h. h.0)
     items_right d (More is i) lists g a =
         either_way (both _ _ (item_right d i lists g.1 a) (λ k. items_right d is lists g.0 a))
-        (λ h. keep_append ds d (lists ++ vars) (item_trees function is) (item_tree function i ∷ []) h.1 (h.0, tt))
-        (λ h. let k = keep_apart ds d (lists ++ vars) (item_trees function is) (item_tree function i ∷ []) h in (k.1.0, k.0))
+        (λ h. keep_append ds d (lists ++ vars) (item_trees90 function is) (item_tree90 function i ∷ []) h.1 (h.0, tt))
+        (λ h. let k = keep_apart ds d (lists ++ vars) (item_trees90 function is) (item_tree90 function i ∷ []) h in (k.1.0, k.0))
 
   -- ---- statements
 
   abbrev round : List ℕ → Surroundings
   round ahead = record { variables = vars; ahead = ahead }
 
-  pub form_right : (f : Form) (ws : List Word) (ahead : List ℕ) → IsWritten f ws → ArePlain function vars
+  pub form_right : (f : Form90) (ws : List Word90) (ahead : List ℕ) → IsWritten90 f ws → ArePlain function vars
       → Refutes (misuses_form (scalar_in names) (is_among vars) f || leads_wrongly (target_of f) ahead) (SuitsPlace ds function f (round ahead))
   form_right (forms.Program x) ws ahead h a = never tt
   form_right forms.ImplicitNone ws ahead h a = never tt
@@ -110,7 +110,7 @@ module _ (names : Names) (ds : List Declaration) (function : List ℕ → Option
 
 -- the variables of loops behind a statement in which nothing is wrong
 module _ (names : Names) (ds : List Declaration) (function : List ℕ → Option Intrinsic) (of : AreNamesOf names ds) (proper : AreProper ds function) where
-  pub plain_next : (f : Form) (os : List Opened) → ArePlain function (loop_variables os)
+  pub plain_next : (f : Form90) (os : List Opened) → ArePlain function (loop_variables os)
       → misuses_form (scalar_in names) (is_among (loop_variables os)) f ≡ false → ArePlain function (loop_variables (opened_by f os))
   plain_next (forms.If p) os a e = a
   plain_next (forms.Do x l u s) os a e =

@@ -14,14 +14,14 @@ use Rattle.std.proofs.lemmas.Slice.Eq.{bytes_eq-Decides}
 use Rattle.tree.specs.Plain.{Declaration}
 use Rattle.meaning.specs.Names.{is_among, IsInByteOrder}
 use Rattle.f90_grammar.specs.Blocks.{Placed}
-use Rattle.f90_grammar.specs.Declared.{declarations_in, declarations_of, names_of, is_repeated, declares_again}
-use Rattle.f90_grammar.specs.Order.{Place, IsPlaceIn}
+use Rattle.f90_grammar.specs.Declared.{declarations_in, declarations_of, declared_names_of, is_repeated, declares_again}
+use Rattle.f90_grammar.specs.Order.{Place90, IsPlaceIn}
 use Rattle.f90_laws.proofs.readings.Lists.{left_false, right_false, both_false, here, there, nowhere, cases_of}
 use Rattle.f90_laws.proofs.readings.Lists.{all_weaker}
 use Rattle.f90_names.specs.kinds.declarations.Declarations.{AreInOrder}
 
 abbrev is_named : List Declaration → List ℕ → Bool
-is_named ds x = is_among (names_of ds) x
+is_named ds x = is_among (declared_names_of ds) x
 
 -- ---- names that aren't declared
 
@@ -65,10 +65,10 @@ record AreNewOnce (front ds : List Declaration) : Type 0 where
   pub new : AreNew front ds
   pub once : AreOnce ds
 
-unrepeated : (front ds : List Declaration) → is_repeated (names_of front) (names_of ds) ≡ false → AreNewOnce front ds
+unrepeated : (front ds : List Declaration) → is_repeated (declared_names_of front) (declared_names_of ds) ≡ false → AreNewOnce front ds
 unrepeated front [] h = record { new = λ d c. absurd (nowhere d c); once = tt }
 unrepeated front (e ∷ es) h =
-    let first = left_false (is_named front e.name) (is_repeated (names_of (e ∷ front)) (names_of es)) h in
+    let first = left_false (is_named front e.name) (is_repeated (declared_names_of (e ∷ front)) (declared_names_of es)) h in
     let more = unrepeated (e ∷ front) es (right_false (is_named front e.name) _ h) in
     record {
       new = λ d c. behind first more.new d (cases_of e es d c);
@@ -97,7 +97,7 @@ both_once (x ∷ xs) ys h n k = (
 
 -- no statement declares a name again
 abbrev pub NoneAgain : List Placed → Type 0
-NoneAgain ps = (p : Place) → IsPlaceIn ps p → declares_again p.before p.here.form ≡ false
+NoneAgain ps = (p : Place90) → IsPlaceIn ps p → declares_again p.before p.here.form ≡ false
 
 declared_front : (front : List Placed) (p : Placed) (d : Declaration)
     → Contains (declarations_of front) d ⊎ Contains (declarations_in p.form) d
@@ -123,11 +123,11 @@ declared_front (q ∷ qs) p d h = by (declared_front qs p d) h
         Contains-append_right (declarations_in q.form) (declarations_of (qs ++ p ∷ [])) d (more (inr c))
 
 once_behind : (front rest : List Placed)
-    → ((p : Place) → IsPlaceIn (front ++ rest) p → declares_again p.before p.here.form ≡ false)
+    → ((p : Place90) → IsPlaceIn (front ++ rest) p → declares_again p.before p.here.form ≡ false)
     → AreNewOnce (declarations_of front) (declarations_of rest)
 once_behind front [] h = record { new = λ d c. absurd (nowhere d c); once = tt }
 once_behind front (p ∷ ps) h =
-    let place : Place = record { before = front; here = p; after = ps } in
+    let place : Place90 = record { before = front; here = p; after = ps } in
     let first = unrepeated (declarations_of front) (declarations_in p.form) (h place refl) in
     let more = once_behind (front ++ p ∷ []) ps (λ q i. h q (sym (append_assoc front (p ∷ []) ps) ∙ i)) in
     record {
@@ -152,11 +152,11 @@ abbrev IsBelow : List ℕ → List ℕ → Type 0
 IsBelow x y = slice_cmp nat_cmp x y ≡ Less
 
 abbrev IsBelowAll : List ℕ → List Declaration → Type 0
-IsBelowAll x ds = AllByRecursion (λ (y : List ℕ). IsBelow x y) (names_of ds)
+IsBelowAll x ds = AllByRecursion (λ (y : List ℕ). IsBelow x y) (declared_names_of ds)
 
 record HasOrder (ds : List Declaration) : Type 0 where
   pub sorted : List Declaration
-  pub rises : IsInByteOrder (names_of sorted)
+  pub rises : IsInByteOrder (declared_names_of sorted)
   pub to : (d : Declaration) → Contains ds d → Contains sorted d
   pub from : (d : Declaration) → Contains sorted d → Contains ds d
   pub once : length ds ≡ length sorted
@@ -166,10 +166,10 @@ record HasOrder (ds : List Declaration) : Type 0 where
 below_more : (x y : List ℕ) (ds : List Declaration) → IsBelow x y → IsBelowAll y ds → IsBelowAll x ds
 below_more x y ds l h =
     all_weaker (λ (z : List ℕ). IsBelow y z) (λ (z : List ℕ). IsBelow x z)
-    (λ z k. nat_list_cmp_total.trans x y z l k) (names_of ds) h
+    (λ z k. nat_list_cmp_total.trans x y z l k) (declared_names_of ds) h
 
 -- a declaration with a new name, behind the least of those in order
-module _ (d e : Declaration) (es : List Declaration) (rises : IsInByteOrder (names_of (e ∷ es))) where
+module _ (d e : Declaration) (es : List Declaration) (rises : IsInByteOrder (declared_names_of (e ∷ es))) where
   module _ (more : HasOrder (d ∷ es)) where
     along : (f : Declaration) → (e ≡ f) ⊎ Contains es f → Contains (e ∷ more.sorted) f
     along f (inl s) = subst (Contains (e ∷ more.sorted)) s (here e more.sorted)
@@ -219,7 +219,7 @@ module _ (d e : Declaration) (es : List Declaration) (rises : IsInByteOrder (nam
   placed_by Greater g n more =
       behind_least more (nat_list_cmp_total.antisymm e.name d.name ∙ ap ordering_reverse g)
 
-insert : (d : Declaration) (ds : List Declaration) → IsInByteOrder (names_of ds) → is_named ds d.name ≡ false
+insert : (d : Declaration) (ds : List Declaration) → IsInByteOrder (declared_names_of ds) → is_named ds d.name ≡ false
     → HasOrder (d ∷ ds)
 insert d [] rises n = record {
   sorted = d ∷ [];

@@ -4,9 +4,9 @@ use Rattle.std.specs.Prelude.{◌↔◌}
 use Rattle.std.proofs.lemmas.List.Elements.{Contains-append_left, Contains-append_right, Contains-append_cases}
 use Rattle.tree.specs.declared.ops.Kind.{Kind}
 use Rattle.f90_grammar.specs.Forms as forms
-use Rattle.f90_grammar.specs.Forms.{Entity}
+use Rattle.f90_grammar.specs.Forms.{EntityForm90}
 use Rattle.f90_grammar.specs.FreeForm.{FreeStatement}
-use Rattle.f90_grammar.specs.Refusals.{IsFormOf, IsDeclaredIn}
+use Rattle.f90_grammar.specs.Refusals.{IsFormOf90, IsDeclaredIn}
 use Rattle.f90_laws.proofs.readings.Lists.{here, there, nowhere, cases_of}
 use Rattle.f90_laws.proofs.unique.Statements.{one_statement}
 
@@ -16,11 +16,11 @@ AreDeclared ss xs = (x : List ℕ) → Contains xs x ↔ IsDeclaredIn ss x
 record IsDeclaration (s : FreeStatement) : Type 0 where
   pub kind : Kind
   pub allocatable : Bool
-  pub entities : List Entity
-  pub form : IsFormOf s (forms.Declare kind allocatable entities)
+  pub entities : List EntityForm90
+  pub form : IsFormOf90 s (forms.Declare kind allocatable entities)
 
-abbrev names_in : List Entity → List (List ℕ)
-names_in es = map (λ (e : Entity). e.name) es
+abbrev names_in : List EntityForm90 → List (List ℕ)
+names_in es = map (λ (e : EntityForm90). e.name) es
 
 none_declared : AreDeclared [] []
 none_declared x = (λ c. absurd (nowhere x c), λ i. absurd (nowhere i.statement i.stands))
@@ -69,11 +69,11 @@ module _ (s : FreeStatement) (ss : List FreeStatement) (xs : List (List ℕ)) (a
     is_in x i (inl e) =
         let f = forms.Declare i.kind i.allocatable i.entities in
         let g = forms.Declare d.kind d.allocatable d.entities in
-        let of : IsFormOf s f = subst (λ (t : FreeStatement). IsFormOf t f) (sym e) i.form in
+        let of : IsFormOf90 s f = subst (λ (t : FreeStatement). IsFormOf90 t f) (sym e) i.form in
         let one : f ≡ g = one_statement s f g of d.form in
         let same : i.entities ≡ d.entities = cc in
         Contains-append_left (names_in d.entities) xs x
-        (subst (λ (es : List Entity). Contains (names_in es) x) same i.name)
+        (subst (λ (es : List EntityForm90). Contains (names_in es) x) same i.name)
     is_in x i (inr c) =
         Contains-append_right (names_in d.entities) xs x ((are x).1 (behind ss x (s ∷ ss) i c))
 
@@ -92,7 +92,7 @@ module _ (s : FreeStatement) (ss : List FreeStatement) (xs : List (List ℕ)) (a
           kind = i.kind;
           allocatable = i.allocatable;
           entities = i.entities;
-          form = subst (λ (t : FreeStatement). IsFormOf t (forms.Declare i.kind i.allocatable i.entities)) (sym e)
+          form = subst (λ (t : FreeStatement). IsFormOf90 t (forms.Declare i.kind i.allocatable i.entities)) (sym e)
               i.form;
         }))
     is_behind x i (inr c) = (are x).1 (behind ss x (s ∷ ss) i c)

@@ -11,18 +11,18 @@ use Rattle.reading.specs.refusal_order.Answered.{IsAnswered}
 use Rattle.reading.proofs.refusal_order.Least.{none_or_first}
 use Rattle.f90_grammar.specs.Blocks.{Placed}
 use Rattle.f90_grammar.specs.Bounds.{HasManyNames, declared_up_to}
-use Rattle.f90_grammar.specs.Order.{Place, IsPlaceIn}
-use Rattle.f90_grammar.specs.Refusals.{HasCause, PassesNames, IsRefusable, Refused90}
+use Rattle.f90_grammar.specs.Order.{Place90, IsPlaceIn}
+use Rattle.f90_grammar.specs.Refusals.{HasCause90, PassesNames, IsRefusable, Refused90}
 use Rattle.f90_grammar.specs.Refusals.IsRefusable.{For, ForNames}
 use Rattle.f90_laws.proofs.readings.Lists.{here, nowhere, cases_of}
 use Rattle.f90_laws.proofs.unique.Lines.{one_text}
 
 -- ---- the places at which too many names are declared
 
-abbrev place : List Placed → Placed → List Placed → Place
+abbrev place : List Placed → Placed → List Placed → Place90
 place before here after = record { before = before; here = here; after = after }
 
-abbrev has_many : Place → Bool
+abbrev has_many : Place90 → Bool
 has_many p = nat_lt limits.program_names90 (length (declared_up_to p))
 
 many_tells : (m n : ℕ) → m < n → nat_lt m n ≡ true
@@ -57,7 +57,7 @@ finds front (q ∷ between) p after h =
     (subst (λ (ps : List Placed). HasManyNames (place ps p after)) (sym (append_assoc front (q ∷ []) between)) h))
 
 record IsFound (ps : List Placed) (r : Refusal) : Type 0 where
-  pub it : Place
+  pub it : Place90
   pub stands : IsPlaceIn ps it
   pub many : HasManyNames it
   pub is : r ≡ refusal_at Limit90 it.here.line
@@ -93,7 +93,7 @@ found_in front (p ∷ ps) r c =
 
 -- ---- a text that has no other cause
 
-module _ (text : List ℕ) (line : ℕ) (names : PassesNames text line) (none : (r : Refusal) → HasCause text r → ⊥) where
+module _ (text : List ℕ) (line : ℕ) (names : PassesNames text line) (none : (r : Refusal) → HasCause90 text r → ⊥) where
   abbrev all : List Refusal
   all = findings [] names.statements
 

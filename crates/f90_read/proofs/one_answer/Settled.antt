@@ -11,12 +11,12 @@ use Rattle.f90_grammar.specs.Blocks.{Placed}
 use Rattle.f90_grammar.specs.Contents.{SuitsCallsIn}
 use Rattle.f90_grammar.specs.Declared.{declarations_of, functions_in, declares_again}
 use Rattle.f90_grammar.specs.FreeForm.{FreeStatement, AreStatements}
-use Rattle.f90_grammar.specs.Order.{IsInOrder, is_disordered, title_of}
+use Rattle.f90_grammar.specs.Order.{IsInOrder, is_disordered, title_in_text}
 use Rattle.f90_grammar.specs.Reading.{AreStatementsOf}
 use Rattle.f90_grammar.specs.Programs.{IsProgramOf}
-use Rattle.f90_grammar.specs.Refusals.{HasNoForm, HasCause, IsRefusable, Reads90, functions_but}
+use Rattle.f90_grammar.specs.Refusals.{HasNoForm90, HasCause90, IsRefusable, Reads90, functions_but}
 use Rattle.f90_grammar.specs.Refusals.HoldsIn.{AtPlace, HasNoStatement}
-use Rattle.f90_grammar.specs.Refusals.HasCause.{InLines, InWords, InStatements}
+use Rattle.f90_grammar.specs.Refusals.HasCause90.{InLines, InWords, InStatements}
 use Rattle.f90_grammar.specs.Refusals.IsRefusable.{For, ForNames}
 use Rattle.f90_grammar.specs.Surroundings.{AreBody}
 use Rattle.f90_laws.proofs.blocks.Bodies.{body_forms}
@@ -36,14 +36,14 @@ use Rattle.f90_read.proofs.one_answer.ManyNames.{refused_for_names}
 -- ---- the program that statements are
 
 program_of : (ps : List Placed) (ds : List Declaration) (b : Block) → IsInOrder ps → AreInOrder (declarations_of ps) ds
-    → AreBody ps b → IsProgramOf ps (record { name = title_of ps; declarations = ds; body = b })
+    → AreBody ps b → IsProgramOf ps (record { name = title_in_text ps; declarations = ds; body = b })
 program_of ps ds b order o body =
     record { in_order = order; title = refl; sorted = o.sorted; each = o.each; once = o.once; body = body }
 
 -- ---- a text for which nothing can be refused
 
 module _ (text : List ℕ) (clear : (r : Refusal) → IsRefusable text r → ⊥) where
-  no_cause : (r : Refusal) → HasCause text r → ⊥
+  no_cause : (r : Refusal) → HasCause90 text r → ⊥
   no_cause r h = clear r (For r h)
 
   abbrev ss : List FreeStatement
@@ -52,7 +52,7 @@ module _ (text : List ℕ) (clear : (r : Refusal) → IsRefusable text r → ⊥
   of_lines : AreStatements 1 (lines text) ss
   of_lines = are_statements text (λ r h. no_cause r (InLines r h))
 
-  formed : (s : FreeStatement) → Contains ss s → HasNoForm ss s → ⊥
+  formed : (s : FreeStatement) → Contains ss s → HasNoForm90 ss s → ⊥
   formed s c n = no_cause (refusal_at Syntax90 s.line) (InWords ss s of_lines c n)
 
   module _ (ps : List Placed) (t : AreStatementsOf text ps) where
@@ -75,7 +75,7 @@ module _ (text : List ℕ) (clear : (r : Refusal) → IsRefusable text r → ⊥
     program =
         let o = byte_order ps none_again in
         let b = body_forms text ps t in_order in (
-          record { name = title_of ps; declarations = o.0; body = b.0 },
+          record { name = title_in_text ps; declarations = o.0; body = b.0 },
           program_of ps o.0 b.0 in_order o.1 b.1,
         )
 

@@ -4,7 +4,7 @@ use Rattle.tree.specs.Plain as tree
 use Rattle.tree.specs.Plain.{Declaration}
 use Rattle.tree.specs.View.{expression_of, statement_of}
 use Rattle.tree.specs.declared.stmts.Stmt.{Stmt}
-use Rattle.f90_grammar.specs.Declared.{IsKnown, use_of}
+use Rattle.f90_grammar.specs.Declared.{IsKnown, use90_of}
 use Rattle.f90_grammar.specs.Items.{Input, Output}
 use Rattle.f90_names.specs.kinds.Known.{KnowsNames, KnowsAll, KnowsReference, KnowsItems}
 use Rattle.f90_blocks.specs.declared.statement_trees.nodes.StatementTree.{StatementTree}
@@ -17,8 +17,8 @@ module _ (ds : List Declaration) where
   KnowsStatement (tree.Where line m p r e) = KnowsNames ds p × KnowsReference ds r × KnowsNames ds e
   KnowsStatement (tree.Read line is) = KnowsItems ds Input is
   KnowsStatement (tree.Print line is) = KnowsItems ds Output is
-  KnowsStatement (tree.Allocate line x es) = IsKnown ds (use_of x 0) × KnowsAll ds es
-  KnowsStatement (tree.Deallocate line x) = IsKnown ds (use_of x 0)
+  KnowsStatement (tree.Allocate line x es) = IsKnown ds (use90_of x 0) × KnowsAll ds es
+  KnowsStatement (tree.Deallocate line x) = IsKnown ds (use90_of x 0)
   KnowsStatement s = Unit {0}
 
   -- what a logical IF does

@@ -4,10 +4,10 @@ use Rattle.tree.specs.Plain.{Declaration}
 use Rattle.meaning.specs.Typed.{declared}
 use Rattle.f90_grammar.specs.Blocks.{Placed}
 use Rattle.f90_grammar.specs.Contents.{SuitsCallsIn, has_wide_literal_in}
-use Rattle.f90_grammar.specs.Forms.{Form, IsWritten}
-use Rattle.f90_grammar.specs.Order.{Place, IsPlaceIn}
+use Rattle.f90_grammar.specs.Forms.{Form90, IsWritten90}
+use Rattle.f90_grammar.specs.Order.{Place90, IsPlaceIn}
 use Rattle.f90_grammar.specs.Reading.{function_by}
-use Rattle.f90_grammar.specs.Words.{Word}
+use Rattle.f90_grammar.specs.Words.{Word90}
 use Rattle.f90_blocks.specs.statement_trees.Executable.{IsMarked}
 use Rattle.f90_trees.specs.Hiding.{function_in}
 use Rattle.f90_trees.specs.declared.functions.Functions.{Functions}
@@ -21,14 +21,14 @@ pub record AreFunctionsOf (functions : Functions) (ds : List Declaration) : Type
 -- there, and none of its literals is too great
 pub record IsReadyAt (ds : List Declaration) (p : Placed) : Type 0 where
   pub marked : IsMarked p
-  pub written : (ws : List Word) × IsWritten p.form ws
+  pub written : (ws : List Word90) × IsWritten90 p.form ws
   pub calls : SuitsCallsIn (function_by ds) p.form
   pub narrow : has_wide_literal_in p.form ≡ false
 
 pub record AreReady (functions : Functions) (ds : List Declaration) (ps : List Placed) : Type 0 where
   pub of_text : AreFunctionsOf functions ds
-  pub each : (p : Place) → IsPlaceIn ps p → IsReadyAt ds p.here
+  pub each : (p : Place90) → IsPlaceIn ps p → IsReadyAt ds p.here
 
 -- it holds of the form of each statement
-abbrev pub HoldsOfAll : (Form → Type 0) → List Placed → Type 0
-HoldsOfAll Good ps = (p : Place) → IsPlaceIn ps p → Good p.here.form
+abbrev pub HoldsOfAll : (Form90 → Type 0) → List Placed → Type 0
+HoldsOfAll Good ps = (p : Place90) → IsPlaceIn ps p → Good p.here.form

@@ -6,15 +6,15 @@ use Rattle.indexmap.specs.IndexMap.{get}
 use Rattle.f90_laws.specs.blocks.Places.{labels_ahead}
 use Rattle.f90_grammar.specs.Blocks.{Placed}
 use Rattle.f90_grammar.specs.Forms as forms
-use Rattle.f90_grammar.specs.Forms.{Form}
-use Rattle.f90_grammar.specs.Order.{Place}
+use Rattle.f90_grammar.specs.Forms.{Form90}
+use Rattle.f90_grammar.specs.Order.{Place90}
 use Rattle.f90_grammar.specs.Phrases.{value_of_digits}
 use Rattle.f90_read.specs.declared.surroundings.jumping.LabelsAhead.{LabelsAhead}
 
 -- ---- GO TOs
 
 -- the label that a GO TO names
-abbrev pub target_of : Form → Option ℕ
+abbrev pub target_of : Form90 → Option ℕ
 target_of (forms.Go label) = Some (value_of_digits label)
 target_of (forms.Test p f) = target_of f
 target_of f = None
@@ -24,7 +24,7 @@ abbrev pub leads_wrongly : Option ℕ → List ℕ → Bool
 leads_wrongly None ns = false
 leads_wrongly (Some n) ns = nat_eq n 0 || not (list_any (nat_eq n) ns)
 
-abbrev pub jumps_wrongly_at : Place → Bool
+abbrev pub jumps_wrongly_at : Place90 → Bool
 jumps_wrongly_at p = leads_wrongly (target_of p.here.form) (labels_ahead p.after 0)
 
 -- ---- the labels that are held: `at n` are those that may be jumped to from within n blocks that have begun since

@@ -5,8 +5,8 @@ use Rattle.tree.specs.declared.ops.Kind.{Kind}
 use Rattle.tree.specs.declared.ops.Kind.TheVariants.{Integer, Logical}
 use Rattle.meaning.specs.Names.{is_among}
 use Rattle.f90_grammar.specs.Items as items
-use Rattle.f90_grammar.specs.Items.{Direction, Input, Output, ItemPhrase, ItemPhrases, Sole, More}
-use Rattle.f90_grammar.specs.Phrases.{Phrase, Name, Listed}
+use Rattle.f90_grammar.specs.Items.{Direction, Input, Output, ItemPhrase90, ItemPhrases90, Sole, More}
+use Rattle.f90_grammar.specs.Phrases.{Phrase90, Name, Listed}
 use Rattle.f90_names.specs.kinds.declarations.Names.{found}
 use Rattle.f90_names.specs.declared.kinds.declarations.names.Declared.{Declared}
 use Rattle.f90_names.specs.declared.kinds.declarations.names.Names.{Names}
@@ -27,7 +27,7 @@ abbrev pub scalar_in : Names → List ℕ → Bool
 scalar_in names x = is_scalar (found names x)
 
 -- the name of what is stored into, which is a name or a name with a list
-abbrev pub stored_name : Phrase → Option (List ℕ)
+abbrev pub stored_name : Phrase90 → Option (List ℕ)
 stored_name (Name x) = Some x
 stored_name (Listed x ps) = Some x
 stored_name p = None
@@ -48,7 +48,7 @@ stores_round round None lists = false
 stores_round round (Some x) lists = is_round round lists x
 
 -- READ stores into its items
-abbrev pub sets_round : (List ℕ → Bool) → Direction → Phrase → List (List ℕ) → Bool
+abbrev pub sets_round : (List ℕ → Bool) → Direction → Phrase90 → List (List ℕ) → Bool
 sets_round round Input p lists = stores_round round (stored_name p) lists
 sets_round round Output p lists = false
 
@@ -69,12 +69,12 @@ module _ (scalar round : List ℕ → Bool) where
   is_wrong_variable lists x = not (scalar x) || is_round round lists x
 
   abbrev mutual
-    pub item_misuses : Direction → ItemPhrase → List (List ℕ) → Bool
+    pub item_misuses : Direction → ItemPhrase90 → List (List ℕ) → Bool
     item_misuses d (items.Of p) lists = sets_round round d p lists
     item_misuses d (items.Text t) lists = false
     item_misuses d (items.Loop is x a b c) lists = is_wrong_variable lists x || items_misuse d is (x ∷ lists)
 
-    pub items_misuse : Direction → ItemPhrases → List (List ℕ) → Bool
+    pub items_misuse : Direction → ItemPhrases90 → List (List ℕ) → Bool
     items_misuse d (Sole i) lists = item_misuses d i lists
     items_misuse d (More is i) lists = item_misuses d i lists || items_misuse d is lists
 

@@ -3,9 +3,9 @@ use Rattle.std.specs.Prelude.{◌≡◌, ℕ, min, true, false, Option, Some, No
 use Rattle.tree.specs.Plain.{Declaration}
 use Rattle.tree.specs.declared.functions.Intrinsic.{Intrinsic}
 use Rattle.f90_grammar.specs.Blocks.{Placed}
-use Rattle.f90_grammar.specs.Forms.{IsWritten}
+use Rattle.f90_grammar.specs.Forms.{IsWritten90}
 use Rattle.f90_grammar.specs.Reading.{declares}
-use Rattle.f90_grammar.specs.Words.{Word}
+use Rattle.f90_grammar.specs.Words.{Word90}
 
 abbrev pub earlier : Option ℕ → Option ℕ → Option ℕ
 earlier None b = b
@@ -19,4 +19,4 @@ pub record AreProper (ds : List Declaration) (function : List ℕ → Option Int
 
 -- the statement is written in words
 abbrev pub IsWrittenOut : Placed → Type 0
-IsWrittenOut p = (ws : List Word) × IsWritten p.form ws
+IsWrittenOut p = (ws : List Word90) × IsWritten90 p.form ws

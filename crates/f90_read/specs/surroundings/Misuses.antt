@@ -3,15 +3,15 @@ use Rattle.std.specs.Prelude.{◌≡◌, ℕ, Bool, true, false, List, [], ◌�
 use Rattle.meaning.specs.Names.{is_among}
 use Rattle.f90_laws.specs.blocks.Places.{loop_variables}
 use Rattle.f90_grammar.specs.Forms as forms
-use Rattle.f90_grammar.specs.Forms.{Form}
+use Rattle.f90_grammar.specs.Forms.{Form90}
 use Rattle.f90_grammar.specs.Items.{Input, Output}
-use Rattle.f90_grammar.specs.Order.{Place, Opened, InIf, InElse, InDo, blocks_round}
+use Rattle.f90_grammar.specs.Order.{Place90, Opened, InIf, InElse, InDo, blocks_round}
 use Rattle.f90_read.specs.surroundings.Lists.{stored_name, stores_round, is_wrong_variable, items_misuse}
 use Rattle.f90_read.specs.declared.surroundings.looping.OpenBlocks.{OpenBlocks}
 
 -- something is wrong in the statement
 module _ (scalar round : List ℕ → Bool) where
-  abbrev pub misuses_form : Form → Bool
+  abbrev pub misuses_form : Form90 → Bool
   misuses_form (forms.Assign l r) = stores_round round (stored_name l) []
   misuses_form (forms.Where m l r) = stores_round round (stored_name l) []
   misuses_form (forms.Test p f) = misuses_form f
@@ -20,7 +20,7 @@ module _ (scalar round : List ℕ → Bool) where
   misuses_form (forms.Print is) = items_misuse scalar round Output is []
   misuses_form f = false
 
-abbrev pub misuses_at : (List ℕ → Bool) → Place → Bool
+abbrev pub misuses_at : (List ℕ → Bool) → Place90 → Bool
 misuses_at scalar p = misuses_form scalar (is_among (loop_variables (blocks_round p))) p.here.form
 
 -- ---- what is open

@@ -5,13 +5,12 @@ ghost use Rattle.indexmap.specs.IndexMap.{get};
 ghost use Rattle.std.specs.List.{list_any};
 ghost use Rattle.f90_laws.specs.blocks.Places.{labels_ahead};
 ghost use Rattle.f90_grammar.specs.Blocks as grammar;
-ghost use Rattle.f90_grammar.specs.Forms.{Form};
+ghost use Rattle.f90_grammar.specs.Forms.{Form90};
 ghost use Rattle.f90_blocks.specs.places.forms.Places.{IsPlacedOf};
 ghost use Rattle.f90_blocks.specs.places.First.{FindsFirst};
 ghost use Rattle.f90_statement.specs.Views.{AreOf, IsActionOf, IsStatementOf};
 ghost use Rattle.f90_read.specs.surroundings.Jumps.{AreAhead, AreLevels, is_there, with_first, entered, left, front};
-ghost use Rattle.f90_read.specs.surroundings.Jumps.{others};
-ghost use Rattle.f90_read.specs.surroundings.Jumps.{target_of, leads_wrongly, jumps_wrongly_at};
+ghost use Rattle.f90_read.specs.surroundings.Jumps.{others, target_of, leads_wrongly, jumps_wrongly_at};
 
 use f90_blocks::places::forms::Placed;
 use f90_statement::{Action, Statement};
@@ -21,7 +20,7 @@ use tree::Memory;
 
 // The label that a GO TO names.
 fn target_in(action: &Action) -> Option<u32>
-    ensures { (f : Form) → IsActionOf action.now f → result ≡ target_of f }
+    ensures { (f : Form90) → IsActionOf action.now f → result ≡ target_of f }
 {
     match action {
         Action::Go(label) => Some(*label),
@@ -34,7 +33,7 @@ fn target_in(action: &Action) -> Option<u32>
 }
 
 fn target_of(statement: &Statement) -> Option<u32>
-    ensures { (f : Form) → IsStatementOf statement.now f → result ≡ target_of f }
+    ensures { (f : Form90) → IsStatementOf statement.now f → result ≡ target_of f }
 {
     match statement {
         Statement::Act(action) => target_in(action),
@@ -199,7 +198,7 @@ impl LabelsAhead {
 
     // The statement is a GO TO whose label is 0 or isn't ahead.
     fn are_missed_by(&self, statement: &Statement) -> bool
-        ensures { (f : Form) (ps : List grammar.Placed) → IsStatementOf statement.now f → AreAhead self.now ps
+        ensures { (f : Form90) (ps : List grammar.Placed) → IsStatementOf statement.now f → AreAhead self.now ps
             → result ≡ leads_wrongly (target_of f) (labels_ahead ps 0) }
     {
         match target_of(statement) {

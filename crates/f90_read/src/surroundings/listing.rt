@@ -1,8 +1,8 @@
 //! DO variables in the lists of READ and PRINT.
 ghost use Rattle.std.specs.Prelude.{◌≡◌, [], List, IfOk, reverse};
 ghost use Rattle.meaning.specs.Names.{is_among};
-ghost use Rattle.f90_grammar.specs.Items.{ItemPhrases};
-ghost use Rattle.f90_grammar.specs.Phrases.{Phrase};
+ghost use Rattle.f90_grammar.specs.Items.{ItemPhrases90};
+ghost use Rattle.f90_grammar.specs.Phrases.{Phrase90};
 ghost use Rattle.f90_expressions.specs.Reading.{IsMadeOf};
 ghost use Rattle.f90_expressions.specs.Views.{node_seen};
 ghost use Rattle.f90_statement.specs.items.Flat as flats;
@@ -60,7 +60,7 @@ fn name_in_node(part: &Part) -> Option<Name>
 
 // The name of what is stored into.
 fn stored_name(variable: &Expression) -> Option<Name>
-    ensures { (p : Phrase) → IsMadeOf variable.now p → result ≡ stored_name p }
+    ensures { (p : Phrase90) → IsMadeOf variable.now p → result ≡ stored_name p }
 {
     match variable.nodes.as_slice().split_last() {
         Some((part, _)) => name_in_node(part),
@@ -93,7 +93,7 @@ impl<'a> Surroundings<'a> {
 
     /// What is stored into is a DO variable round it.
     pub(crate) fn stores_round(&self, variable: &Expression, lists: &[Name]) -> bool
-        ensures { (p : Phrase) → IsMadeOf variable.now p
+        ensures { (p : Phrase90) → IsMadeOf variable.now p
             → result ≡ stores_round (is_among (reverse self.now.variables.now)) (stored_name p) (reverse lists.now) }
     {
         match stored_name(variable) {
@@ -140,7 +140,7 @@ impl<'a> Surroundings<'a> {
         direction: Direction,
         list: &ItemList,
     ) -> Result<bool, Memory>
-        ensures { (is : ItemPhrases) → IsListOf list.now is → IfOk result (λ wrong. wrong
+        ensures { (is : ItemPhrases90) → IsListOf list.now is → IfOk result (λ wrong. wrong
             ≡ items_misuse (scalar_in self.now.names.now) (is_among (reverse self.now.variables.now))
             (direction_of direction) is []) }
     {

@@ -2,7 +2,7 @@
 ghost use Rattle.std.specs.Prelude.{◌≡◌, List, [], ◌∷◌, true, IfOk, OnOk, reverse};
 ghost use Rattle.meaning.specs.Names.{is_among};
 ghost use Rattle.f90_grammar.specs.Blocks as grammar;
-ghost use Rattle.f90_grammar.specs.Forms.{Form};
+ghost use Rattle.f90_grammar.specs.Forms.{Form90};
 ghost use Rattle.f90_grammar.specs.Order.{Opened, InIf, InDo, opened_by};
 ghost use Rattle.f90_blocks.specs.places.forms.Places.{IsPlacedOf};
 ghost use Rattle.f90_blocks.specs.places.First.{FindsFirst};
@@ -21,7 +21,7 @@ use tree::{Memory, Name};
 impl<'a> Surroundings<'a> {
     // Something is wrong in the statement.
     fn misuses_action(&self, alloc: Global, action: &Action) -> Result<bool, Memory>
-        ensures { (f : Form) → IsActionOf action.now f → IfOk result (λ wrong. wrong
+        ensures { (f : Form90) → IsActionOf action.now f → IfOk result (λ wrong. wrong
             ≡ misuses_form (scalar_in self.now.names.now) (is_among (reverse self.now.variables.now)) f) }
     {
         match action {
@@ -38,7 +38,7 @@ impl<'a> Surroundings<'a> {
 
     // Something is wrong in the statement.
     fn misuses(&self, alloc: Global, statement: &Statement) -> Result<bool, Memory>
-        ensures { (f : Form) → IsStatementOf statement.now f → IfOk result (λ wrong. wrong
+        ensures { (f : Form90) → IsStatementOf statement.now f → IfOk result (λ wrong. wrong
             ≡ misuses_form (scalar_in self.now.names.now) (is_among (reverse self.now.variables.now)) f) }
     {
         match statement {
@@ -105,7 +105,7 @@ impl OpenBlocks {
 
     // What is open behind the statement.
     fn pass(&mut self, statement: &Statement) -> Result<(), Memory>
-        ensures { (f : Form) (os : List Opened) → IsStatementOf statement.now f → AreOpen self.old os
+        ensures { (f : Form90) (os : List Opened) → IsStatementOf statement.now f → AreOpen self.old os
             → OnOk result (AreOpen self.new (opened_by f os)) }
     {
         match statement {

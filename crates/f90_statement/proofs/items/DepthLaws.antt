@@ -1,9 +1,9 @@
 -- The parts of a list tell how deep it is.
 use Rattle.std.proofs.Common.{arith, ◌≡◌, ◌+◌, ℕ, List, [], ◌∷◌, ◌++◌, refl, ap, sym, ◌∙◌, append_assoc, append-nil}
 use Rattle.std.specs.Prelude.{max}
-use Rattle.f90_grammar.specs.Phrases.{depth}
+use Rattle.f90_grammar.specs.Phrases.{phrase_depth90}
 use Rattle.f90_grammar.specs.Items as items
-use Rattle.f90_grammar.specs.Items.{ItemPhrase, ItemPhrases, Sole, More, step_depth, item_depth, items_depth}
+use Rattle.f90_grammar.specs.Items.{ItemPhrase90, ItemPhrases90, Sole, More, step_depth90, item_depth90, items_depth90}
 use Rattle.f90_expressions.specs.Machine.{counted, deeper}
 use Rattle.f90_statement.specs.items.Depths.{Levels, levels, with_part, with_parts}
 use Rattle.f90_statement.specs.items.Flat as flats
@@ -45,28 +45,28 @@ of_none : (m : ℕ) → m ≡ max m (counted 0)
 of_none m = omega arith
 
 mutual
-  item_deep : (i : ItemPhrase) (r : List flats.Node) (m : ℕ) (ls : List ℕ) → with_parts (flat_item i ++ r) (levels m ls) ≡ with_parts r (levels (max m (counted (item_depth i))) ls)
+  item_deep : (i : ItemPhrase90) (r : List flats.Node) (m : ℕ) (ls : List ℕ) → with_parts (flat_item i ++ r) (levels m ls) ≡ with_parts r (levels (max m (counted (item_depth90 i))) ls)
   item_deep (items.Of p) r m ls = refl
   item_deep (items.Text t) r m ls = at_depth r ls m (max m (counted 0)) (of_none m)
   item_deep (items.Loop is x a b c) r m ls =
       grouped (flat_items is) (Turns x a b c ∷ []) r (levels 0 (m ∷ ls))
       ∙ (items_deep is (Turns x a b c ∷ r) 0 (m ∷ ls)
-      ∙ at_depth r ls _ _ (of_loop m (items_depth is) (depth a) (depth b) (step_depth c)))
+      ∙ at_depth r ls _ _ (of_loop m (items_depth90 is) (phrase_depth90 a) (phrase_depth90 b) (step_depth90 c)))
 
-  items_deep : (is : ItemPhrases) (r : List flats.Node) (m : ℕ) (ls : List ℕ) → with_parts (flat_items is ++ r) (levels m ls) ≡ with_parts r (levels (max m (counted (items_depth is))) ls)
+  items_deep : (is : ItemPhrases90) (r : List flats.Node) (m : ℕ) (ls : List ℕ) → with_parts (flat_items is ++ r) (levels m ls) ≡ with_parts r (levels (max m (counted (items_depth90 is))) ls)
   items_deep (Sole i) r m ls = item_deep i r m ls
   items_deep (More is i) r m ls =
       grouped (flat_items is) (flat_item i) r (levels m ls)
       ∙ (items_deep is (flat_item i ++ r) m ls
-      ∙ (item_deep i r (max m (counted (items_depth is))) ls ∙ at_depth r ls _ _ (of_two m (items_depth is) (item_depth i))))
+      ∙ (item_deep i r (max m (counted (items_depth90 is))) ls ∙ at_depth r ls _ _ (of_two m (items_depth90 is) (item_depth90 i))))
 
 none_before : (n : ℕ) → max 0 (counted n) ≡ counted n
 none_before n = omega arith
 
-pub list_deep : (is : ItemPhrases) → (with_parts (flat_items is) (levels 0 [])).inner ≡ counted (items_depth is)
+pub list_deep : (is : ItemPhrases90) → (with_parts (flat_items is) (levels 0 [])).inner ≡ counted (items_depth90 is)
 list_deep is =
     ap (λ (q : List flats.Node). (with_parts q (levels 0 [])).inner) (sym (append-nil (flat_items is)))
-    ∙ (ap (λ (l : Levels). l.inner) (items_deep is [] 0 []) ∙ none_before (items_depth is))
+    ∙ (ap (λ (l : Levels). l.inner) (items_deep is [] 0 []) ∙ none_before (items_depth90 is))
 
 -- ---- node by node
 

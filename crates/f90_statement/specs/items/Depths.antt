@@ -1,7 +1,7 @@
 -- How deep a list of PRINT or READ is, from its parts.
 use Rattle.std.specs.Prelude.{ℕ, max, Option, List, [], ◌∷◌}
-use Rattle.f90_grammar.specs.Phrases.{Phrase, depth}
-use Rattle.f90_grammar.specs.Items.{step_depth}
+use Rattle.f90_grammar.specs.Phrases.{Phrase90, phrase_depth90}
+use Rattle.f90_grammar.specs.Items.{step_depth90}
 use Rattle.f90_expressions.specs.Machine.{counted, deeper}
 use Rattle.f90_statement.specs.items.Flat.{Node, Of, Text, Begin, Turns}
 
@@ -17,11 +17,11 @@ abbrev pub ended : ℕ → List ℕ → Levels
 ended m [] = levels m []
 ended m (l ∷ ls) = levels (max l m) ls
 
-abbrev pub depth_of_bounds : Phrase → Phrase → Option Phrase → ℕ
-depth_of_bounds a b c = max (max (counted (depth a)) (counted (depth b))) (counted (step_depth c))
+abbrev pub depth_of_bounds : Phrase90 → Phrase90 → Option Phrase90 → ℕ
+depth_of_bounds a b c = max (max (counted (phrase_depth90 a)) (counted (phrase_depth90 b))) (counted (step_depth90 c))
 
 abbrev pub with_part : Node → Levels → Levels
-with_part (Of p) l = levels (max l.inner (counted (depth p))) l.outer
+with_part (Of p) l = levels (max l.inner (counted (phrase_depth90 p))) l.outer
 with_part (Text t) l = l
 with_part Begin l = levels 0 (l.inner ∷ l.outer)
 with_part (Turns x a b c) l =

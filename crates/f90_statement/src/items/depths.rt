@@ -1,6 +1,6 @@
 //! How deep a list is.
 ghost use Rattle.std.specs.Prelude.{◌≡◌, [], List, Option, IfOk, reverse};
-ghost use Rattle.f90_grammar.specs.Phrases.{Phrase};
+ghost use Rattle.f90_grammar.specs.Phrases.{Phrase90};
 ghost use Rattle.f90_expressions.specs.Machine.{deeper};
 ghost use Rattle.f90_statement.specs.items.Depths.{depth_of_bounds, levels, with_part, with_parts};
 ghost use Rattle.f90_statement.specs.items.Flat as flats;
@@ -22,7 +22,7 @@ fn deepened(depth: u16) -> u16
 }
 
 fn bounds_depth(bounds: &Bounds) -> u16
-    ensures { (a b : Phrase) (c : Option Phrase) → AreBoundsOf bounds.now a b c → result ≡ depth_of_bounds a b c }
+    ensures { (a b : Phrase90) (c : Option Phrase90) → AreBoundsOf bounds.now a b c → result ≡ depth_of_bounds a b c }
 {
     let step = match &bounds.step {
         Some(step) => step.depth,

@@ -4,5 +4,5 @@ mod fronts;
 mod variables;
 
 pub use bounds::Bounds;
-pub use fronts::{Mark, after, after_head, after_name};
+pub use fronts::{Separator, after, after_head, after_name};
 pub use variables::{is_reference, is_variable};

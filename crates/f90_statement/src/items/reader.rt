@@ -2,21 +2,20 @@
 ghost use Rattle.std.specs.Prelude.{◌≡◌, ◌+◌, ◌-◌, ◌<◌, ◌≤◌, ◌^◌, ◌↔◌, ◌∷◌, ℕ, List, true, false};
 ghost use Rattle.std.specs.Prelude.{IfOk, IsTrue, length, drop};
 ghost use Rattle.f90_grammar.specs.Items as items;
-ghost use Rattle.f90_grammar.specs.Items.{ItemPhrases, AreItems, MayStand, written_items};
-ghost use Rattle.f90_grammar.specs.Phrases.{Phrase};
+ghost use Rattle.f90_grammar.specs.Items.{ItemPhrases90, AreItems90, MayStand90, written_items90};
+ghost use Rattle.f90_grammar.specs.Phrases.{Phrase90};
 ghost use Rattle.f90_grammar.specs.Words as words;
 ghost use Rattle.f90_expressions.specs.words.Tokens.{words_of};
 ghost use Rattle.f90_expressions.specs.Reading.{IsMadeOf};
 ghost use Rattle.f90_statement.specs.items.Commas.{comma_marks};
 ghost use Rattle.f90_statement.specs.items.Reading.{AreList, Gives};
 ghost use Rattle.f90_statement.specs.items.Views.{direction_of, Steps, IsValueFront, IsConstantFront, IsControlFront};
-ghost use Rattle.f90_statement.specs.items.Views.{Controls};
-ghost use Rattle.f90_statement.specs.items.Views.{IsParts};
+ghost use Rattle.f90_statement.specs.items.Views.{Controls, IsParts};
 
 use crate::items::commas::commas;
 use crate::items::depths::depth;
 use crate::items::nodes::{Direction, ItemList, Node};
-use crate::items::parts::{Bounds, Mark, after, is_variable};
+use crate::items::parts::{Bounds, Separator, after, is_variable};
 use f90_expressions::words::Token;
 use f90_expressions::{Expression, read};
 use reading::Stop;
@@ -34,7 +33,7 @@ pub(crate) struct Step<'a> {
 }
 
 fn may_stand(direction: Direction, expression: &Expression) -> bool
-    ensures { (p : Phrase) → IsMadeOf expression.now p → IsTrue result ↔ MayStand (direction_of direction) p }
+    ensures { (p : Phrase90) → IsMadeOf expression.now p → IsTrue result ↔ MayStand90 (direction_of direction) p }
 {
     match direction {
         Direction::Input => is_variable(expression),
@@ -117,10 +116,10 @@ fn list_or_value<'a>(
 ) -> Result<Step<'a>, Stop>
     requires marks { marks.now ≡ comma_marks (words_of tokens.now) }
     requires few { loops + length tokens.now < 2 ^ 64 }
-    requires no_text { (t : List ℕ) (us : List words.Word) → words_of tokens.now ≡ words.Constant t ∷ us → ⊥ }
+    requires no_text { (t : List ℕ) (us : List words.Word90) → words_of tokens.now ≡ words.Constant t ∷ us → ⊥ }
     ensures { Steps result (direction_of direction) true loops (words_of tokens.now) }
 {
-    let Some(rest) = after(Mark::Open, tokens) else {
+    let Some(rest) = after(Separator::Open, tokens) else {
         return value(alloc, direction, loops, tokens);
     };
     if !marks[0] {
@@ -174,7 +173,7 @@ fn control(alloc: Global, loops: usize, name: Name, tokens: &[Token]) -> Result<
 {
     match Bounds::read(alloc, tokens) {
         Ok((bounds, rest)) => {
-            let Some(rest) = after(Mark::Close, rest) else {
+            let Some(rest) = after(Separator::Close, rest) else {
                 return Err(Stop::Syntax);
             };
             let node = Node::Turns(name, bounds);
@@ -231,7 +230,7 @@ fn next_part<'a>(
     if due {
         return item(alloc, direction, loops, tokens, marks);
     }
-    let Some(rest) = after(Mark::Comma, tokens) else {
+    let Some(rest) = after(Separator::Comma, tokens) else {
         return Err(Stop::Syntax);
     };
     behind_comma(alloc, direction, loops, rest, &marks[1..])
@@ -276,8 +275,8 @@ impl ItemList {
         // What is read is a list.
         ensures found { IfOk result (λ list. AreList (direction_of direction) (words_of tokens.now) list) }
         // A list is read, in one way alone.
-        ensures only { (is : ItemPhrases) → AreItems (direction_of direction) is
-            → words_of tokens.now ≡ written_items is → Gives result is }
+        ensures only { (is : ItemPhrases90) → AreItems90 (direction_of direction) is
+            → words_of tokens.now ≡ written_items90 is → Gives result is }
     {
         let nodes = parts(alloc, direction, tokens)?;
         let depth = depth(alloc, nodes.as_slice())?;

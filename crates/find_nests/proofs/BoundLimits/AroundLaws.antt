@@ -11,20 +11,20 @@ use Rattle.subscripts.specs.declared.affine.Affine.{Affine}
 use Rattle.linear_forms.specs.Linear.{Form, sum, multiple, linear, form_of}
 use Rattle.linear_forms.specs.Places.{padded, terms_from}
 use Rattle.linear_forms.specs.Affines.{IsAffineOf, IsFound}
-use Rattle.find_nests.specs.bound_limits.Composed.{Outer, filled, with_multiples, without_loops, composed, is_among, those_in, variables_of, bound_form}
+use Rattle.find_nests.specs.bound_limits.Composed.{Outer, filled, with_multiples, symbol_terms, composed, is_loop_among, those_in, outer_variables_of, composed_bound}
 
 module _ (names : List (List ℕ)) where
   abbrev among : List Outer → List Outer
-  among rs = filter (is_among names) rs
+  among rs = filter (is_loop_among names) rs
 
-  passed : (r : Outer) (rs : List Outer) → is_among names r ≡ false → among (r ∷ rs) ≡ among rs
+  passed : (r : Outer) (rs : List Outer) → is_loop_among names r ≡ false → among (r ∷ rs) ≡ among rs
   passed r rs e = ap (λ b. cond b (r ∷ among rs) (among rs)) e
 
-  taken : (r : Outer) (rs : List Outer) → is_among names r ≡ true → among (r ∷ rs) ≡ r ∷ among rs
+  taken : (r : Outer) (rs : List Outer) → is_loop_among names r ≡ true → among (r ∷ rs) ≡ r ∷ among rs
   taken r rs e = ap (λ b. cond b (r ∷ among rs) (among rs)) e
 
   -- a loop whose variable isn't among the names
-  pub without_one : (g w : Form) (ts : List ℤ) (r : Outer) (rs all : List Outer) → all ≡ r ∷ rs → is_among names r ≡ false
+  pub without_one : (g w : Form) (ts : List ℤ) (r : Outer) (rs all : List Outer) → all ≡ r ∷ rs → is_loop_among names r ≡ false
       → (length (among rs) ≤ length ts → w ≡ with_multiples g ts (among rs))
       → length (among all) ≤ length ts → w ≡ with_multiples g ts (among all)
   without_one g w ts r rs all e out h few =
@@ -32,7 +32,7 @@ module _ (names : List (List ℕ)) where
       h (subst (λ l. length l ≤ length ts) same few) ∙ ap (with_multiples g ts) (sym same)
 
   -- one whose variable is
-  pub with_one : (g h w : Form) (ts us : List ℤ) (t : ℤ) (r : Outer) (rs all : List Outer) → all ≡ r ∷ rs → is_among names r ≡ true
+  pub with_one : (g h w : Form) (ts us : List ℤ) (t : ℤ) (r : Outer) (rs all : List Outer) → all ≡ r ∷ rs → is_loop_among names r ≡ true
       → ts ≡ t ∷ us → h ≡ sum g (multiple t r.form)
       → (length (among rs) ≤ length us → w ≡ with_multiples h us (among rs))
       → length (among all) ≤ length ts → w ≡ with_multiples g ts (among all)
@@ -44,7 +44,7 @@ module _ (names : List (List ℕ)) where
       ∙ sym (ap (λ l. with_multiples g l (among all)) is ∙ ap (with_multiples g (t ∷ us)) same)
 
   -- no coefficient is left for one
-  pub none_left : (ts : List ℤ) (r : Outer) (rs all : List Outer) → all ≡ r ∷ rs → is_among names r ≡ true → ts ≡ []
+  pub none_left : (ts : List ℤ) (r : Outer) (rs all : List Outer) → all ≡ r ∷ rs → is_loop_among names r ≡ true → ts ≡ []
       → length (among all) ≤ length ts → ⊥
   none_left ts r rs all e in' is few =
       let same : among all ≡ r ∷ among rs = ap among e ∙ taken r rs in' in
@@ -72,12 +72,12 @@ module _ (symbols : List (List ℕ)) (around : List Outer) (e : Expression) wher
   rs = those_in e around
 
   abbrev vs : List (List ℕ)
-  vs = variables_of rs
+  vs = outer_variables_of rs
 
   abbrev whole : Option Form
   whole = form_of vs symbols e
 
-  pub bound-none : IsFound (length vs) whole None → bound_form symbols around e ≡ None
+  pub bound-none : IsFound (length vs) whole None → composed_bound symbols around e ≡ None
   bound-none h = by whole refl h
     where
       by : (o : Option Form) → whole ≡ o → IsFound (length vs) o None → option_map (composed (length symbols) rs) whole ≡ None
@@ -85,8 +85,8 @@ module _ (symbols : List (List ℕ)) (around : List Outer) (e : Expression) wher
       by (Some f) q h = absurd h
 
   pub bound-some : (a : Affine) (w base : Form) → length a.loops ≡ 7 → IsFound (length vs) whole (Some a)
-      → ((k : ℕ) (f : Form) → IsAffineOf k f a → base ≡ without_loops (length symbols) k f)
-      → (length rs ≤ length a.loops → w ≡ with_multiples base a.loops rs) → Some w ≡ bound_form symbols around e
+      → ((k : ℕ) (f : Form) → IsAffineOf k f a → base ≡ symbol_terms (length symbols) k f)
+      → (length rs ≤ length a.loops → w ≡ with_multiples base a.loops rs) → Some w ≡ composed_bound symbols around e
   bound-some a w base seven h first more = by whole refl h
     where
       count : length vs ≡ length rs
@@ -97,14 +97,14 @@ module _ (symbols : List (List ℕ)) (around : List Outer) (e : Expression) wher
       by (Some f) q h =
           let few = few_loops vs symbols e f q in
           let is : w ≡ with_multiples base a.loops rs = more (omega (arith, few, count, seven)) in
-          let start : base ≡ without_loops (length symbols) (length rs) f = first (length vs) f h ∙ ap (λ n. without_loops (length symbols) n f) count in
+          let start : base ≡ symbol_terms (length symbols) (length rs) f = first (length vs) f h ∙ ap (λ n. symbol_terms (length symbols) n f) count in
           let same : with_multiples base a.loops rs ≡ with_multiples base f.coefficients rs =
           same_multiples base a.loops f.coefficients rs (λ k l. h.loops k ∙ get_or-take (length vs) f.coefficients k (pos 0) (omega (arith, l, count))) in
           ap (λ (z : Form). Some z) (is ∙ same ∙ ap (λ (z : Form). with_multiples z f.coefficients rs) start)
           ∙ ap (option_map (composed (length symbols) rs)) (sym q)
 
-pub without_loops-is : (n k : ℕ) (f : Form) (a : Affine) (w : Form) → IsAffineOf k f a
-    → ((cs : List ℤ) → a.syms ≡ padded (terms_from 0 cs) → w.coefficients ≡ filled n cs) → w.constant ≡ a.constant → w ≡ without_loops n k f
-without_loops-is n k f a w i h e =
+pub symbol_terms-is : (n k : ℕ) (f : Form) (a : Affine) (w : Form) → IsAffineOf k f a
+    → ((cs : List ℤ) → a.syms ≡ padded (terms_from 0 cs) → w.coefficients ≡ filled n cs) → w.constant ≡ a.constant → w ≡ symbol_terms n k f
+symbol_terms-is n k f a w i h e =
     ap (λ cs. let q : Form = record { coefficients = cs; constant = w.constant } in q) (h (drop k f.coefficients) i.symbols)
     ∙ ap (λ z. let q : Form = record { coefficients = filled n (drop k f.coefficients); constant = z } in q) (e ∙ i.constant)

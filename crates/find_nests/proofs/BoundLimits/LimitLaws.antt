@@ -4,7 +4,7 @@ use Rattle.std.specs.Prelude.{nat_abs, neg_ℤ, int_div, int_le, ◌==◌}
 use Rattle.std.proofs.Math.Nat.{div-le_self}
 use Rattle.linear_forms.specs.Linear.{Form, added, sum, multiple}
 use Rattle.linear_forms.specs.Places.{unit_form}
-use Rattle.find_nests.specs.bound_limits.Limits.{keeps_limits, plus_constant, difference, dividend, is_constant, folded, normal, end_keeps_limits, all_keep_limits}
+use Rattle.find_nests.specs.bound_limits.Limits.{keeps_limits, plus_constant, difference, dividend, is_constant_form, folded, normal, end_keeps_limits, all_keep_limits}
 use Rattle.find_nests.specs.bound_limits.View.{IsSized, CanAdd}
 use Rattle.find_nests.proofs.BoundLimits.Lists.{added-nil}
 use Rattle.find_nests.proofs.BoundLimits.SizeLaws.{abs-sum, sized_sum, can_add, sized_more, sized_of_kept, sized_unit}
@@ -95,7 +95,7 @@ sized_normal f k place h i =
 
 -- ---- the forms of a loop
 
-pub end_of_constant : (n : ℕ) (step : ℤ) (first top end : Form) (kept : Bool) → is_constant top ≡ true → end ≡ plus_constant first (step *ℤ folded step top)
+pub end_of_constant : (n : ℕ) (step : ℤ) (first top end : Form) (kept : Bool) → is_constant_form top ≡ true → end ≡ plus_constant first (step *ℤ folded step top)
     → kept ≡ keeps_limits n 0 end → kept ≡ end_keeps_limits n step first top
 end_of_constant n step first top end kept h e is =
     is ∙ ap (keeps_limits n 0) e

@@ -13,7 +13,7 @@ use Rattle.tree.specs.declared.stmts.Block.{Block as Block', out-Block}
 use Rattle.tree.proofs.Equations.{statement_equations, statement_of-do, block_of-is}
 use Rattle.linear_forms.specs.Linear.{Form, constant_of}
 use Rattle.nest_reasons.specs.Increments.{step_of, suitable_or_none}
-use Rattle.find_nests.specs.bound_limits.Composed.{Outer, bound_form}
+use Rattle.find_nests.specs.bound_limits.Composed.{Outer, composed_bound}
 use Rattle.find_nests.specs.bound_limits.Limits.{normal, all_keep_limits}
 use Rattle.find_nests.specs.declared.bound_limits.around.Outer.{Outer as Outer'}
 use Rattle.find_nests.specs.bound_limits.View.{outer_of, AreSmall, IsSized}
@@ -87,24 +87,24 @@ module _ (symbols : List (List ℕ)) (around : List Outer) (a b c : Expression) 
   abbrev leaves_by : Option ℤ → Option Form → Option Form → Bool
   leaves_by z f l = leaves_with (length symbols) z f l
 
-  leaves-is : (z : Option ℤ) (f l : Option Form) → z ≡ step_of c → f ≡ bound_form symbols around a → l ≡ bound_form symbols around b → leaves_by z f l ≡ leaves
+  leaves-is : (z : Option ℤ) (f l : Option Form) → z ≡ step_of c → f ≡ composed_bound symbols around a → l ≡ composed_bound symbols around b → leaves_by z f l ≡ leaves
   leaves-is z f l e g h =
-      ap (λ z. leaves_by z f l) e ∙ ap (λ f. leaves_by (step_of c) f l) g ∙ ap (leaves_by (step_of c) (bound_form symbols around a)) h
+      ap (λ z. leaves_by z f l) e ∙ ap (λ f. leaves_by (step_of c) f l) g ∙ ap (leaves_by (step_of c) (composed_bound symbols around a)) h
 
   pub no_step : None ≡ step_of c → leaves ≡ true
-  no_step e = sym (leaves-is None (bound_form symbols around a) (bound_form symbols around b) e refl refl)
+  no_step e = sym (leaves-is None (composed_bound symbols around a) (composed_bound symbols around b) e refl refl)
 
-  pub no_first : (z : ℤ) → Some z ≡ step_of c → None ≡ bound_form symbols around a → leaves ≡ true
-  no_first z e g = sym (leaves-is (Some z) None (bound_form symbols around b) e g refl)
+  pub no_first : (z : ℤ) → Some z ≡ step_of c → None ≡ composed_bound symbols around a → leaves ≡ true
+  no_first z e g = sym (leaves-is (Some z) None (composed_bound symbols around b) e g refl)
 
-  pub no_last : (z : ℤ) (f : Form) → Some z ≡ step_of c → Some f ≡ bound_form symbols around a → None ≡ bound_form symbols around b → leaves ≡ true
+  pub no_last : (z : ℤ) (f : Form) → Some z ≡ step_of c → Some f ≡ composed_bound symbols around a → None ≡ composed_bound symbols around b → leaves ≡ true
   no_last z f e g h = sym (leaves-is (Some z) (Some f) None e g h)
 
-  pub by_limits : (z : ℤ) (f l : Form) (kept : Bool) → Some z ≡ step_of c → Some f ≡ bound_form symbols around a → Some l ≡ bound_form symbols around b
+  pub by_limits : (z : ℤ) (f l : Form) (kept : Bool) → Some z ≡ step_of c → Some f ≡ composed_bound symbols around a → Some l ≡ composed_bound symbols around b
       → kept ≡ all_keep_limits (length symbols) z f l → leaves ≡ not kept
   by_limits z f l kept e g h k = sym (leaves-is (Some z) (Some f) (Some l) e g h) ∙ ap not (sym k)
 
-  pub outer-is : (x : List ℕ) (z : ℤ) (f : Form) (r : Outer) (place : ℕ) → Some z ≡ step_of c → Some f ≡ bound_form symbols around a
+  pub outer-is : (x : List ℕ) (z : ℤ) (f : Form) (r : Outer) (place : ℕ) → Some z ≡ step_of c → Some f ≡ composed_bound symbols around a
       → place ≡ length symbols + length around → r.variable ≡ x → r.form ≡ normal place z f → r ≡ as_outer symbols around x a c
   outer-is x z f r place e g p same form =
       ap (λ y. let q : Outer = record { variable = y; form = r.form } in q) same

@@ -8,7 +8,7 @@ use Rattle.std.proofs.lemmas.Int.{ints}
 use Rattle.std.proofs.Math.Seq.{drop-nil}
 use Rattle.linear_forms.specs.Linear.{Form, number_at, is_small, all_small, not_zero}
 use Rattle.linear_forms.proofs.Sizes.{both}
-use Rattle.find_nests.specs.bound_limits.Limits.{keeps_limits, is_constant}
+use Rattle.find_nests.specs.bound_limits.Limits.{keeps_limits, is_constant_form}
 use Rattle.find_nests.specs.bound_limits.Numbers.{ForAll, Quantity, HasForm}
 use Rattle.find_nests.proofs.BoundNumbers.Weights.{At, zeros, one_at, zeros_length, one_length, zeros_weighted, one_weighted, parted, front_length, rest_length, none_weighted}
 
@@ -149,7 +149,7 @@ keeps_by_numbers n m f q ends is h = keeps_less n f h.form (same_constant n m f 
 
 -- ---- forms whose number is always the same
 
-pub constant_number : (f : Form) → is_constant f ≡ true → (us : List ℤ) → number_at f us ≡ f.constant
+pub constant_number : (f : Form) → is_constant_form f ≡ true → (us : List ℤ) → number_at f us ≡ f.constant
 constant_number f h us = (let none = none_weighted f.coefficients us (eqb-true (not_zero f.coefficients) 0 h) in omega (arith, ints, none))
 
 module _ (n m : ℕ) (f : Form) (d : ℤ) (h : ForAll n m (λ xs js. number_at f (xs ++ js) ≡ d)) where
@@ -162,7 +162,7 @@ module _ (n m : ℕ) (f : Form) (d : ℤ) (h : ForAll n m (λ xs js. number_at f
   pub always_constant : f.constant ≡ d
   always_constant = same_constant n m f only same_number
 
-  pub constant_always : Ends (n + m) f → is_constant f ≡ true
+  pub constant_always : Ends (n + m) f → is_constant_form f ≡ true
   constant_always ends = eq-eqb (not_zero f.coefficients) 0 (no_zero f.coefficients (λ i. by i (cases_lt i (n + m))))
     where
       by : (i : ℕ) → (i < n + m) ⊎ (n + m ≤ i) → At f.coefficients i ≡ pos 0

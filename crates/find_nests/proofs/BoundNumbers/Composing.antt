@@ -13,7 +13,7 @@ use Rattle.linear_forms.specs.Linear.{Form, weighted, number_at, sum, multiple, 
 use Rattle.linear_forms.specs.Places.{unit_form}
 use Rattle.linear_forms.proofs.LinearLaws.{number_at-sum, number_at-multiple, minus}
 use Rattle.linear_forms.proofs.Ring.{less_times}
-use Rattle.find_nests.specs.bound_limits.Composed.{Outer, with_multiples, without_loops, composed, is_among, those_in, variables_of, bound_form}
+use Rattle.find_nests.specs.bound_limits.Composed.{Outer, with_multiples, symbol_terms, composed, is_loop_among, those_in, outer_variables_of, composed_bound}
 use Rattle.find_nests.specs.bound_limits.Limits.{plus_constant, difference, dividend, normal}
 use Rattle.find_nests.specs.bound_limits.Numbers.{Counted, stands, standing_in, numbers, number_in, dividend_of}
 use Rattle.find_nests.proofs.BoundNumbers.Weights.{At, filled_weighted}
@@ -33,23 +33,23 @@ hold_more q [] (w ∷ ws) o v h x z = absurd h
 hold_more q (p ∷ ps) [] o v h x z = absurd h
 hold_more q (p ∷ ps) (w ∷ ws) o v h x z = (h.0, h.1, hold_more q ps ws o v h.2 x z)
 
-hold_variables : (q : Form → ℤ) (os : List Outer) (vs : List Counted) → Hold q os vs → variables_of os ≡ map (λ (v : Counted). v.variable) vs
+hold_variables : (q : Form → ℤ) (os : List Outer) (vs : List Counted) → Hold q os vs → outer_variables_of os ≡ map (λ (v : Counted). v.variable) vs
 hold_variables q [] [] h = refl
 hold_variables q [] (v ∷ vs) h = absurd h
 hold_variables q (o ∷ os) [] h = absurd h
 hold_variables q (o ∷ os) (v ∷ vs) h = ap₂ (λ x xs. x ∷ xs) h.0 (hold_variables q os vs h.2)
 
-hold_those : (names : List (List ℕ)) (q : Form → ℤ) (os : List Outer) (vs : List Counted) → Hold q os vs → Hold q (filter (is_among names) os) (filter (stands names) vs)
+hold_those : (names : List (List ℕ)) (q : Form → ℤ) (os : List Outer) (vs : List Counted) → Hold q os vs → Hold q (filter (is_loop_among names) os) (filter (stands names) vs)
 hold_those names q [] [] h = tt
 hold_those names q [] (v ∷ vs) h = absurd h
 hold_those names q (o ∷ os) [] h = absurd h
 hold_those names q (o ∷ os) (v ∷ vs) h =
-    let same : is_among names o ≡ stands names v = ap (λ x. list_any (λ y. bytes_eq y x) names) h.0 in
-    subst (λ b. Hold q (cond (is_among names o) (o ∷ filter (is_among names) os) (filter (is_among names) os)) (cond b (v ∷ filter (stands names) vs) (filter (stands names) vs))) same
-    (by (is_among names o) (hold_those names q os vs h.2))
+    let same : is_loop_among names o ≡ stands names v = ap (λ x. list_any (λ y. bytes_eq y x) names) h.0 in
+    subst (λ b. Hold q (cond (is_loop_among names o) (o ∷ filter (is_loop_among names) os) (filter (is_loop_among names) os)) (cond b (v ∷ filter (stands names) vs) (filter (stands names) vs))) same
+    (by (is_loop_among names o) (hold_those names q os vs h.2))
   where
-    by : (b : Bool) → Hold q (filter (is_among names) os) (filter (stands names) vs)
-        → Hold q (cond b (o ∷ filter (is_among names) os) (filter (is_among names) os)) (cond b (v ∷ filter (stands names) vs) (filter (stands names) vs))
+    by : (b : Bool) → Hold q (filter (is_loop_among names) os) (filter (stands names) vs)
+        → Hold q (cond b (o ∷ filter (is_loop_among names) os) (filter (is_loop_among names) os)) (cond b (v ∷ filter (stands names) vs) (filter (stands names) vs))
     by true more = (h.0, h.1, more)
     by false more = more
 
@@ -130,7 +130,7 @@ module _ (symbols : List (List ℕ)) (xs js : List ℤ) (all : length xs ≡ len
 
   composed_number : (os : List Outer) (vs : List Counted) (f : Form) → Hold at_all os vs → at_all (composed (length symbols) os f) ≡ number_at f (numbers vs ++ xs)
   composed_number os vs f h =
-      multiples_number (without_loops (length symbols) (length os) f) f.coefficients os (xs ++ js)
+      multiples_number (symbol_terms (length symbols) (length os) f) f.coefficients os (xs ++ js)
       ∙ ap (λ z. (z +ℤ f.constant) +ℤ total f.coefficients os at_all) (filled_weighted (length symbols) (drop (length os) f.coefficients) xs js all)
       ∙ turned (weighted (drop (length os) f.coefficients) xs) f.constant (total f.coefficients os at_all)
       ∙ ap (λ z. z +ℤ f.constant) (sym (front_weighted at_all f.coefficients os vs xs h))
@@ -138,10 +138,10 @@ module _ (symbols : List (List ℕ)) (xs js : List ℤ) (all : length xs ≡ len
       turned : (w c t : ℤ) → (w +ℤ c) +ℤ t ≡ (t +ℤ w) +ℤ c
       turned w c t = omega (arith, ints)
 
-  pub bound_number : (os : List Outer) (vs : List Counted) (e : Expression) → Hold at_all os vs → option_map at_all (bound_form symbols os e) ≡ number_in symbols xs vs e
+  pub bound_number : (os : List Outer) (vs : List Counted) (e : Expression) → Hold at_all os vs → option_map at_all (composed_bound symbols os e) ≡ number_in symbols xs vs e
   bound_number os vs e h =
       let few = hold_those (names_in e) at_all os vs h in
-      by few (form_of (variables_of (those_in e os)) symbols e)
+      by few (form_of (outer_variables_of (those_in e os)) symbols e)
       ∙ ap (λ names. option_map (λ (f : Form). number_at f (numbers (standing_in e vs) ++ xs)) (form_of names symbols e)) (hold_variables at_all (those_in e os) (standing_in e vs) few)
     where
       by : Hold at_all (those_in e os) (standing_in e vs) → (o : Option Form)

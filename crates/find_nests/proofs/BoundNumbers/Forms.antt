@@ -8,7 +8,7 @@ use Rattle.std.proofs.lemmas.Bool.Decides.{Decides-int_eq}
 use Rattle.std.proofs.lemmas.Int.{ints}
 use Rattle.linear_forms.specs.Linear.{Form, weighted, number_at, sum, multiple, is_small, all_small, not_zero}
 use Rattle.linear_forms.proofs.Sizes.{both}
-use Rattle.find_nests.specs.bound_limits.Limits.{keeps_limits, plus_constant, difference, is_constant, dividend, folded, end_keeps_limits, all_keep_limits}
+use Rattle.find_nests.specs.bound_limits.Limits.{keeps_limits, plus_constant, difference, is_constant_form, dividend, folded, end_keeps_limits, all_keep_limits}
 use Rattle.find_nests.specs.bound_limits.Numbers.{Quantity, ForAll, HasForm, with_trip, dividend_of, EndHasForm}
 use Rattle.find_nests.proofs.BoundNumbers.Alike.{Ends, all_four, keeps_by_numbers, constant_number, always_constant, constant_always}
 use Rattle.find_nests.proofs.BoundNumbers.Composing.{plus_number, sum_number, dividend_number}
@@ -64,10 +64,10 @@ module _ (n m : ℕ) (step : ℤ) (first last : Form) (one : Ends (n + m) first)
   abbrev Varies : Type 0
   Varies = (d : ℤ) → ForAll n m (λ xs js. top_number xs js ≡ d) → ⊥
 
-  constant_known : is_constant top ≡ true → ForAll n m (λ xs js. top_number xs js ≡ top.constant)
+  constant_known : is_constant_form top ≡ true → ForAll n m (λ xs js. top_number xs js ≡ top.constant)
   constant_known c xs js a b = top_is xs js ∙ constant_number top c (xs ++ js)
 
-  known_constant : (d : ℤ) → ForAll n m (λ xs js. top_number xs js ≡ d) → (is_constant top ≡ true) × (top.constant ≡ d)
+  known_constant : (d : ℤ) → ForAll n m (λ xs js. top_number xs js ≡ d) → (is_constant_form top ≡ true) × (top.constant ≡ d)
   known_constant d h =
       let always : ForAll n m (λ xs js. number_at top (xs ++ js) ≡ d) = λ xs js a b. sym (top_is xs js) ∙ h xs js a b in
       (constant_always n m top d always (dividend_ends (n + m) step first last one two), always_constant n m top d always)
@@ -112,10 +112,10 @@ module _ (n m : ℕ) (step : ℤ) (first last : Form) (one : Ends (n + m) first)
     };
   }
     where
-      changes : Varies → is_constant top ≡ false
-      changes varies = by (is_constant top) refl
+      changes : Varies → is_constant_form top ≡ false
+      changes varies = by (is_constant_form top) refl
         where
-          by : (c : Bool) → is_constant top ≡ c → c ≡ false
+          by : (c : Bool) → is_constant_form top ≡ c → c ≡ false
           by true e = absurd (varies top.constant (constant_known e))
           by false e = refl
 
@@ -127,12 +127,12 @@ module _ (n m : ℕ) (step : ℤ) (first last : Form) (one : Ends (n + m) first)
           by false e = refl
 
   end_keeps : EndHasForm n m step (of first) top_number → end_keeps_limits n step first top ≡ true
-  end_keeps h = by (is_constant top) refl (nat_abs step == 1) refl
+  end_keeps h = by (is_constant_form top) refl (nat_abs step == 1) refl
     where
-      varies : is_constant top ≡ false → Varies
+      varies : is_constant_form top ≡ false → Varies
       varies e d always = (let c = (known_constant d always).0 in let no = sym c ∙ e in cc)
 
-      by : (c : Bool) → is_constant top ≡ c → (u : Bool) → (nat_abs step == 1) ≡ u → by_cases c u ≡ true
+      by : (c : Bool) → is_constant_form top ≡ c → (u : Bool) → (nat_abs step == 1) ≡ u → by_cases c u ≡ true
       by true e u g =
           keeps_by_numbers n m (plus_constant first (step *ℤ folded step top)) (λ xs js. of first xs js +ℤ step *ℤ int_div top.constant (pos (nat_abs step)))
           (plus_ends (n + m) first (step *ℤ folded step top) one)

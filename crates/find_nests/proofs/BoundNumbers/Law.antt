@@ -13,9 +13,9 @@ use Rattle.nest_reasons.specs.Loops.{is_linear}
 use Rattle.nest_reasons.specs.Standing.{standing}
 use Rattle.nest_reasons.specs.declared.flaws.Flaw.TheVariants as flaws
 use Rattle.find_nests.specs.declared.reasons.Reason.TheVariants.{Bound}
-use Rattle.find_nests.specs.nest_parts.Numbers.{next, after, after_arms, after_block}
-use Rattle.find_nests.specs.Loops.{SourceLoop, Placed, loops_in, loops_in_arms, loops_in_block}
-use Rattle.find_nests.specs.Reasons.{variables_of, is_flawed, has_reason, leaves}
+use Rattle.find_nests.specs.nest_parts.Numbers.{next_loop_number, number_after, after_arms, after_block}
+use Rattle.find_nests.specs.Loops.{SourceLoop, SurroundedLoop, loops_in, loops_in_arms, loops_in_block}
+use Rattle.find_nests.specs.Reasons.{source_variables_of, is_flawed, has_reason, loop_leaves_limits}
 use Rattle.find_nests.specs.Laws.{BoundIsByNumbers}
 use Rattle.find_nests.specs.bound_limits.Numbers.{Counted, stands, standing_in, numbers, number_in, and_then, at_iteration, counted}
 use Rattle.find_nests.proofs.BoundNumbers.Limits.{AreCounted, not_false, keeps_by_meaning}
@@ -87,11 +87,11 @@ module _ (symbols : List (List ℕ)) where
   AllFormed names [] = Unit {0}
   AllFormed names (l ∷ ls) = (is_linear symbols names l.first ≡ true) × (is_some (step_of l.step) ≡ true) × AllFormed (names ++ l.variable ∷ []) ls
 
-  formed_more : (names : List (List ℕ)) (ls : List SourceLoop) (l : SourceLoop) → AllFormed names ls → is_linear symbols (names ++ variables_of ls) l.first ≡ true → is_some (step_of l.step) ≡ true
+  formed_more : (names : List (List ℕ)) (ls : List SourceLoop) (l : SourceLoop) → AllFormed names ls → is_linear symbols (names ++ source_variables_of ls) l.first ≡ true → is_some (step_of l.step) ≡ true
       → AllFormed names (ls ++ l ∷ [])
   formed_more names [] l h a b = (ap (λ xs. is_linear symbols xs l.first) (sym (append-nil names)) ∙ a, b, tt)
   formed_more names (r ∷ rs) l h a b =
-      (h.0, h.1, formed_more (names ++ r.variable ∷ []) rs l h.2 (ap (λ xs. is_linear symbols xs l.first) (append_assoc names (r.variable ∷ []) (variables_of rs)) ∙ a) b)
+      (h.0, h.1, formed_more (names ++ r.variable ∷ []) rs l h.2 (ap (λ xs. is_linear symbols xs l.first) (append_assoc names (r.variable ∷ []) (source_variables_of rs)) ∙ a) b)
 
   counted_there : (xs : List ℤ) (ls : List SourceLoop) (js : List ℤ) (vs : List Counted) → length js ≡ length ls → AllFormed (names_of vs) ls
       → (out : List Counted) × (counted symbols xs vs ls js ≡ Some out)
@@ -115,18 +115,18 @@ module _ (symbols : List (List ℕ)) where
 
   -- ---- all loops of a statement
 
-  abbrev Unflawed : Placed → Type 0
+  abbrev Unflawed : SurroundedLoop → Type 0
   Unflawed p = (is_flawed flaws.Bound symbols p ≡ false) × (is_flawed flaws.Step symbols p ≡ false)
 
-  abbrev Round : Placed → Type 0
+  abbrev Round : SurroundedLoop → Type 0
   Round p = AllFormed [] p.around
 
-  linear_first : (p : Placed) → Unflawed p → is_linear symbols (variables_of p.around) p.loop.loop.first ≡ true
+  linear_first : (p : SurroundedLoop) → Unflawed p → is_linear symbols (source_variables_of p.around) p.loop.loop.first ≡ true
   linear_first p h =
-      (both (is_linear symbols (variables_of p.around) p.loop.loop.first) (is_linear symbols (variables_of p.around) p.loop.loop.last)
-      (not_false (is_linear symbols (variables_of p.around) p.loop.loop.first && is_linear symbols (variables_of p.around) p.loop.loop.last) h.0)).0
+      (both (is_linear symbols (source_variables_of p.around) p.loop.loop.first) (is_linear symbols (source_variables_of p.around) p.loop.loop.last)
+      (not_false (is_linear symbols (source_variables_of p.around) p.loop.loop.first && is_linear symbols (source_variables_of p.around) p.loop.loop.last) h.0)).0
 
-  has_step : (p : Placed) → Unflawed p → is_some (step_of p.loop.loop.step) ≡ true
+  has_step : (p : SurroundedLoop) → Unflawed p → is_some (step_of p.loop.loop.step) ≡ true
   has_step p h = not_false (is_some (step_of p.loop.loop.step)) h.1
 
   mutual
@@ -139,8 +139,8 @@ module _ (symbols : List (List ℕ)) where
         (rounds_block (after_arms k arms) around other a (second_part Unflawed (loops_in_arms k around arms) (loops_in_block (after_arms k arms) around other) h))
     rounds k around (Do line x first last step body) a h =
         let l : SourceLoop = record { line = line; variable = x; first = first; last = last; step = step; body = body } in
-        let p : Placed = record { around = around; loop = record { before = k; loop = l } } in
-        (a, rounds_block (next k) (around ++ l ∷ []) body (formed_more [] around l a (linear_first p h.0) (has_step p h.0)) h.1)
+        let p : SurroundedLoop = record { around = around; loop = record { before = k; loop = l } } in
+        (a, rounds_block (next_loop_number k) (around ++ l ∷ []) body (formed_more [] around l a (linear_first p h.0) (has_step p h.0)) h.1)
     rounds k around (Label n) a h = tt
     rounds k around (GoTo line n) a h = tt
     rounds k around (Stop line) a h = tt
@@ -159,9 +159,9 @@ module _ (symbols : List (List ℕ)) where
     rounds_block : (k : ℕ) (around : List SourceLoop) (b : Block) → AllFormed [] around → Every Unflawed (loops_in_block k around b) → Every Round (loops_in_block k around b)
     rounds_block k around no_statements a h = tt
     rounds_block k around (statement c cs) a h =
-        joined Round (loops_in k around c) (loops_in_block (after k c) around cs)
-        (rounds k around c a (first_part Unflawed (loops_in k around c) (loops_in_block (after k c) around cs) h))
-        (rounds_block (after k c) around cs a (second_part Unflawed (loops_in k around c) (loops_in_block (after k c) around cs) h))
+        joined Round (loops_in k around c) (loops_in_block (number_after k c) around cs)
+        (rounds k around c a (first_part Unflawed (loops_in k around c) (loops_in_block (number_after k c) around cs) h))
+        (rounds_block (number_after k c) around cs a (second_part Unflawed (loops_in k around c) (loops_in_block (number_after k c) around cs) h))
 
 both_hold : {A : Type 0} (P Q : A → Type 0) (xs : List A) → Every P xs → Every Q xs → Every (λ x. P x × Q x) xs
 both_hold P Q [] h k = tt
@@ -170,15 +170,15 @@ both_hold P Q (x ∷ xs) h k = ((h.0, k.0), both_hold P Q xs h.1 k.1)
 pub bound_is_by_numbers : BoundIsByNumbers
 bound_is_by_numbers symbols c b s =
     let ps = loops_in 0 [] c in
-    let same : has_reason Bound symbols c ≡ list_any (leaves symbols) ps = ap₂ (λ x y. x || (not y && list_any (leaves symbols) ps)) b s in
+    let same : has_reason Bound symbols c ≡ list_any (loop_leaves_limits symbols) ps = ap₂ (λ x y. x || (not y && list_any (loop_leaves_limits symbols) ps)) b s in
     let unflawed = both_hold (λ p. is_flawed flaws.Bound symbols p ≡ false) (λ p. is_flawed flaws.Step symbols p ≡ false) ps
     (none_passes (is_flawed flaws.Bound symbols) ps b) (none_passes (is_flawed flaws.Step symbols) ps s) in
     let round = rounds symbols 0 [] c tt unflawed in (
       λ h p g.
           (keeps_by_meaning symbols p (are_counted symbols p.around (at_place (Round symbols) ps p g.0 g.1 g.2 round))).0
-          (at_place (λ p. leaves symbols p ≡ false) ps p g.0 g.1 g.2 (none_passes (leaves symbols) ps (sym same ∙ h))),
+          (at_place (λ p. loop_leaves_limits symbols p ≡ false) ps p g.0 g.1 g.2 (none_passes (loop_leaves_limits symbols) ps (sym same ∙ h))),
       λ h.
-          same ∙ passes_none (leaves symbols) ps
-          (from_contains (λ p. leaves symbols p ≡ false) ps
+          same ∙ passes_none (loop_leaves_limits symbols) ps
+          (from_contains (λ p. loop_leaves_limits symbols p ≡ false) ps
           (λ p g. (keeps_by_meaning symbols p (are_counted symbols p.around (at_place (Round symbols) ps p g.0 g.1 g.2 round))).1 (h p g))),
     )

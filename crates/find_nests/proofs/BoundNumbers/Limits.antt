@@ -6,9 +6,9 @@ use Rattle.std.specs.Option.{option_map}
 use Rattle.tree.specs.Plain.{Expression}
 use Rattle.linear_forms.specs.Linear.{Form, number_at}
 use Rattle.nest_reasons.specs.Increments.{step_of}
-use Rattle.find_nests.specs.Loops.{SourceLoop, Placed}
-use Rattle.find_nests.specs.Reasons.{leaves, outers}
-use Rattle.find_nests.specs.bound_limits.Composed.{Outer, bound_form}
+use Rattle.find_nests.specs.Loops.{SourceLoop, SurroundedLoop}
+use Rattle.find_nests.specs.Reasons.{loop_leaves_limits, outers}
+use Rattle.find_nests.specs.bound_limits.Composed.{Outer, composed_bound}
 use Rattle.find_nests.specs.bound_limits.Limits.{all_keep_limits}
 use Rattle.find_nests.specs.bound_limits.Loops.{leaves_with}
 use Rattle.find_nests.specs.bound_limits.Numbers.{Counted, counted, Quantity, ForAll, IsWorth, HasForm, with_trip, dividend_of, EndHasForm, KeepsLimits}
@@ -53,7 +53,7 @@ end_has_same n m step q q' r r' e g h = record {
 abbrev pub AreCounted : List (List ℕ) → List SourceLoop → Type 0
 AreCounted symbols around = ForAll (length symbols) (length around) (λ xs js. (vs : List Counted) × (counted symbols xs [] around js ≡ Some vs))
 
-module _ (symbols : List (List ℕ)) (p : Placed) (are : AreCounted symbols p.around) where
+module _ (symbols : List (List ℕ)) (p : SurroundedLoop) (are : AreCounted symbols p.around) where
   abbrev os : List Outer
   os = outers symbols [] p.around
 
@@ -64,7 +64,7 @@ module _ (symbols : List (List ℕ)) (p : Placed) (are : AreCounted symbols p.ar
   m = length p.around
 
   -- a bound with a form is worth its numbers
-  worth : (e : Expression) (f : Form) → bound_form symbols os e ≡ Some f → IsWorth symbols p.around e (λ xs js. number_at f (xs ++ js))
+  worth : (e : Expression) (f : Form) → composed_bound symbols os e ≡ Some f → IsWorth symbols p.around e (λ xs js. number_at f (xs ++ js))
   worth e f g xs js a b =
       let c = are xs js a b in
       within_is symbols xs js a p.around c.0 e c.1 ∙ ap (option_map (λ (f : Form). number_at f (xs ++ js))) g
@@ -72,16 +72,16 @@ module _ (symbols : List (List ℕ)) (p : Placed) (are : AreCounted symbols p.ar
   -- what is worth numbers has a form, with the same
   record Formed (e : Expression) (q : Quantity) : Type 0 where
     form : Form
-    is : bound_form symbols os e ≡ Some form
+    is : composed_bound symbols os e ≡ Some form
     same : ForAll n m (λ xs js. q xs js ≡ number_at form (xs ++ js))
 
   formed : (e : Expression) (q : Quantity) → IsWorth symbols p.around e q → Formed e q
-  formed e q h = by (bound_form symbols os e) refl
+  formed e q h = by (composed_bound symbols os e) refl
     where
-      number : (xs js : List ℤ) → length xs ≡ n → length js ≡ m → option_map (λ (f : Form). number_at f (xs ++ js)) (bound_form symbols os e) ≡ Some (q xs js)
+      number : (xs js : List ℤ) → length xs ≡ n → length js ≡ m → option_map (λ (f : Form). number_at f (xs ++ js)) (composed_bound symbols os e) ≡ Some (q xs js)
       number xs js a b = (let c = are xs js a b in sym (within_is symbols xs js a p.around c.0 e c.1) ∙ h xs js a b)
 
-      by : (o : Option Form) → bound_form symbols os e ≡ o → Formed e q
+      by : (o : Option Form) → composed_bound symbols os e ≡ o → Formed e q
       by None g =
           let none = sym (ap (option_map (λ (f : Form). number_at f (zeros n ++ zeros m))) g) ∙ number (zeros n) (zeros m) (zeros_length n) (zeros_length m) in
           let no : ⊥ = cc in
@@ -92,7 +92,7 @@ module _ (symbols : List (List ℕ)) (p : Placed) (are : AreCounted symbols p.ar
         same = λ xs js a b. let e = sym (ap (option_map (λ (f : Form). number_at f (xs ++ js))) g) ∙ number xs js a b in cc;
       }
 
-  ends : (e : Expression) (f : Form) → bound_form symbols os e ≡ Some f → Ends (n + m) f
+  ends : (e : Expression) (f : Form) → composed_bound symbols os e ≡ Some f → Ends (n + m) f
   ends e f g = bound_ends symbols (n + m) os e f (omega arith) (outers_end symbols (n + m) [] p.around (omega arith) tt) g
 
   record AreKept (s : Option ℤ) (a b : Option Form) : Type 0 where
@@ -111,10 +111,10 @@ module _ (symbols : List (List ℕ)) (p : Placed) (are : AreCounted symbols p.ar
   are_kept (Some z) None b h = let no : ⊥ = cc in absurd no
   are_kept None a b h = let no : ⊥ = cc in absurd no
 
-  keeps : leaves symbols p ≡ false → KeepsLimits symbols p
+  keeps : loop_leaves_limits symbols p ≡ false → KeepsLimits symbols p
   keeps h =
       let l = p.loop.loop in
-      let k = are_kept (step_of l.step) (bound_form symbols os l.first) (bound_form symbols os l.last) h in
+      let k = are_kept (step_of l.step) (composed_bound symbols os l.first) (composed_bound symbols os l.last) h in
       let f = kept_have n m k.step k.first k.last (ends l.first k.first k.first_is) (ends l.last k.last k.last_is) (step_size l.step k.step (sym k.step_is)) k.kept in
       record {
         step = k.step;
@@ -129,7 +129,7 @@ module _ (symbols : List (List ℕ)) (p : Placed) (are : AreCounted symbols p.ar
         end = f.end;
       }
 
-  stays : KeepsLimits symbols p → leaves symbols p ≡ false
+  stays : KeepsLimits symbols p → loop_leaves_limits symbols p ≡ false
   stays k =
       let l = p.loop.loop in
       let f = formed l.first k.first k.first_is in
@@ -143,10 +143,10 @@ module _ (symbols : List (List ℕ)) (p : Placed) (are : AreCounted symbols p.ar
         end = end_has_same n m k.step k.first (λ xs js. number_at f.form (xs ++ js)) (λ xs js. dividend_of k.step (k.first xs js) (k.last xs js))
             (λ xs js. dividend_of k.step (number_at f.form (xs ++ js)) (number_at g.form (xs ++ js))) f.same tops k.end;
       }) in
-      ap (λ s. leaves_with n s (bound_form symbols os l.first) (bound_form symbols os l.last)) k.step_is
-      ∙ ap (λ a. leaves_with n (Some k.step) a (bound_form symbols os l.last)) f.is
+      ap (λ s. leaves_with n s (composed_bound symbols os l.first) (composed_bound symbols os l.last)) k.step_is
+      ∙ ap (λ a. leaves_with n (Some k.step) a (composed_bound symbols os l.last)) f.is
       ∙ ap (λ b. leaves_with n (Some k.step) (Some f.form) b) g.is
       ∙ ap not kept
 
-  pub keeps_by_meaning : (leaves symbols p ≡ false) ↔ KeepsLimits symbols p
+  pub keeps_by_meaning : (loop_leaves_limits symbols p ≡ false) ↔ KeepsLimits symbols p
   keeps_by_meaning = (keeps, stays)

@@ -10,7 +10,7 @@ use Rattle.linear_forms.specs.Places.{unit_form}
 use Rattle.nest_reasons.specs.Increments.{step_of}
 use Rattle.find_nests.specs.Loops.{SourceLoop}
 use Rattle.find_nests.specs.Reasons.{outers}
-use Rattle.find_nests.specs.bound_limits.Composed.{Outer, filled, with_multiples, without_loops, composed, those_in, variables_of, is_among, bound_form}
+use Rattle.find_nests.specs.bound_limits.Composed.{Outer, filled, with_multiples, symbol_terms, composed, those_in, outer_variables_of, is_loop_among, composed_bound}
 use Rattle.find_nests.specs.bound_limits.Limits.{plus_constant}
 use Rattle.find_nests.specs.bound_limits.Loops.{normal_or_zero, as_outer}
 use Rattle.find_nests.specs.bound_limits.Numbers.{Counted, number_in, and_then, at_iteration, counted, number_within}
@@ -39,13 +39,13 @@ module _ (symbols : List (List ℕ)) (xs js : List ℤ) (all : length xs ≡ len
   outers_hold [] rest done os vs out l e h c = (let same : vs ≡ out = cc in subst (Hold q os) same h)
   outers_hold (r ∷ rs) [] done os vs out l e h c = (let no : ⊥ = cc in absurd no)
   outers_hold (r ∷ rs) (j ∷ rest) done os vs out l e h c =
-      by (bound_form symbols os r.first) (step_of r.step) refl refl
+      by (composed_bound symbols os r.first) (step_of r.step) refl refl
       (ap (λ o. and_then (at_iteration j o (step_of r.step)) (λ z. counted symbols xs (vs ++ record { variable = r.variable; number = z } ∷ []) rs rest)) (bound_number symbols xs js all os vs r.first h) ∙ c)
       (λ z. outers_hold rs rest (done ++ j ∷ []) (os ++ as_outer symbols os r.variable r.first r.step ∷ []) (vs ++ record { variable = r.variable; number = z } ∷ []) out
       (one_more done j ∙ ap suc l ∙ sym (one_more os (as_outer symbols os r.variable r.first r.step)))
       (e ∙ sym (append_assoc done (j ∷ []) rest)))
     where
-      by : (o : Option Form) (s : Option ℤ) → bound_form symbols os r.first ≡ o → step_of r.step ≡ s
+      by : (o : Option Form) (s : Option ℤ) → composed_bound symbols os r.first ≡ o → step_of r.step ≡ s
           → and_then (at_iteration j (option_map q o) s) (λ z. counted symbols xs (vs ++ record { variable = r.variable; number = z } ∷ []) rs rest) ≡ Some out
           → ((z : ℤ) → Hold q (os ++ as_outer symbols os r.variable r.first r.step ∷ []) (vs ++ record { variable = r.variable; number = z } ∷ [])
           → counted symbols xs (vs ++ record { variable = r.variable; number = z } ∷ []) rs rest ≡ Some out
@@ -53,7 +53,7 @@ module _ (symbols : List (List ℕ)) (xs js : List ℤ) (all : length xs ≡ len
           → Hold q (outers symbols os (r ∷ rs)) out
       by (Some f) (Some step) i k g more =
           let z = q f +ℤ step *ℤ (j -ℤ pos 1) in
-          let here : q (normal_or_zero (length symbols + length os) (step_of r.step) (bound_form symbols os r.first)) ≡ z
+          let here : q (normal_or_zero (length symbols + length os) (step_of r.step) (composed_bound symbols os r.first)) ≡ z
           = ap₂ (λ s o. q (normal_or_zero (length symbols + length os) s o)) k i
           ∙ normal_number (length symbols + length os) step f (xs ++ js) j (next_number done rest j (length os) e l) in
           more z (hold_more q os vs (as_outer symbols os r.variable r.first r.step) (record { variable = r.variable; number = z }) h refl here) g
@@ -62,7 +62,7 @@ module _ (symbols : List (List ℕ)) (xs js : List ℤ) (all : length xs ≡ len
 
   -- a bound under the loops is worth the number of its form
   pub within_is : (around : List SourceLoop) (vs : List Counted) (e : Expression) → counted symbols xs [] around js ≡ Some vs
-      → number_within symbols xs around js e ≡ option_map q (bound_form symbols (outers symbols [] around) e)
+      → number_within symbols xs around js e ≡ option_map q (composed_bound symbols (outers symbols [] around) e)
   within_is around vs e c =
       ap (λ o. and_then o (λ vs. number_in symbols xs vs e)) c
       ∙ sym (bound_number symbols xs js all (outers symbols [] around) vs e (outers_hold around js [] [] [] vs refl refl tt c))
@@ -110,17 +110,17 @@ multiples_end k f cs [] a h = a
 multiples_end k f cs (o ∷ os) a h = multiples_end k (sum f (multiple (At cs 0) o.form)) (drop 1 cs) os (sum_ends k (At cs 0) f o.form a h.0) h.1
 
 module _ (symbols : List (List ℕ)) where
-  pub bound_ends : (k : ℕ) (os : List Outer) (e : Expression) (f : Form) → length symbols ≤ k → AllEnd k os → bound_form symbols os e ≡ Some f → Ends k f
-  bound_ends k os e f l h g = by (form_of (variables_of (those_in e os)) symbols e) g
+  pub bound_ends : (k : ℕ) (os : List Outer) (e : Expression) (f : Form) → length symbols ≤ k → AllEnd k os → composed_bound symbols os e ≡ Some f → Ends k f
+  bound_ends k os e f l h g = by (form_of (outer_variables_of (those_in e os)) symbols e) g
     where
       by : (o : Option Form) → option_map (composed (length symbols) (those_in e os)) o ≡ Some f → Ends k f
       by None i = (let no : ⊥ = cc in absurd no)
       by (Some p) i =
           let same : composed (length symbols) (those_in e os) p ≡ f = cc in
           subst (Ends k) same
-          (multiples_end k (without_loops (length symbols) (length (those_in e os)) p) p.coefficients (those_in e os)
+          (multiples_end k (symbol_terms (length symbols) (length (those_in e os)) p) p.coefficients (those_in e os)
           (λ j m. filled_past (length symbols) (drop (length (those_in e os)) p.coefficients) j (omega (arith, l, m)))
-          (those_end k (is_among (names_in e)) os h))
+          (those_end k (is_loop_among (names_in e)) os h))
 
   outer_ends : (k place : ℕ) (s : Option ℤ) (o : Option Form) → place < k → ((f : Form) → o ≡ Some f → Ends k f) → Ends k (normal_or_zero place s o)
   outer_ends k place (Some step) (Some f) l h =
@@ -136,5 +136,5 @@ module _ (symbols : List (List ℕ)) where
       let long = one_more os o in
       outers_end k (os ++ o ∷ []) rs (omega (arith, l, long))
       (all_end_more k os o h
-      (outer_ends k (length symbols + length os) (step_of r.step) (bound_form symbols os r.first) (omega (arith, l))
+      (outer_ends k (length symbols + length os) (step_of r.step) (composed_bound symbols os r.first) (omega (arith, l))
       (λ f e. bound_ends k os r.first f (omega (arith, l)) h e)))

@@ -16,7 +16,7 @@ use Rattle.tree.proofs.Equations.{statement_equations, statement_of-assign, stat
 use Rattle.nest.specs.Plain.{Part, Run, Turns, Choice, Label, Jump, branch, parts}
 use Rattle.nest.specs.View.{Branch, branches}
 use Rattle.nest.proofs.Equations.{part_equations}
-use Rattle.find_nests.specs.nest_parts.Numbers.{next, after, after_arms, after_block}
+use Rattle.find_nests.specs.nest_parts.Numbers.{next_loop_number, number_after, after_arms, after_block}
 use Rattle.find_nests.specs.nest_parts.Lists.{after_each, after_list, branch_at, branch_list, parts_list}
 use Rattle.find_nests.specs.nest_parts.Statements.{source_loop, branches_of, parts_of, parts_of_block}
 
@@ -42,14 +42,14 @@ pub record BetweenArms (as' : List Arm) (k n i : ℕ) (bs : List Branch) : Type 
 
 -- ---- statements
 
-pub after-if : (k line : ℕ) (ts : Seq Arm) (other : Block) → after k (statement_of (stmts.If line ts other)) ≡ after_block (after_each k (map tested_of ts)) (block_of other)
-after-if k line ts other = ap (after k) (statement_of-if line ts other) ∙ ap (λ n. after_block n (block_of other)) (after_each_is k (map tested_of ts))
+pub number_after-if : (k line : ℕ) (ts : Seq Arm) (other : Block) → number_after k (statement_of (stmts.If line ts other)) ≡ after_block (after_each k (map tested_of ts)) (block_of other)
+number_after-if k line ts other = ap (number_after k) (statement_of-if line ts other) ∙ ap (λ n. after_block n (block_of other)) (after_each_is k (map tested_of ts))
 
-pub after-do : (k line : ℕ) (x : Name) (a b c : Expr) (body : Block) → after k (statement_of (stmts.Do line x a b c body)) ≡ after_block (next k) (block_of body)
-after-do k line x a b c body = ap (after k) (statement_of-do line x a b c body)
+pub number_after-do : (k line : ℕ) (x : Name) (a b c : Expr) (body : Block) → number_after k (statement_of (stmts.Do line x a b c body)) ≡ after_block (next_loop_number k) (block_of body)
+number_after-do k line x a b c body = ap (number_after k) (statement_of-do line x a b c body)
 
-pub after-arm : (k : ℕ) (a : Arm) → after_block k (tested_of a).body ≡ after_block k (block_of (out-Arm a).body)
-after-arm k a = ap (λ (t : Tested). after_block k t.body) (tested_of-is a)
+pub number_after-arm : (k : ℕ) (a : Arm) → after_block k (tested_of a).body ≡ after_block k (block_of (out-Arm a).body)
+number_after-arm k a = ap (λ (t : Tested). after_block k t.body) (tested_of-is a)
 
 pub parts-assign : (k line : ℕ) (m : Option Mark) (left : Ref) (right : Expr)
     → parts_of k (statement_of (stmts.Assign line m left right)) ≡ Run (record { line = line; guard = None; left = reference_of left; right = expression_of right }) ∷ []
@@ -63,7 +63,7 @@ parts-if k line ts other =
     ∙ ap (λ n. Choice (branches (branch_list k (map tested_of ts))) (parts (parts_of_block n (block_of other))) ∷ []) (after_each_is k (map tested_of ts))
 
 pub parts-do : (k line : ℕ) (x : Name) (a b c : Expr) (body : Block) → parts_of k (statement_of (stmts.Do line x a b c body))
-    ≡ Turns (source_loop (next k) x (expression_of a) (expression_of b) (expression_of c)) (parts (parts_of_block (next k) (block_of body))) ∷ []
+    ≡ Turns (source_loop (next_loop_number k) x (expression_of a) (expression_of b) (expression_of c)) (parts (parts_of_block (next_loop_number k) (block_of body))) ∷ []
 parts-do k line x a b c body = ap (parts_of k) (statement_of-do line x a b c body)
 
 pub parts-label : (k n : ℕ) → parts_of k (statement_of (stmts.Label n)) ≡ Label n ∷ []
@@ -79,18 +79,18 @@ branch-at k a = ap (branch_at k) (tested_of-is a)
 
 after_list_is : (k : ℕ) (cs : List Statement) → after_block k (block cs) ≡ after_list k cs
 after_list_is k [] = refl
-after_list_is k (c ∷ cs) = after_list_is (after k c) cs
+after_list_is k (c ∷ cs) = after_list_is (number_after k c) cs
 
 parts_list_is : (k : ℕ) (cs : List Statement) → parts_of_block k (block cs) ≡ parts_list k cs
 parts_list_is k [] = refl
-parts_list_is k (c ∷ cs) = ap (λ ps. parts_of k c ++ ps) (parts_list_is (after k c) cs)
+parts_list_is k (c ∷ cs) = ap (λ ps. parts_of k c ++ ps) (parts_list_is (number_after k c) cs)
 
-pub after-block : (k : ℕ) (b : Block) → after_block k (block_of b) ≡ after_list k (map statement_of (out-Block b).stmts)
-after-block k b = ap (after_block k) (block_of-is b) ∙ after_list_is k (map statement_of (out-Block b).stmts)
+pub number_after-block : (k : ℕ) (b : Block) → after_block k (block_of b) ≡ after_list k (map statement_of (out-Block b).stmts)
+number_after-block k b = ap (after_block k) (block_of-is b) ∙ after_list_is k (map statement_of (out-Block b).stmts)
 
 pub parts-block : (k : ℕ) (b : Block) → parts_of_block k (block_of b) ≡ parts_list k (map statement_of (out-Block b).stmts)
 parts-block k b = ap (parts_of_block k) (block_of-is b) ∙ parts_list_is k (map statement_of (out-Block b).stmts)
 
-pub ruleset part_laws = (statement_equations, part_equations, after-if, after-do, after-arm, parts-assign, parts-if, parts-do, parts-label, parts-go, branch-at, map-append, append_assoc, append-nil)
+pub ruleset part_laws = (statement_equations, part_equations, number_after-if, number_after-do, number_after-arm, parts-assign, parts-if, parts-do, parts-label, parts-go, branch-at, map-append, append_assoc, append-nil)
 
-pub ruleset block_laws = (after-block, parts-block)
+pub ruleset block_laws = (number_after-block, parts-block)

@@ -17,8 +17,8 @@ plus_constant f z = sum f (constant_form z)
 abbrev pub difference : Form → Form → Form
 difference f g = sum f (multiple (negsuc 0) g)
 
-abbrev pub is_constant : Form → Bool
-is_constant f = not_zero f.coefficients == 0
+abbrev pub is_constant_form : Form → Bool
+is_constant_form f = not_zero f.coefficients == 0
 
 -- of a loop from `first` to `last` by a step: what is divided by the step's size to get the trip
 abbrev pub dividend : ℤ → Form → Form → Form
@@ -34,7 +34,7 @@ folded step top = int_div top.constant (pos (nat_abs step))
 -- it is constant, and isn't divided by 1. The coefficient of a divided trip is the step, which is small
 abbrev pub end_keeps_limits : ℕ → ℤ → Form → Form → Bool
 end_keeps_limits n step first top =
-    if is_constant top then keeps_limits n 0 (plus_constant first (step *ℤ folded step top))
+    if is_constant_form top then keeps_limits n 0 (plus_constant first (step *ℤ folded step top))
     else if nat_abs step == 1 then keeps_limits n 0 (sum first (multiple step top))
     else keeps_limits n 1 first
 

@@ -8,7 +8,7 @@ use Rattle.tree.specs.Plain.{Expression}
 use Rattle.meaning.specs.Reads.{names_in}
 use Rattle.linear_forms.specs.Linear.{Form, number_at, form_of}
 use Rattle.nest_reasons.specs.Increments.{step_of}
-use Rattle.find_nests.specs.Loops.{SourceLoop, Placed}
+use Rattle.find_nests.specs.Loops.{SourceLoop, SurroundedLoop}
 use Rattle.find_nests.specs.bound_limits.Limits.{keeps_limits}
 
 -- the variable of a loop, with its number in an iteration
@@ -94,7 +94,7 @@ pub record EndHasForm (n m : ℕ) (step : ℤ) (first top : Quantity) : Type 0 w
       → HasForm (suc n) m (with_trip (λ t xs js. first xs js +ℤ step *ℤ t))
 
 -- the first bound, the same less the increment, the dividend of the trip, and the variable's last number
-pub record KeepsLimits (symbols : List (List ℕ)) (p : Placed) : Type 0 where
+pub record KeepsLimits (symbols : List (List ℕ)) (p : SurroundedLoop) : Type 0 where
   pub step : ℤ
   pub first : Quantity
   pub last : Quantity

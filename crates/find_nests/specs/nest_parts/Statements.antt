@@ -6,7 +6,7 @@ use Rattle.tree.specs.Plain.{Deallocate, Arms, no_arms, arm, Block, no_statement
 use Rattle.nest_reasons.specs.Increments.{step_of}
 use Rattle.nest.specs.Plain.{Loop, Part, Run, Turns, Choice, Label as Label', Jump, parts, Branches, no_branches}
 use Rattle.nest.specs.Plain.{branch}
-use Rattle.find_nests.specs.nest_parts.Numbers.{next, after, after_arms, after_block}
+use Rattle.find_nests.specs.nest_parts.Numbers.{next_loop_number, number_after, after_arms, after_block}
 
 -- a loop of a nest has a suitable increment
 abbrev pub step_or_zero : Option ℤ → ℤ
@@ -30,7 +30,8 @@ abbrev mutual
   parts_of k (Where line mark mask left right) = []
   parts_of k (If line arms other) =
       Choice (branches_of k arms) (parts (parts_of_block (after_arms k arms) other)) ∷ []
-  parts_of k (Do line x a b c body) = Turns (source_loop (next k) x a b c) (parts (parts_of_block (next k) body)) ∷ []
+  parts_of k (Do line x a b c body) =
+      Turns (source_loop (next_loop_number k) x a b c) (parts (parts_of_block (next_loop_number k) body)) ∷ []
   parts_of k (Label n) = Label' n ∷ []
   parts_of k (GoTo line n) = Jump n ∷ []
   parts_of k (Stop line) = []
@@ -46,4 +47,4 @@ abbrev mutual
 
   pub parts_of_block : ℕ → Block → List Part
   parts_of_block k no_statements = []
-  parts_of_block k (statement c cs) = parts_of k c ++ parts_of_block (after k c) cs
+  parts_of_block k (statement c cs) = parts_of k c ++ parts_of_block (number_after k c) cs

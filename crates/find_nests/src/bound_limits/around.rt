@@ -5,8 +5,8 @@ ghost use Rattle.std.specs.Option.{option_map, IfSome};
 ghost use Rattle.tree.specs.View.{expression_of};
 ghost use Rattle.linear_forms.specs.Linear.{Form};
 ghost use Rattle.linear_forms.specs.Affines.{IsAffineOf};
-ghost use Rattle.find_nests.specs.bound_limits.Composed.{with_multiples, without_loops, is_among, bound_form};
-ghost use Rattle.find_nests.specs.bound_limits.Composed.{variables_of};
+ghost use Rattle.find_nests.specs.bound_limits.Composed.{with_multiples, symbol_terms, is_loop_among, composed_bound};
+ghost use Rattle.find_nests.specs.bound_limits.Composed.{outer_variables_of};
 ghost use Rattle.find_nests.specs.bound_limits.View.{wide_form_of, outer_of, IsSized, AreSmall};
 
 use crate::bound_limits::forms::WideForm;
@@ -37,8 +37,8 @@ fn with_multiples(
     requires sized { IsSized (2 ^ 107 - length times.now * 2 ^ 104) (wide_form_of sum) }
     requires small { AreSmall (map outer_of around.now) }
     ensures value { IfOk result (λ form.
-        length (filter (is_among names.now) (map outer_of around.now)) ≤ length times.now → wide_form_of form
-        ≡ with_multiples (wide_form_of sum) times.now (filter (is_among names.now) (map outer_of around.now))) }
+        length (filter (is_loop_among names.now) (map outer_of around.now)) ≤ length times.now → wide_form_of form
+        ≡ with_multiples (wide_form_of sum) times.now (filter (is_loop_among names.now) (map outer_of around.now))) }
     ensures size { IfOk result (λ form. IsSized (2 ^ 107) (wide_form_of form)) }
 {
     let Some((outer, inner)) = around.split_first() else {
@@ -60,7 +60,7 @@ fn with_multiples(
 // The terms of the symbols, of which there are so many.
 fn without_loops(alloc: Global, form: &Affine, symbols: usize) -> Result<WideForm, Memory>
     ensures value { IfOk result (λ wide. (k : ℕ) (f : Form) → IsAffineOf k f form.now
-        → wide_form_of wide ≡ without_loops symbols k f) }
+        → wide_form_of wide ≡ symbol_terms symbols k f) }
     ensures size { IfOk result (λ wide. IsSized (2 ^ 63) (wide_form_of wide)) }
 {
     Ok(WideForm {
@@ -82,7 +82,7 @@ fn push_if(names: &mut Seq<Name>, chosen: bool, name: Name) -> Result<(), Memory
 // The variables that are among the names.
 fn those_among(alloc: Global, around: &[Outer], names: &[Name]) -> Result<Seq<Name>, Memory>
     ensures { IfOk result (λ variables. variables
-        ≡ variables_of (filter (is_among names.now) (map outer_of around.now))) }
+        ≡ outer_variables_of (filter (is_loop_among names.now) (map outer_of around.now))) }
 {
     let mut variables = Seq::new(alloc);
     for outer in around {
@@ -102,7 +102,7 @@ pub(crate) fn bound_form(
     requires few { length symbols.now ≤ 2 ^ 16 }
     requires small { AreSmall (map outer_of around.now) }
     ensures value { IfOk result (λ form. option_map wide_form_of form
-        ≡ bound_form symbols.now (map outer_of around.now) (expression_of bound.now)) }
+        ≡ composed_bound symbols.now (map outer_of around.now) (expression_of bound.now)) }
     ensures size { IfOk result (λ form. IfSome form (λ wide. IsSized (2 ^ 107) (wide_form_of wide))) }
 {
     let names = names_in_expr(alloc, bound)?;

@@ -1,8 +1,7 @@
 //! The limits of forms.
 ghost use Rattle.std.specs.Prelude.{◌≡◌, ◌≤◌, ◌^◌, ◌*ℤ◌, ◌&&◌, pos, nat_abs, int_div, int_le, true, IfOk};
 ghost use Rattle.find_nests.specs.bound_limits.Limits.{keeps_limits, dividend, end_keeps_limits, all_keep_limits};
-ghost use Rattle.find_nests.specs.bound_limits.Limits.{is_constant};
-ghost use Rattle.find_nests.specs.bound_limits.Limits.{normal, difference, plus_constant, folded};
+ghost use Rattle.find_nests.specs.bound_limits.Limits.{is_constant_form, normal, difference, plus_constant, folded};
 ghost use Rattle.find_nests.specs.bound_limits.View.{wide_form_of, IsSized};
 
 use crate::bound_limits::forms::WideForm;
@@ -28,7 +27,7 @@ fn rises(step: i128) -> bool
 
 impl WideForm {
     fn is_constant(&self) -> bool
-        ensures { result ≡ is_constant (wide_form_of self.now) }
+        ensures { result ≡ is_constant_form (wide_form_of self.now) }
     {
         not_zero(self.coefficients.as_slice()) == 0
     }

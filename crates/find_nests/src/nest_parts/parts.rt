@@ -3,7 +3,7 @@ ghost use Rattle.std.specs.Prelude.{◌≡◌, ◌++◌, map, OnErr, OnOk, IfOk}
 ghost use Rattle.tree.specs.View.{expression_of, statement_of, tested_of, block_of};
 ghost use Rattle.nest.specs.Plain.{Turns, parts};
 ghost use Rattle.nest.specs.View.{part_of, branch_of, loop_of};
-ghost use Rattle.find_nests.specs.nest_parts.Numbers.{next, after, after_block};
+ghost use Rattle.find_nests.specs.nest_parts.Numbers.{next_loop_number, number_after, after_block};
 ghost use Rattle.find_nests.specs.nest_parts.Lists.{after_each, after_list, branch_at, branch_list, parts_list};
 ghost use Rattle.find_nests.specs.nest_parts.Statements.{parts_of, parts_of_block, source_loop, step_or_zero};
 
@@ -45,7 +45,7 @@ fn source_loop(
 }
 
 fn next(number: u32) -> u32
-    ensures { result ≡ next number }
+    ensures { result ≡ next_loop_number number }
 {
     if number < u32::MAX {
         number + 1
@@ -92,7 +92,7 @@ impl Numbering {
     fn add_stmt(&mut self, alloc: Global, stmt: &Stmt, parts: &mut Seq<Part>) -> Result<(), Memory>
         ensures parts { OnOk result (map part_of parts.new
             ≡ map part_of parts.old ++ parts_of self.old.loops (statement_of stmt.now)) }
-        ensures loops { OnOk result (self.new.loops ≡ after self.old.loops (statement_of stmt.now)) }
+        ensures loops { OnOk result (self.new.loops ≡ number_after self.old.loops (statement_of stmt.now)) }
     {
         match stmt {
             Stmt::Assign {
@@ -150,9 +150,11 @@ impl Numbering {
         body: &Block,
     ) -> Result<Part, Memory>
         ensures part { IfOk result (λ part. part_of part
-            ≡ Turns (source_loop (next self.old.loops) var (expression_of first.now) (expression_of last.now)
-            (expression_of step.now)) (parts (parts_of_block (next self.old.loops) (block_of body.now)))) }
-        ensures loops { OnOk result (self.new.loops ≡ after_block (next self.old.loops) (block_of body.now)) }
+            ≡ Turns (source_loop (next_loop_number self.old.loops) var (expression_of first.now)
+            (expression_of last.now)
+            (expression_of step.now)) (parts (parts_of_block (next_loop_number self.old.loops) (block_of body.now)))) }
+        ensures loops { OnOk result
+            (self.new.loops ≡ after_block (next_loop_number self.old.loops) (block_of body.now)) }
         ensures err { OnErr result (self.new ≡ self.old) }
     {
         let mut numbering = *self;
@@ -165,7 +167,7 @@ impl Numbering {
 
     /// Passes over a loop, but not over those in it.
     pub fn pass_over(&mut self)
-        ensures { self.new.loops ≡ next self.old.loops }
+        ensures { self.new.loops ≡ next_loop_number self.old.loops }
     {
         self.loops = next(self.loops);
     }

@@ -2,7 +2,7 @@
 use Rattle.std.proofs.Common.{◌≡◌, refl, sym, ap, ◌∙◌, subst, inl, inr, ℕ, zero, suc, ◌<◌, ◌≤◌, cond, List, [], ◌∷◌, ◌++◌, length, arith, append-nil}
 use Rattle.nest_order.specs.orders.Lists.{Distinct, In, Pairwise}
 use Rattle.nest_order.specs.orders.Nests.{IsNest}
-use Rattle.nest_order.specs.orders.Shapes.{Stands, StandsIn, Within, common_of, loops, loops_in, statements, statements_in}
+use Rattle.nest_order.specs.orders.Shapes.{Stands, StandsIn, Within, common_of, loops_of_shape, loops_of_shapes, statements, statements_in}
 use Rattle.nest_order.proofs.orders.Keeping.{same_number}
 use Rattle.interchange_laws.specs.orders.Moves.{chain_of, inner, rearranged, restored, singles, swapped}
 
@@ -10,7 +10,7 @@ statements_of_singles : (ss : List ℕ) → statements_in (singles ss) ≡ ss
 statements_of_singles [] = refl
 statements_of_singles (s ∷ ss) = ap (λ zs. s ∷ zs) (statements_of_singles ss)
 
-loops_of_singles : (ss : List ℕ) → loops_in (singles ss) ≡ []
+loops_of_singles : (ss : List ℕ) → loops_of_shapes (singles ss) ≡ []
 loops_of_singles [] = refl
 loops_of_singles (s ∷ ss) = loops_of_singles ss
 
@@ -18,9 +18,9 @@ statements_of_inner : (ls ss : List ℕ) → statements_in (inner ls ss) ≡ ss
 statements_of_inner [] ss = statements_of_singles ss
 statements_of_inner (l ∷ ls) ss = append-nil (statements_in (inner ls ss)) ∙ statements_of_inner ls ss
 
-loops_of_inner : (ls ss : List ℕ) → loops_in (inner ls ss) ≡ ls
+loops_of_inner : (ls ss : List ℕ) → loops_of_shapes (inner ls ss) ≡ ls
 loops_of_inner [] ss = loops_of_singles ss
-loops_of_inner (l ∷ ls) ss = ap (λ zs. l ∷ zs) (append-nil (loops_in (inner ls ss)) ∙ loops_of_inner ls ss)
+loops_of_inner (l ∷ ls) ss = ap (λ zs. l ∷ zs) (append-nil (loops_of_shapes (inner ls ss)) ∙ loops_of_inner ls ss)
 
 -- at least one loop
 pub record HasLoop (ls : List ℕ) : Type 0 where
@@ -32,7 +32,7 @@ pub chain_statements : (ls ss : List ℕ) → HasLoop ls → statements (chain_o
 chain_statements [] ss h = absurd (let f : 0 ≡ suc (length h.rest) = ap length h.is in omega arith)
 chain_statements (l ∷ ls) ss h = statements_of_inner ls ss
 
-pub chain_loops : (ls ss : List ℕ) → HasLoop ls → loops (chain_of ls ss) ≡ ls
+pub chain_loops : (ls ss : List ℕ) → HasLoop ls → loops_of_shape (chain_of ls ss) ≡ ls
 chain_loops [] ss h = absurd (let f : 0 ≡ suc (length h.rest) = ap length h.is in omega arith)
 chain_loops (l ∷ ls) ss h = ap (λ zs. l ∷ zs) (loops_of_inner ls ss)
 

@@ -5,11 +5,11 @@ use Rattle.tree.specs.declared.ops.Value.TheVariants.{Int}
 use Rattle.meaning.specs.Store.{Cell, Store, put}
 use Rattle.meaning.specs.Value.{is_in_range, trip_count}
 use Rattle.nest_order.specs.orders.Lists.{Distinct, In}
-use Rattle.nest_order.specs.orders.Shapes.{loops}
+use Rattle.nest_order.specs.orders.Shapes.{loops_of_shape}
 use Rattle.nest_order.proofs.orders.Lists.{Each-In, In-append}
 use Rattle.nest_order.proofs.orders.Membership.{In-map}
 use Rattle.nest_order.specs.runs.Forms.{AreCounted, AreCountedIn, IsCounted}
-use Rattle.nest_order.specs.runs.Nests.{AreAt, Nest}
+use Rattle.nest_order.specs.runs.Nests.{AreAt, RunNest}
 use Rattle.nest_order.specs.runs.Stores.{HoldsNest, IsNestIn, Setting}
 use Rattle.nest_order.proofs.runs.Counting.{statement_counted}
 use Rattle.nest_order.proofs.runs.Holding.{variable_inside}
@@ -22,7 +22,7 @@ use Rattle.interchange_laws.proofs.orders.Chains.{chain_loops}
 same_number : (a b : ℤ) → ◌≡◌ {A = Result ℤ Fault} (Ok a) (Ok b) → a ≡ b
 same_number a b e = cc
 
-module _ (bits : ℕ) (wide : 31 ≤ bits) (n : Nest) (w : Setting) (ok : IsNestIn bits n w) (all : List ℕ) (has : HaveNumbers bits n w all) where
+module _ (bits : ℕ) (wide : 31 ≤ bits) (n : RunNest) (w : Setting) (ok : IsNestIn bits n w) (all : List ℕ) (has : HaveNumbers bits n w all) where
   one_in_range : is_in_range bits (Int (pos 1)) ≡ true
   one_in_range =
       let a : 2 ^ 31 ≤ 2 ^ bits = pow_mono wide in
@@ -34,7 +34,7 @@ module _ (bits : ℕ) (wide : 31 ≤ bits) (n : Nest) (w : Setting) (ok : IsNest
       let e : c.top ≡ has.top l = same_number c.top (has.top l) (sym (c.gives t inside at) ∙ has.gives l t i inside) in
       subst (λ z. trip_count (pos 1) z (pos 1) ≡ Ok (has.turns l)) e (c.counts ∙ ap Ok (has.same l before i))
 
-  countable : (ls ss round before : List ℕ) (t : Store) → HoldsNest bits n w t → AreAt n round before t → ((m : ℕ) → In m ls → In m (loops n.shape)) → ((m : ℕ) → In m ls → In m all)
+  countable : (ls ss round before : List ℕ) (t : Store) → HoldsNest bits n w t → AreAt n round before t → ((m : ℕ) → In m ls → In m (loops_of_shape n.shape)) → ((m : ℕ) → In m ls → In m all)
       → ((m k : ℕ) → In m ls → In k round → ¬ (var n m ≡ var n k)) → Distinct ls → AreCountedIn bits n w round before (inner ls ss) → AreCountable has.top has.turns ls
   countable [] ss round before t inside at there known fresh d c = tt
   countable (l ∷ ls) ss round before t inside at there known fresh d c = (
@@ -57,7 +57,7 @@ module _ (bits : ℕ) (wide : 31 ≤ bits) (n : Nest) (w : Setting) (ok : IsNest
 
 pub run_trips_are_countable : RunTripsAreCountable
 run_trips_are_countable bits n w l ls ss y s has wide ok chain inside go =
-    let loops_here : loops n.shape ≡ l ∷ ls = ap loops chain ∙ chain_loops (l ∷ ls) ss (record { first = l; rest = ls; is = refl }) in
+    let loops_here : loops_of_shape n.shape ≡ l ∷ ls = ap loops_of_shape chain ∙ chain_loops (l ∷ ls) ss (record { first = l; rest = ls; is = refl }) in
     let counted : AreCounted bits n w [] [] n.shape = statement_counted bits n w ok y n.shape [] [] (nest_lies bits n w ok) (outermost bits n w ok) s.store s (Near-same n s.store) tt inside go in
     countable bits wide n w ok (l ∷ ls) has (l ∷ ls) ss [] [] s.store inside tt (λ m i. subst (In m) (sym loops_here) i) (λ m i. i) (λ m k i j. absurd j)
     (subst Distinct loops_here ok.text.nest.single) (subst (AreCounted bits n w [] []) chain counted, tt)

@@ -2,7 +2,7 @@
 use Rattle.std.proofs.Common.{◌≡◌, refl, sym, ap, ◌∙◌, subst, ◌⊎◌, inl, inr, ℕ, ◌≤◌, ℤ, List, [], ◌∷◌, ◌++◌, Ok, arith}
 use Rattle.nest_order.specs.orders.Lists.{Each, In}
 use Rattle.nest_order.specs.runs.Forms.{AreCounted, AreCountedIn, IsCounted}
-use Rattle.nest_order.specs.runs.Nests.{Nest}
+use Rattle.nest_order.specs.runs.Nests.{RunNest}
 use Rattle.nest_order.specs.runs.Stores.{Setting}
 use Rattle.interchange_laws.specs.orders.Moves.{chain_of, inner, singles}
 use Rattle.interchange_laws.specs.runs.Counted.{AreCountable, HaveNumbers, IsCountable, MovedTripsAreCounted}
@@ -38,7 +38,7 @@ module _ (top : ℕ → ℤ) (turns : ℕ → ℕ) where
 
 -- ---- the chains of nests
 
-module _ (bits : ℕ) (n : Nest) (w : Setting) (all : List ℕ) (has : HaveNumbers bits n w all) where
+module _ (bits : ℕ) (n : RunNest) (w : Setting) (all : List ℕ) (has : HaveNumbers bits n w all) where
   singles_counted : (ss round before : List ℕ) → AreCountedIn bits n w round before (singles ss)
   singles_counted [] round before = tt
   singles_counted (s ∷ ss) round before = (tt, singles_counted ss round before)

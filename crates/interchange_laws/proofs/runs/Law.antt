@@ -9,7 +9,7 @@ use Rattle.nest_order.specs.orders.Graphs.{Arc, Place}
 use Rattle.nest_order.specs.orders.Lists.{Distinct, In}
 use Rattle.nest_order.specs.orders.Nests.{IsInstance, Precedes, common}
 use Rattle.nest_order.specs.orders.Orders.{MayPass, and_then, runs}
-use Rattle.nest_order.specs.orders.Shapes.{Instance, StandsIn, instances, loops, no_shapes, shape, statements}
+use Rattle.nest_order.specs.orders.Shapes.{Instance, StandsIn, instances, loops_of_shape, no_shapes, shape, statements}
 use Rattle.nest_order.proofs.orders.Membership.{In-map, map-In}
 use Rattle.nest_order.specs.runs.Blocks.{Layout, nest_block, nest_statement}
 use Rattle.nest_order.specs.runs.Forms.{AreCounted}
@@ -17,7 +17,7 @@ use Rattle.meaning_laws.specs.arrays.Instances.{after}
 use Rattle.tree.specs.Steps.{◌>>=◌}
 use Rattle.nest_order.specs.runs.Guarded.{at_iterations, effect, sequential}
 use Rattle.nest_order.specs.runs.Laws.{GoesOnNear}
-use Rattle.nest_order.specs.runs.Nests.{LoopStands, LoopStandsIn, Nest, acts, effect_of, is_variable, variable_of, variables_round}
+use Rattle.nest_order.specs.runs.Nests.{LoopStands, LoopStandsIn, RunNest, acts, effect_of, is_nest_variable, variable_of, variables_round}
 use Rattle.nest_order.specs.runs.Stores.{HoldsNest, IsNestIn, Setting}
 use Rattle.nest_order.specs.runs.Touched.{MayMeet, Touches, references_of}
 use Rattle.nest_order.proofs.runs.Holding.{instance_inside}
@@ -41,7 +41,7 @@ use Rattle.interchange_laws.proofs.runs.Acts.{at_rearranged, distinct_variables,
 use Rattle.interchange_laws.proofs.runs.Arcs.{chain_arc, loops_are}
 use Rattle.interchange_laws.proofs.runs.Deciding.{Decided, depends_or_not, same}
 
-module _ (bits : ℕ) (n : Nest) (w : Setting) (l : ℕ) (ls ss ps : List ℕ) (arcs : List Arc) (may : MayExchange bits n w l ls ss ps arcs) where
+module _ (bits : ℕ) (n : RunNest) (w : Setting) (l : ℕ) (ls ss ps : List ℕ) (arcs : List Arc) (may : MayExchange bits n w l ls ss ps arcs) where
   abbrev trip : ℕ → List ℕ → ℕ
   trip = n.turns_of w.values
 
@@ -118,11 +118,11 @@ module _ (bits : ℕ) (n : Nest) (w : Setting) (l : ℕ) (ls ss ps : List ℕ) (
 
   -- ---- the same acts
 
-  abbrev other : Nest
+  abbrev other : RunNest
   other = rearranged_nest ps n (l ∷ ls) ss
 
-  loops_here : loops n.shape ≡ l ∷ ls
-  loops_here = ap loops may.chain ∙ chain_loops (l ∷ ls) ss has
+  loops_here : loops_of_shape n.shape ≡ l ∷ ls
+  loops_here = ap loops_of_shape may.chain ∙ chain_loops (l ∷ ls) ss has
 
   variables_apart : Distinct (map n.variable_at (l ∷ ls))
   variables_apart = distinct_variables n.variable_at (l ∷ ls) (λ a b i j e. may.nest.text.variables a b (subst (In a) (sym loops_here) i) (subst (In b) (sym loops_here) j) e) (subst Distinct loops_here may.nest.text.nest.single)
@@ -165,10 +165,10 @@ module _ (bits : ℕ) (n : Nest) (w : Setting) (l : ℕ) (ls ss ps : List ℕ) (
   -- ---- the run
 
   -- the two nests have the same loop variables
-  same_variables : (c : Cell) → is_variable n c ≡ false → is_variable other c ≡ false
-  same_variables c e = by (is_variable other c) refl
+  same_variables : (c : Cell) → is_nest_variable n c ≡ false → is_nest_variable other c ≡ false
+  same_variables c e = by (is_nest_variable other c) refl
     where
-      other_loops : loops other.shape ≡ rearranged ps (l ∷ ls)
+      other_loops : loops_of_shape other.shape ≡ rearranged ps (l ∷ ls)
       other_loops = chain_loops (rearranged ps (l ∷ ls)) ss (has_too (rearranged ps (l ∷ ls)) (rearranged_length ps (l ∷ ls)))
         where
           has_too : (ms : List ℕ) → length ms ≡ suc (length ls) → HasLoop ms
@@ -178,17 +178,17 @@ module _ (bits : ℕ) (n : Nest) (w : Setting) (l : ℕ) (ls ss ps : List ℕ) (
       true_false : true ≡ false → ⊥
       true_false f = cc
 
-      here : (zs : List ℕ) → zs ≡ rearranged ps (l ∷ ls) → In c (map (variable_of n) zs) → In c (map (variable_of n) (loops n.shape))
+      here : (zs : List ℕ) → zs ≡ rearranged ps (l ∷ ls) → In c (map (variable_of n) zs) → In c (map (variable_of n) (loops_of_shape n.shape))
       here zs f i =
           let o = In-map (variable_of n) c zs i in
           let j : In o.it (l ∷ ls) = In_rearranged o.it ps (l ∷ ls) (subst (In o.it) f o.inside) in
-          subst (λ z. In z (map (variable_of n) (loops n.shape))) (sym o.is) (map-In (variable_of n) o.it (loops n.shape) (subst (In o.it) (sym loops_here) j))
+          subst (λ z. In z (map (variable_of n) (loops_of_shape n.shape))) (sym o.is) (map-In (variable_of n) o.it (loops_of_shape n.shape) (subst (In o.it) (sym loops_here) j))
 
-      by : (b : Bool) → is_variable other c ≡ b → is_variable other c ≡ false
+      by : (b : Bool) → is_nest_variable other c ≡ b → is_nest_variable other c ≡ false
       by false f = f
       by true f =
-          let i = one_of-In (map (variable_of other) (loops other.shape)) c f in
-          let g : is_variable n c ≡ true = In-one_of (map (variable_of n) (loops n.shape)) c (here (loops other.shape) other_loops i) in
+          let i = one_of-In (map (variable_of other) (loops_of_shape other.shape)) c f in
+          let g : is_nest_variable n c ≡ true = In-one_of (map (variable_of n) (loops_of_shape n.shape)) c (here (loops_of_shape other.shape) other_loops i) in
           absurd (true_false (sym g ∙ e))
 
   pub exchanged_run : (y z : Layout) (s : State) → 31 ≤ bits → HoldsNest bits n w s.store → IsNestIn bits other w → AreCounted bits other w [] [] other.shape

@@ -8,10 +8,10 @@ use Rattle.meaning.specs.Store.{Store}
 use Rattle.meaning.specs.Value.{number_of, trip_count, value_of}
 use Rattle.nest_order.specs.orders.Lists.{Distinct, In, Pairwise}
 use Rattle.nest_order.specs.orders.Nests.{IsInstance, IsNest}
-use Rattle.nest_order.specs.orders.Shapes.{Instance, Stands, StandsIn, Within, loops, statements}
+use Rattle.nest_order.specs.orders.Shapes.{Instance, Stands, StandsIn, Within, loops_of_shape, statements}
 use Rattle.nest_order.proofs.orders.Common.{statement_stands}
 use Rattle.nest_order.specs.runs.Guarded.{at_iterations, effect, sequential}
-use Rattle.nest_order.specs.runs.Nests.{Nest, effect_of, variables_round}
+use Rattle.nest_order.specs.runs.Nests.{RunNest, effect_of, variables_round}
 use Rattle.nest_order.specs.runs.Stores.{HoldsNest, IsNestIn, Setting}
 use Rattle.nest_order.proofs.runs.Loops.{loop_in}
 use Rattle.interchange_laws.specs.orders.Moves.{chain_of, inner, rearranged, restored, restored_instance, singles}
@@ -40,8 +40,8 @@ chain_stands [] ss s ks h k = absurd (let f : 0 ≡ suc (length h.rest) = ap len
 chain_stands (l ∷ ls) ss s [] h k = absurd k
 chain_stands (l ∷ ls) ss s (m ∷ ks) h k = inner_stands ls ss s ks k.1
 
-module _ (bits : ℕ) (n : Nest) (w : Setting) (l : ℕ) (ls ss ps : List ℕ) (ok : IsNestIn bits n w) (chain : n.shape ≡ chain_of (l ∷ ls) ss) (has : HaveSymbolTrips bits n w (l ∷ ls)) where
-  abbrev other : Nest
+module _ (bits : ℕ) (n : RunNest) (w : Setting) (l : ℕ) (ls ss ps : List ℕ) (ok : IsNestIn bits n w) (chain : n.shape ≡ chain_of (l ∷ ls) ss) (has : HaveSymbolTrips bits n w (l ∷ ls)) where
+  abbrev other : RunNest
   other = rearranged_nest ps n (l ∷ ls) ss
 
   abbrev ms : List ℕ
@@ -56,16 +56,16 @@ module _ (bits : ℕ) (n : Nest) (w : Setting) (l : ℕ) (ls ss ps : List ℕ) (
   first_too : HasLoop ms
   first_too = still_has_loop (l ∷ ls) ms first (rearranged_length ps (l ∷ ls))
 
-  loops_here : loops n.shape ≡ l ∷ ls
-  loops_here = ap loops chain ∙ chain_loops (l ∷ ls) ss first
+  loops_here : loops_of_shape n.shape ≡ l ∷ ls
+  loops_here = ap loops_of_shape chain ∙ chain_loops (l ∷ ls) ss first
 
   statements_here : statements n.shape ≡ ss
   statements_here = ap statements chain ∙ chain_statements (l ∷ ls) ss first
 
-  in_list : (m : ℕ) → In m (loops other.shape) → In m (l ∷ ls)
+  in_list : (m : ℕ) → In m (loops_of_shape other.shape) → In m (l ∷ ls)
   in_list m i = In_rearranged m ps (l ∷ ls) (subst (In m) (chain_loops ms ss first_too) i)
 
-  in_nest : (m : ℕ) → In m (loops other.shape) → In m (loops n.shape)
+  in_nest : (m : ℕ) → In m (loops_of_shape other.shape) → In m (loops_of_shape n.shape)
   in_nest m i = subst (In m) (sym loops_here) (in_list m i)
 
   in_text : (s : ℕ) → In s (statements other.shape) → In s (statements n.shape)
@@ -147,7 +147,7 @@ module _ (bits : ℕ) (n : Nest) (w : Setting) (l : ℕ) (ls ss ps : List ℕ) (
   same_number : (a b : ℤ) → ◌≡◌ {A = Result ℤ Fault} (Ok a) (Ok b) → a ≡ b
   same_number a b e = cc
 
-  trips_too : (before : List ℕ) (m : ℕ) (t : Store) (z : ℤ) (k : ℕ) → In m (loops other.shape) → HoldsNest bits other w t → number_of (sequential bits) (n.trip_at m) t ≡ Ok z → trip_count (pos 1) z (pos 1) ≡ Ok k → k ≡ trip m before
+  trips_too : (before : List ℕ) (m : ℕ) (t : Store) (z : ℤ) (k : ℕ) → In m (loops_of_shape other.shape) → HoldsNest bits other w t → number_of (sequential bits) (n.trip_at m) t ≡ Ok z → trip_count (pos 1) z (pos 1) ≡ Ok k → k ≡ trip m before
   trips_too before m t z k i inside e c =
       let j = in_list m i in
       let f : z ≡ has.numbers.top m = same_number z (has.numbers.top m) (sym e ∙ has.numbers.gives m t j (inside_too t inside)) in

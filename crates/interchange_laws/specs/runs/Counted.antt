@@ -8,14 +8,14 @@ use Rattle.nest_order.specs.orders.Lists.{Each, In}
 use Rattle.nest_order.specs.runs.Blocks.{Layout, nest_statement}
 use Rattle.nest_order.specs.runs.Forms.{AreCounted}
 use Rattle.nest_order.specs.runs.Guarded.{sequential}
-use Rattle.nest_order.specs.runs.Nests.{Nest}
+use Rattle.nest_order.specs.runs.Nests.{RunNest}
 use Rattle.nest_order.specs.runs.Stores.{HoldsNest, IsNestIn, Setting}
 use Rattle.interchange_laws.specs.orders.Moves.{chain_of}
 use Rattle.interchange_laws.specs.runs.Nests.{rearranged_nest}
 
 -- trips have symbols alone: each has one number in all stores in which the nest is run; and it is the same at all
 -- iterations how often a loop turns
-pub record HaveNumbers (bits : ℕ) (n : Nest) (w : Setting) (ls : List ℕ) : Type 0 where
+pub record HaveNumbers (bits : ℕ) (n : RunNest) (w : Setting) (ls : List ℕ) : Type 0 where
   pub top : ℕ → ℤ
   pub gives : (l : ℕ) (s : Store) → In l ls → HoldsNest bits n w s
       → number_of (sequential bits) (n.trip_at l) s ≡ Ok (top l)
@@ -42,7 +42,7 @@ AreCountable top turns (l ∷ ls) = IsCountable top turns l × (1 ≤ turns l �
 -- so can those of the chain with the loop moved, and the new nest's trips are counted as they are come to
 abbrev pub MovedTripsAreCounted : Type 0
 MovedTripsAreCounted =
-    (bits : ℕ) (n : Nest) (w : Setting) (outer over inner ss : List ℕ) (l : ℕ)
+    (bits : ℕ) (n : RunNest) (w : Setting) (outer over inner ss : List ℕ) (l : ℕ)
     (has : HaveNumbers bits n w (outer ++ (l ∷ (over ++ inner)))) → MayMoveOver has.top has.turns l over
     → AreCountable has.top has.turns (outer ++ (over ++ l ∷ inner))
     → AreCountable has.top has.turns (outer ++ (l ∷ (over ++ inner)))
@@ -51,7 +51,7 @@ MovedTripsAreCounted =
 -- ---- the first chain, and the chain with its loops in another order
 
 -- a trip names symbols alone, and where it can be counted, so often does the loop turn
-pub record HaveSymbolTrips (bits : ℕ) (n : Nest) (w : Setting) (ls : List ℕ) : Type 0 where
+pub record HaveSymbolTrips (bits : ℕ) (n : RunNest) (w : Setting) (ls : List ℕ) : Type 0 where
   pub numbers : HaveNumbers bits n w ls
   pub names : (l : ℕ) (x : List ℕ) → In l ls → In x (names_in (n.trip_at l)) → In x n.symbols
   pub counted : (l k : ℕ) → In l ls → trip_count (pos 1) (numbers.top l) (pos 1) ≡ Ok k → k ≡ numbers.turns l
@@ -59,7 +59,7 @@ pub record HaveSymbolTrips (bits : ℕ) (n : Nest) (w : Setting) (ls : List ℕ)
 -- where the run of a nest goes on, its trips could be counted
 abbrev pub RunTripsAreCountable : Type 0
 RunTripsAreCountable =
-    (bits : ℕ) (n : Nest) (w : Setting) (l : ℕ) (ls ss : List ℕ) (y : Layout) (s : State)
+    (bits : ℕ) (n : RunNest) (w : Setting) (l : ℕ) (ls ss : List ℕ) (y : Layout) (s : State)
     (has : HaveNumbers bits n w (l ∷ ls)) → 31 ≤ bits → IsNestIn bits n w → n.shape ≡ chain_of (l ∷ ls) ss
     → HoldsNest bits n w s.store → (does (sequential bits) None (nest_statement n y [] n.shape) s).way ≡ Going
     → AreCountable has.top has.turns (l ∷ ls)
@@ -67,6 +67,6 @@ RunTripsAreCountable =
 -- with its loops in another order it is a nest, too
 abbrev pub RearrangedNestIsNest : Type 0
 RearrangedNestIsNest =
-    (bits : ℕ) (n : Nest) (w : Setting) (l : ℕ) (ls ss ps : List ℕ)
+    (bits : ℕ) (n : RunNest) (w : Setting) (l : ℕ) (ls ss ps : List ℕ)
     → IsNestIn bits n w → n.shape ≡ chain_of (l ∷ ls) ss → HaveSymbolTrips bits n w (l ∷ ls)
     → IsNestIn bits (rearranged_nest ps n (l ∷ ls) ss) w

@@ -6,12 +6,12 @@ use Rattle.meaning.specs.Store.{Cell}
 use Rattle.nest_order.specs.orders.Graphs.{Arc}
 use Rattle.nest_order.specs.orders.Lists.{In}
 use Rattle.nest_order.specs.orders.Shapes.{statements}
-use Rattle.nest_order.specs.runs.Nests.{Nest}
+use Rattle.nest_order.specs.runs.Nests.{RunNest}
 use Rattle.nest_order.specs.runs.Touched.{MayName, nth_of, references_of}
 use Rattle.interchange_laws.specs.orders.Moves.{chain_of, rearranged, restored}
 
 -- the chain of the loops ls round the statements ss, with the loops in another order
-abbrev pub rearranged_nest : List ℕ → Nest → List ℕ → List ℕ → Nest
+abbrev pub rearranged_nest : List ℕ → RunNest → List ℕ → List ℕ → RunNest
 rearranged_nest ps n ls ss = record {
   shape = chain_of (rearranged ps ls) ss;
   loops_of = λ s. rearranged ps (n.loops_of s);
@@ -29,7 +29,7 @@ pub record IsOwnAnti (a : Arc) : Type 0 where
   pub read : a.from.reference ≡ 0 → ⊥
 
 -- a statement that reads what it writes reads in each instance just what it writes there
-abbrev pub ReadsWhatItWrites : Nest → Type 0
+abbrev pub ReadsWhatItWrites : RunNest → Type 0
 ReadsWhatItWrites n =
     (s : ℕ) (q : ℕ) (r : Reference) (v : ℕ → ℤ) (is : List ℕ) (c : Cell) → In s (statements n.shape)
     → nth_of (references_of n s) (suc q) ≡ Some r → r.name ≡ (n.statement_at s).left.name → MayName n v s is r c

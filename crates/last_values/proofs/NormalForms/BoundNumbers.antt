@@ -11,7 +11,7 @@ use Rattle.last_values.specs.declared.normal_forms.combinations.Multiple.{Multip
 use Rattle.last_values.specs.declared.normal_forms.loops.NormalLoop.{NormalLoop}
 use Rattle.last_values.specs.declared.normal_forms.places.Place.TheVariants as place
 use Rattle.last_values.specs.normal_forms.Steps.{◌>>=◌}
-use Rattle.last_values.specs.normal_forms.Combinations.{at, combination, affine_of, without_loops, times}
+use Rattle.last_values.specs.normal_forms.Combinations.{number_of_place, combination, affine_of, without_loops, times}
 use Rattle.last_values.specs.normal_forms.NormalLoops as loops
 use Rattle.last_values.specs.normal_forms.Numbers.{products, number_of_form, sum_of_numbers, values_from, variable_numbers, BoundHasNumber}
 use Rattle.last_values.proofs.NormalForms.Numbers.{products-alike, products-zero, looked_up, combination_has_number}
@@ -44,37 +44,37 @@ module _ (n : ℕ) (iterations values : ℕ → ℤ) where
       grouped p q r = omega (arith, ints)
 
   -- the variables as they stand in a form
-  variables-number : (a : Affine) (k : ℕ) (round : List NormalLoop) (cs : List ℤ) → ((i : ℕ) → i < length round → at a (place.Loop (k + i)) ≡ get_or cs i (pos 0))
-      → Sum (loops.values_from k a round) ≡ weighted (take (length round) cs) (variable_numbers n iterations values round)
+  variables-number : (a : Affine) (k : ℕ) (round : List NormalLoop) (cs : List ℤ) → ((i : ℕ) → i < length round → number_of_place a (place.Loop (k + i)) ≡ get_or cs i (pos 0))
+      → Sum (loops.variable_values_from k a round) ≡ weighted (take (length round) cs) (variable_numbers n iterations values round)
   variables-number a k [] cs h = none cs
     where
       none : (cs : List ℤ) → pos 0 ≡ weighted (take 0 cs) []
       none [] = refl
       none (c ∷ cs) = refl
   variables-number a k (r ∷ rs) [] h =
-      ap₂ (λ x y. x *ℤ Number r.value +ℤ y) (ap (λ i. at a (place.Loop i)) (omega arith) ∙ h 0 (omega arith))
-      (variables-number a (k + 1) rs [] (λ i m. ap (λ i. at a (place.Loop i)) (omega arith) ∙ h (suc i) (omega (arith, m))))
+      ap₂ (λ x y. x *ℤ Number r.value +ℤ y) (ap (λ i. number_of_place a (place.Loop i)) (omega arith) ∙ h 0 (omega arith))
+      (variables-number a (k + 1) rs [] (λ i m. ap (λ i. number_of_place a (place.Loop i)) (omega arith) ∙ h (suc i) (omega (arith, m))))
       ∙ (ap₂ (λ x y. x +ℤ y) (zero-*ℤ (Number r.value)) (nothing (length rs)))
     where
       nothing : (m : ℕ) → weighted (take m []) (variable_numbers n iterations values rs) ≡ pos 0
       nothing zero = refl
       nothing (suc m) = refl
   variables-number a k (r ∷ rs) (c ∷ cs) h =
-      ap₂ (λ x y. x *ℤ Number r.value +ℤ y) (ap (λ i. at a (place.Loop i)) (omega arith) ∙ h 0 (omega arith))
-      (variables-number a (k + 1) rs cs (λ i m. ap (λ i. at a (place.Loop i)) (omega arith) ∙ h (suc i) (omega (arith, m))))
+      ap₂ (λ x y. x *ℤ Number r.value +ℤ y) (ap (λ i. number_of_place a (place.Loop i)) (omega arith) ∙ h 0 (omega arith))
+      (variables-number a (k + 1) rs cs (λ i m. ap (λ i. number_of_place a (place.Loop i)) (omega arith) ∙ h (suc i) (omega (arith, m))))
 
   -- the symbols and the constant of a form
   rest-number : (d : ℕ) (f : Form) → Number (without_loops (affine_of d f)) ≡ weighted (drop d f.coefficients) (values_from n 0 values) +ℤ f.constant
   rest-number d f =
-      ap (λ z. z +ℤ (products n 0 (λ j. at (affine_of d f) (place.Symbol j)) values +ℤ f.constant)) (products-alike 7 0 (λ k. at (without_loops (affine_of d f)) (place.Loop k)) (λ k. pos 0) iterations (λ k m. none k (omega (arith, m))) ∙ products-zero 7 0 iterations)
-      ∙ (zero_left (products n 0 (λ j. at (affine_of d f) (place.Symbol j)) values +ℤ f.constant)
-      ∙ ap (λ z. z +ℤ f.constant) (products-weighted n 0 (drop d f.coefficients) (λ j. at (affine_of d f) (place.Symbol j)) values
+      ap (λ z. z +ℤ (products n 0 (λ j. number_of_place (affine_of d f) (place.Symbol j)) values +ℤ f.constant)) (products-alike 7 0 (λ k. number_of_place (without_loops (affine_of d f)) (place.Loop k)) (λ k. pos 0) iterations (λ k m. none k (omega (arith, m))) ∙ products-zero 7 0 iterations)
+      ∙ (zero_left (products n 0 (λ j. number_of_place (affine_of d f) (place.Symbol j)) values +ℤ f.constant)
+      ∙ ap (λ z. z +ℤ f.constant) (products-weighted n 0 (drop d f.coefficients) (λ j. number_of_place (affine_of d f) (place.Symbol j)) values
       (λ i m. looked_up 0 (drop d f.coefficients) (8 - length (terms_from 0 (drop d f.coefficients))) i (0 + i) refl)))
     where
       zero_left : (z : ℤ) → pos 0 +ℤ z ≡ z
       zero_left z = omega (arith, ints)
 
-      none : (k : ℕ) → k < 7 → at (without_loops (affine_of d f)) (place.Loop k) ≡ pos 0
+      none : (k : ℕ) → k < 7 → number_of_place (without_loops (affine_of d f)) (place.Loop k) ≡ pos 0
       none zero m = refl
       none (suc zero) m = refl
       none (suc (suc zero)) m = refl
@@ -127,7 +127,7 @@ bound_has_number symbols round e more f a iterations values h g =
     combination_has_number n (loops.with_counters round b ++ more) a iterations values here
     ∙ (sum-append n iterations values (loops.with_counters round b) more
     ∙ ap (λ z. z +ℤ sum_of_numbers n iterations values more)
-    (sum-append n iterations values (loops.values_from 0 b round) (times (pos 1) (without_loops b) ∷ [])
+    (sum-append n iterations values (loops.variable_values_from 0 b round) (times (pos 1) (without_loops b) ∷ [])
     ∙ (ap₂ (λ p q. p +ℤ (pos 1 *ℤ q +ℤ pos 0)) front rest
     ∙ (single (weighted (take d f.coefficients) ws) (weighted (drop d f.coefficients) vs) f.constant
     ∙ ap (λ z. z +ℤ f.constant) (sym (whole ∙ parts))))))

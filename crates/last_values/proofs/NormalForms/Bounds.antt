@@ -9,11 +9,11 @@ use Rattle.last_values.specs.declared.normal_forms.combinations.Multiple.{Multip
 use Rattle.last_values.specs.declared.normal_forms.loops.NormalLoop.{NormalLoop}
 use Rattle.last_values.specs.declared.normal_forms.places.Place.TheVariants as place
 use Rattle.last_values.specs.normal_forms.Steps.{◌>>=◌}
-use Rattle.last_values.specs.normal_forms.Combinations.{at, combination, affine_of, without_loops, times}
-use Rattle.last_values.specs.normal_forms.NormalLoops.{variables_of, values_from, with_counters, bound_form}
+use Rattle.last_values.specs.normal_forms.Combinations.{number_of_place, combination, affine_of, without_loops, times}
+use Rattle.last_values.specs.normal_forms.NormalLoops.{variables_of, variable_values_from, with_counters, bound_form}
 
 module _ (d : ℕ) (f : Form) (a : Affine) (h : IsAffineOf d f a) where
-  values_alike : (k : ℕ) (round : List NormalLoop) → values_from k a round ≡ values_from k (affine_of d f) round
+  values_alike : (k : ℕ) (round : List NormalLoop) → variable_values_from k a round ≡ variable_values_from k (affine_of d f) round
   values_alike k [] = refl
   values_alike k (r ∷ rs) = ap₂ (λ z ts. times z r.value ∷ ts) (h.loops k) (values_alike (k + 1) rs)
 

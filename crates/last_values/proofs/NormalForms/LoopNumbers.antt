@@ -16,7 +16,7 @@ use Rattle.last_values.specs.declared.normal_forms.combinations.Multiple.{Multip
 use Rattle.last_values.specs.declared.normal_forms.loops.NormalLoop.{NormalLoop}
 use Rattle.last_values.specs.declared.normal_forms.places.Place.TheVariants as place
 use Rattle.last_values.specs.normal_forms.Steps.{◌>>=◌}
-use Rattle.last_values.specs.normal_forms.Combinations.{coefficient_in, at, combination, number_form, times, zero_loops, no_symbols, seven}
+use Rattle.last_values.specs.normal_forms.Combinations.{coefficient_in, number_of_place, combination, number_form, times, zero_loops, no_symbols, seven}
 use Rattle.last_values.specs.normal_forms.NormalLoops as loops
 use Rattle.last_values.specs.normal_forms.NormalLoops.{bound_form, one_at, loop_form, is_zero, is_unused, has_no_loops, has_no_symbols, is_constant, trip_of, trip_form, is_suitable, plus_number, plus_multiple, sign_of, trip_by, with_forms, forms_by_trip, forms_by_first, forms_of, normal_loop}
 use Rattle.last_values.specs.normal_forms.Numbers.{products, number_of_form, sum_of_numbers, values_from, variable_numbers, trip_number, LoopNumbers, NormalLoopHasNumbers}
@@ -25,7 +25,7 @@ use Rattle.last_values.proofs.NormalForms.BoundNumbers.{bound_has_number}
 
 -- ---- simple forms
 
-zero_at : (k : ℕ) → at (number_form (pos 0)) (place.Loop k) ≡ pos 0
+zero_at : (k : ℕ) → number_of_place (number_form (pos 0)) (place.Loop k) ≡ pos 0
 zero_at zero = refl
 zero_at (suc zero) = refl
 zero_at (suc (suc zero)) = refl
@@ -44,7 +44,7 @@ module _ (n : ℕ) (iterations values : ℕ → ℤ) where
 
   number-number : (z : ℤ) → Number (number_form z) ≡ z
   number-number z =
-      ap₂ (λ p q. p +ℤ (q +ℤ z)) (products-alike 7 0 (λ k. at (number_form z) (place.Loop k)) (λ k. pos 0) iterations (λ k h. zero_at k) ∙ products-zero 7 0 iterations)
+      ap₂ (λ p q. p +ℤ (q +ℤ z)) (products-alike 7 0 (λ k. number_of_place (number_form z) (place.Loop k)) (λ k. pos 0) iterations (λ k h. zero_at k) ∙ products-zero 7 0 iterations)
       (products-alike n 0 (λ j. coefficient_in no_symbols j) (λ j. pos 0) values (λ j h. no_symbol j) ∙ products-zero n 0 values)
       ∙ zeros z
     where
@@ -52,7 +52,7 @@ module _ (n : ℕ) (iterations values : ℕ → ℤ) where
       zeros z = omega (arith, ints)
 
   -- 1 for one loop
-  one : (k : ℕ) → k < 7 → products 7 0 (λ j. at (loop_form k) (place.Loop j)) iterations ≡ iterations k
+  one : (k : ℕ) → k < 7 → products 7 0 (λ j. number_of_place (loop_form k) (place.Loop j)) iterations ≡ iterations k
   one zero h = omega (arith, ints)
   one (suc zero) h = omega (arith, ints)
   one (suc (suc zero)) h = omega (arith, ints)
@@ -109,8 +109,8 @@ module _ (n : ℕ) (iterations values : ℕ → ℤ) where
   constant-number : (a : Affine) → is_constant a ≡ true → number_of_form n iterations values a ≡ a.constant
   constant-number a h =
       let p = both (has_no_loops a) (has_no_symbols a) h in
-      ap₂ (λ x y. x +ℤ (y +ℤ a.constant)) (products-alike 7 0 (λ k. at a (place.Loop k)) (λ k. pos 0) iterations (λ k m. loops_zero a.loops k p.0) ∙ products-zero 7 0 iterations)
-      (products-alike n 0 (λ j. at a (place.Symbol j)) (λ j. pos 0) values (λ j m. symbols_zero a.syms j p.1) ∙ products-zero n 0 values)
+      ap₂ (λ x y. x +ℤ (y +ℤ a.constant)) (products-alike 7 0 (λ k. number_of_place a (place.Loop k)) (λ k. pos 0) iterations (λ k m. loops_zero a.loops k p.0) ∙ products-zero 7 0 iterations)
+      (products-alike n 0 (λ j. number_of_place a (place.Symbol j)) (λ j. pos 0) values (λ j m. symbols_zero a.syms j p.1) ∙ products-zero n 0 values)
       ∙ zeros a.constant
     where
       zeros : (z : ℤ) → pos 0 +ℤ (pos 0 +ℤ z) ≡ z

@@ -21,7 +21,7 @@ use Rattle.subscripts.specs.declared.affine.Affine.{Affine}
 use Rattle.last_values.specs.declared.normal_forms.combinations.Multiple.{Multiple}
 use Rattle.last_values.specs.declared.normal_forms.places.Place.{Place}
 use Rattle.last_values.specs.declared.normal_forms.places.Place.TheVariants as place
-use Rattle.last_values.specs.normal_forms.Combinations.{coefficient_in, at, combined_at, with_number, all_within, seven, no_terms, with_symbols, form_with, has_small_factor, combination}
+use Rattle.last_values.specs.normal_forms.Combinations.{coefficient_in, number_of_place, combined_at, with_number, all_within, seven, no_terms, with_symbol_terms, form_with, has_small_factor, combination}
 use Rattle.last_values.specs.normal_forms.Numbers.{products, number_of_form, sum_of_numbers, values_from, CombinationHasNumber}
 
 -- ---- products
@@ -69,10 +69,10 @@ module _ (n : ℕ) (iterations values : ℕ → ℤ) where
   sum_by_places : (ts : List Multiple) → loops_at ts +ℤ (symbols_at ts +ℤ combined_at ts place.Constant) ≡ sum_of_numbers n iterations values ts
   sum_by_places [] = ap₂ (λ p q. p +ℤ (q +ℤ pos 0)) (products-zero 7 0 iterations) (products-zero n 0 values)
   sum_by_places (t ∷ ts) =
-      ap₂ (λ p q. p +ℤ (q +ℤ (t.times *ℤ at t.form place.Constant +ℤ combined_at ts place.Constant)))
-      (products-sum 7 0 t.times (λ k. at t.form (place.Loop k)) (λ k. combined_at ts (place.Loop k)) iterations)
-      (products-sum n 0 t.times (λ j. at t.form (place.Symbol j)) (λ j. combined_at ts (place.Symbol j)) values)
-      ∙ (six t.times (products 7 0 (λ k. at t.form (place.Loop k)) iterations) (products n 0 (λ j. at t.form (place.Symbol j)) values) (at t.form place.Constant)
+      ap₂ (λ p q. p +ℤ (q +ℤ (t.times *ℤ number_of_place t.form place.Constant +ℤ combined_at ts place.Constant)))
+      (products-sum 7 0 t.times (λ k. number_of_place t.form (place.Loop k)) (λ k. combined_at ts (place.Loop k)) iterations)
+      (products-sum n 0 t.times (λ j. number_of_place t.form (place.Symbol j)) (λ j. combined_at ts (place.Symbol j)) values)
+      ∙ (six t.times (products 7 0 (λ k. number_of_place t.form (place.Loop k)) iterations) (products n 0 (λ j. number_of_place t.form (place.Symbol j)) values) (number_of_place t.form place.Constant)
       (loops_at ts) (symbols_at ts) (combined_at ts place.Constant)
       ∙ ap (λ z. t.times *ℤ number_of_form n iterations values t.form +ℤ z) (sum_by_places ts))
 
@@ -93,15 +93,15 @@ all_within-is (z ∷ zs) ys h = by (λ vs g. all_within-is zs vs g) (small_or_no
 abbrev more_room : ℕ → ℤ → Terms → Option Terms
 more_room j z t = cond (is_small z && nat_lt t.used 8) (Some (record { at = set t.at t.used (j, z); used = t.used + 1 })) None
 
-symbols-pushed : (f : ℕ → ℤ) (n j : ℕ) (t : Terms) → with_symbols f n j t ≡ all_pushed (terms_from j (values_from n j f)) t
+symbols-pushed : (f : ℕ → ℤ) (n j : ℕ) (t : Terms) → with_symbol_terms f n j t ≡ all_pushed (terms_from j (values_from n j f)) t
 symbols-pushed f zero j t = refl
 symbols-pushed f (suc n) j t =
     by (λ u. symbols-pushed f n (j + 1) u ∙ ap (λ k. all_pushed (terms_from k (values_from n (j + 1) f)) u) (add-one j)) (int_eq (f j) (pos 0)) refl
   where
-    by : ((u : Terms) → with_symbols f n (j + 1) u ≡ all_pushed (terms_from (suc j) (values_from n (j + 1) f)) u) → (b : Bool) → int_eq (f j) (pos 0) ≡ b
-        → then_pushed (pushed j (f j) t) (with_symbols f n (j + 1)) ≡ all_pushed (cond b (terms_from (suc j) (values_from n (j + 1) f)) ((j, f j) ∷ terms_from (suc j) (values_from n (j + 1) f))) t
-    by later true e = ap (λ c. then_pushed (cond c (Some t) (more_room j (f j) t)) (with_symbols f n (j + 1))) e ∙ later t
-    by later false e = then_same (pushed j (f j) t) (with_symbols f n (j + 1)) (all_pushed (terms_from (suc j) (values_from n (j + 1) f))) later
+    by : ((u : Terms) → with_symbol_terms f n (j + 1) u ≡ all_pushed (terms_from (suc j) (values_from n (j + 1) f)) u) → (b : Bool) → int_eq (f j) (pos 0) ≡ b
+        → then_pushed (pushed j (f j) t) (with_symbol_terms f n (j + 1)) ≡ all_pushed (cond b (terms_from (suc j) (values_from n (j + 1) f)) ((j, f j) ∷ terms_from (suc j) (values_from n (j + 1) f))) t
+    by later true e = ap (λ c. then_pushed (cond c (Some t) (more_room j (f j) t)) (with_symbol_terms f n (j + 1))) e ∙ later t
+    by later false e = then_same (pushed j (f j) t) (with_symbol_terms f n (j + 1)) (all_pushed (terms_from (suc j) (values_from n (j + 1) f))) later
 
 -- ---- looking a coefficient up
 
@@ -163,7 +163,7 @@ placed (suc n) j zero f h = ap f (omega arith)
 placed (suc n) j (suc i) f h = placed n (j + 1) i f (omega (arith, h)) ∙ ap f (omega arith)
 
 -- the terms that were pushed have the coefficients
-symbols-are : (f : ℕ → ℤ) (n : ℕ) (t : Terms) → with_symbols f n 0 no_terms ≡ Some t → (j : ℕ) → j < n → coefficient_in t.at j ≡ f j
+symbols-are : (f : ℕ → ℤ) (n : ℕ) (t : Terms) → with_symbol_terms f n 0 no_terms ≡ Some t → (j : ℕ) → j < n → coefficient_in t.at j ≡ f j
 symbols-are f n t h j k =
     let es : List ℤ = values_from n 0 f in
     let all = pushes 0 es [] no_terms (record { at = refl; used = refl }) (omega arith) in
@@ -180,9 +180,9 @@ symbols-are f n t h j k =
 
 module _ (n : ℕ) (ts : List Multiple) (a : Affine) where
   pub record Places : Type 0 where
-    pub loops : (k : ℕ) → k < 7 → at a (place.Loop k) ≡ combined_at ts (place.Loop k)
-    pub symbols : (j : ℕ) → j < n → at a (place.Symbol j) ≡ combined_at ts (place.Symbol j)
-    pub constant : at a place.Constant ≡ combined_at ts place.Constant
+    pub loops : (k : ℕ) → k < 7 → number_of_place a (place.Loop k) ≡ combined_at ts (place.Loop k)
+    pub symbols : (j : ℕ) → j < n → number_of_place a (place.Symbol j) ≡ combined_at ts (place.Symbol j)
+    pub constant : number_of_place a place.Constant ≡ combined_at ts place.Constant
 
   seven-at : (f : ℕ → ℤ) (k : ℕ) → k < 7 → get_or (seven f) k (pos 0) ≡ f k
   seven-at f zero h = refl
@@ -195,7 +195,7 @@ module _ (n : ℕ) (ts : List Multiple) (a : Affine) where
   seven-at f (suc (suc (suc (suc (suc (suc (suc k))))))) h = absurd (omega (arith, h))
 
   parted : (ls : Option (List ℤ)) → all_within (seven (λ k. combined_at ts (place.Loop k))) ≡ ls
-      → (o : Option Terms) → with_symbols (λ j. combined_at ts (place.Symbol j)) n 0 no_terms ≡ o
+      → (o : Option Terms) → with_symbol_terms (λ j. combined_at ts (place.Symbol j)) n 0 no_terms ≡ o
       → (z : Option ℤ) → small_or_none (combined_at ts place.Constant) ≡ z → form_with ls o z ≡ Some a → Places
   parted None e o f z g h = cc
   parted (Some ls) e None f z g h = cc
@@ -212,13 +212,13 @@ module _ (n : ℕ) (ts : List Multiple) (a : Affine) where
   unfolding combination
   places_of h = by (list_all has_small_factor ts) h
     where
-      by : (b : Bool) → cond b (form_with (all_within (seven (λ k. combined_at ts (place.Loop k)))) (with_symbols (λ j. combined_at ts (place.Symbol j)) n 0 no_terms) (small_or_none (combined_at ts place.Constant))) None ≡ Some a → Places
-      by true g = parted (all_within (seven (λ k. combined_at ts (place.Loop k)))) refl (with_symbols (λ j. combined_at ts (place.Symbol j)) n 0 no_terms) refl (small_or_none (combined_at ts place.Constant)) refl g
+      by : (b : Bool) → cond b (form_with (all_within (seven (λ k. combined_at ts (place.Loop k)))) (with_symbol_terms (λ j. combined_at ts (place.Symbol j)) n 0 no_terms) (small_or_none (combined_at ts place.Constant))) None ≡ Some a → Places
+      by true g = parted (all_within (seven (λ k. combined_at ts (place.Loop k)))) refl (with_symbol_terms (λ j. combined_at ts (place.Symbol j)) n 0 no_terms) refl (small_or_none (combined_at ts place.Constant)) refl g
       by false g = cc
 
 pub combination_has_number : CombinationHasNumber
 combination_has_number n ts a iterations values h =
     let p = places_of n ts a h in
-    ap₂ (λ x y. x +ℤ y) (products-alike 7 0 (λ k. at a (place.Loop k)) (λ k. combined_at ts (place.Loop k)) iterations (λ k m. p.loops k (omega (arith, m))))
-    (ap₂ (λ x y. x +ℤ y) (products-alike n 0 (λ j. at a (place.Symbol j)) (λ j. combined_at ts (place.Symbol j)) values (λ j m. p.symbols j (omega (arith, m)))) p.constant)
+    ap₂ (λ x y. x +ℤ y) (products-alike 7 0 (λ k. number_of_place a (place.Loop k)) (λ k. combined_at ts (place.Loop k)) iterations (λ k m. p.loops k (omega (arith, m))))
+    (ap₂ (λ x y. x +ℤ y) (products-alike n 0 (λ j. number_of_place a (place.Symbol j)) (λ j. combined_at ts (place.Symbol j)) values (λ j m. p.symbols j (omega (arith, m)))) p.constant)
     ∙ sum_by_places n iterations values ts

@@ -18,14 +18,14 @@ coefficient_in [] j = pos 0
 coefficient_in (t ∷ ts) j = if t.0 == j then t.1 else coefficient_in ts j
 
 -- the number at a place of a form
-abbrev pub at : Affine → Place → ℤ
-at a (Loop k) = slice_index_or a.loops k (pos 0)
-at a (Symbol j) = coefficient_in a.syms j
-at a Constant = a.constant
+abbrev pub number_of_place : Affine → Place → ℤ
+number_of_place a (Loop k) = slice_index_or a.loops k (pos 0)
+number_of_place a (Symbol j) = coefficient_in a.syms j
+number_of_place a Constant = a.constant
 
 abbrev pub combined_at : List Multiple → Place → ℤ
 combined_at [] p = pos 0
-combined_at (t ∷ ts) p = t.times *ℤ at t.form p +ℤ combined_at ts p
+combined_at (t ∷ ts) p = t.times *ℤ number_of_place t.form p +ℤ combined_at ts p
 
 -- ---- within the limits: numbers of size up to 2^40, and at most 8 symbols
 
@@ -46,9 +46,9 @@ abbrev pub no_terms : Terms
 no_terms = record { at = replicate 8 (0, pos 0); used = 0 }
 
 -- n symbols from the place j on, behind the terms so far
-abbrev pub with_symbols : (ℕ → ℤ) → ℕ → ℕ → Terms → Option Terms
-with_symbols f zero j t = Some t
-with_symbols f (suc n) j t = then_pushed (pushed j (f j) t) (with_symbols f n (j + 1))
+abbrev pub with_symbol_terms : (ℕ → ℤ) → ℕ → ℕ → Terms → Option Terms
+with_symbol_terms f zero j t = Some t
+with_symbol_terms f (suc n) j t = then_pushed (pushed j (f j) t) (with_symbol_terms f n (j + 1))
 
 abbrev pub form_with : Option (List ℤ) → Option Terms → Option ℤ → Option Affine
 form_with (Some ls) (Some t) (Some z) = Some (record { loops = ls; syms = t.at; constant = z })
@@ -65,7 +65,7 @@ unfoldable pub combination : ℕ → List Multiple → Option Affine
 combination n ts =
     if list_all has_small_factor ts
     then form_with (all_within (seven (λ k. combined_at ts (Loop k))))
-    (with_symbols (λ j. combined_at ts (Symbol j)) n 0 no_terms) (small_or_none (combined_at ts Constant))
+    (with_symbol_terms (λ j. combined_at ts (Symbol j)) n 0 no_terms) (small_or_none (combined_at ts Constant))
     else None
 
 -- ---- forms of expressions

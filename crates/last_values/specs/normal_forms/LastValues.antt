@@ -7,14 +7,15 @@ use Rattle.last_values.specs.declared.normal_forms.loops.NormalLoop.{NormalLoop}
 use Rattle.last_values.specs.declared.normal_forms.last.LastForms.{LastForms}
 use Rattle.last_values.specs.declared.normal_forms.places.Place.TheVariants as place
 use Rattle.last_values.specs.normal_forms.Steps.{◌>>=◌}
-use Rattle.last_values.specs.normal_forms.Combinations.{at, combination, without_loops, times}
+use Rattle.last_values.specs.normal_forms.Combinations.{number_of_place, combination, without_loops, times}
 use Rattle.last_values.specs.normal_forms.NormalLoops.{trip_of, trip_form, has_no_loops, plus_multiple}
 
 -- Each loop's trip as many times as its counter stands in a form, from the k-th loop on; a divided trip of the k-th
 -- loop has the place n + k
 abbrev pub trips_from : ℕ → ℕ → Affine → List NormalLoop → List Multiple
 trips_from n k a [] = []
-trips_from n k a (r ∷ rs) = times (at a (place.Loop k)) (trip_form (n + k) r.trip) ∷ trips_from n (k + 1) a rs
+trips_from n k a (r ∷ rs) =
+    times (number_of_place a (place.Loop k)) (trip_form (n + k) r.trip) ∷ trips_from n (k + 1) a rs
 
 -- a form with the counter of each of these loops replaced by its trip
 abbrev pub with_trips : ℕ → List NormalLoop → Affine → List Multiple

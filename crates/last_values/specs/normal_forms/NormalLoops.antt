@@ -14,9 +14,8 @@ use Rattle.last_values.specs.declared.normal_forms.combinations.Multiple.{Multip
 use Rattle.last_values.specs.declared.normal_forms.loops.NormalLoop.{NormalLoop}
 use Rattle.last_values.specs.declared.normal_forms.places.Place.TheVariants as place
 use Rattle.last_values.specs.normal_forms.Steps.{◌>>=◌}
-use Rattle.last_values.specs.normal_forms.Combinations.{at, combination, affine_of, number_form, without_loops, times}
-use Rattle.last_values.specs.normal_forms.Combinations.{zero_loops}
-use Rattle.last_values.specs.normal_forms.Combinations.{no_symbols, seven}
+use Rattle.last_values.specs.normal_forms.Combinations.{number_of_place, combination, affine_of, number_form}
+use Rattle.last_values.specs.normal_forms.Combinations.{without_loops, times, zero_loops, no_symbols, seven}
 
 -- the variable of the n-th loop of the program
 abbrev pub counter_name : ℕ → List ℕ
@@ -31,13 +30,13 @@ abbrev pub counters_of : List NormalLoop → List (List ℕ)
 counters_of rs = map (λ (r : NormalLoop). r.counter) rs
 
 -- the value of each variable as many times as the variable stands in a form, from the k-th loop on
-abbrev pub values_from : ℕ → Affine → List NormalLoop → List Multiple
-values_from k a [] = []
-values_from k a (r ∷ rs) = times (at a (place.Loop k)) r.value ∷ values_from (k + 1) a rs
+abbrev pub variable_values_from : ℕ → Affine → List NormalLoop → List Multiple
+variable_values_from k a [] = []
+variable_values_from k a (r ∷ rs) = times (number_of_place a (place.Loop k)) r.value ∷ variable_values_from (k + 1) a rs
 
 -- a form over the variables of these loops as one over their counters
 abbrev pub with_counters : List NormalLoop → Affine → List Multiple
-with_counters round a = values_from 0 a round ++ times (pos 1) (without_loops a) ∷ []
+with_counters round a = variable_values_from 0 a round ++ times (pos 1) (without_loops a) ∷ []
 
 -- a bound that is linear over the variables of the loops round it and the symbols, and further multiples
 unfoldable pub bound_form : List (List ℕ) → List NormalLoop → Expression → List Multiple → Option Affine

@@ -1,7 +1,6 @@
 -- The number that a form is, where its loops are at these iterations and its symbols and divided trips have these
 -- values.
-use Rattle.std.specs.Prelude.{◌≡◌, Some, ℕ, zero, suc, ◌+◌, ℤ, pos, ◌+ℤ◌, ◌-ℤ◌, ◌*ℤ◌}
-use Rattle.std.specs.Prelude.{nat_abs, int_div, List, [], ◌∷◌}
+use Rattle.std.specs.Prelude.{◌≡◌, Some, ℕ, zero, suc, ◌+◌, ℤ, pos, ◌+ℤ◌, ◌-ℤ◌, ◌*ℤ◌, nat_abs, int_div, List, [], ◌∷◌}
 use Rattle.std.specs.Prelude.{◌++◌, map, length}
 use Rattle.tree.specs.Plain.{Expression}
 use Rattle.linear_forms.specs.Linear.{Form, form_of, number_at}
@@ -11,7 +10,7 @@ use Rattle.subscripts.specs.declared.affine.Affine.{Affine}
 use Rattle.last_values.specs.declared.normal_forms.combinations.Multiple.{Multiple}
 use Rattle.last_values.specs.declared.normal_forms.loops.NormalLoop.{NormalLoop}
 use Rattle.last_values.specs.declared.normal_forms.places.Place.TheVariants as place
-use Rattle.last_values.specs.normal_forms.Combinations.{at, combination}
+use Rattle.last_values.specs.normal_forms.Combinations.{number_of_place, combination}
 use Rattle.last_values.specs.normal_forms.NormalLoops.{variables_of, bound_form, sign_of, normal_loop}
 
 -- n products, from the j-th on
@@ -23,8 +22,8 @@ products (suc n) j c x = c j *ℤ x j +ℤ products n (j + 1) c x
 module _ (n : ℕ) (iterations values : ℕ → ℤ) where
   abbrev pub number_of_form : Affine → ℤ
   number_of_form a =
-      products 7 0 (λ k. at a (place.Loop k)) iterations
-      +ℤ (products n 0 (λ j. at a (place.Symbol j)) values +ℤ at a place.Constant)
+      products 7 0 (λ k. number_of_place a (place.Loop k)) iterations
+      +ℤ (products n 0 (λ j. number_of_place a (place.Symbol j)) values +ℤ number_of_place a place.Constant)
 
   abbrev pub sum_of_numbers : List Multiple → ℤ
   sum_of_numbers [] = pos 0

@@ -10,12 +10,12 @@ use Rattle.last_values.specs.declared.normal_forms.loops.NormalLoop.{NormalLoop}
 use Rattle.last_values.specs.normal_forms.NormalLoops.{counters_of}
 
 -- it isn't divided by 1
-abbrev pub quotient : Expression → ℤ → Expression
-quotient e d = if int_eq d (pos 1) then e else Binary Div e (Number d)
+abbrev pub quotient_text : Expression → ℤ → Expression
+quotient_text e d = if int_eq d (pos 1) then e else Binary Div e (Number d)
 
 -- a trip over these loops and symbols, and further divided trips
 unfoldable pub trip_text : List (List ℕ) → List (List ℕ) → List Expression → Trip → Expression
-trip_text counters symbols trips t = quotient (text_of counters symbols trips t.top) t.by
+trip_text counters symbols trips t = quotient_text (text_of counters symbols trips t.top) t.by
 
 -- the form with the increment's multiple of the loop's own counter before the counters of the loops round it
 abbrev pub counter_first : ℤ → Affine → Affine
@@ -26,8 +26,8 @@ counter_first step a = record a {
 }
 
 -- m3 times the counter, and m1 - m3: what stands for the variable of a loop under these loops
-unfoldable pub value_text : List (List ℕ) → List NormalLoop → NormalLoop → Expression
-value_text symbols round r = text_of (r.counter ∷ counters_of round) symbols [] (counter_first r.step r.below)
+unfoldable pub variable_text : List (List ℕ) → List NormalLoop → NormalLoop → Expression
+variable_text symbols round r = text_of (r.counter ∷ counters_of round) symbols [] (counter_first r.step r.below)
 
 abbrev pub at_least_one : Expression → Expression
 at_least_one e = Binary Ge e (Number (pos 1))

@@ -4,7 +4,7 @@ ghost use Rattle.std.specs.List.{list_all};
 ghost use Rattle.linear_forms.specs.Linear.{is_small};
 ghost use Rattle.linear_forms.specs.Pushing.{small_or_none, pushed};
 ghost use Rattle.last_values.specs.declared.normal_forms.places.Place.TheVariants.{Loop, Symbol};
-ghost use Rattle.last_values.specs.normal_forms.Combinations.{combined_at, all_within, seven, with_symbols};
+ghost use Rattle.last_values.specs.normal_forms.Combinations.{combined_at, all_within, seven, with_symbol_terms};
 ghost use Rattle.last_values.specs.normal_forms.Combinations.{has_small_factor, combination};
 
 use crate::normal_forms::places::Place;
@@ -116,7 +116,7 @@ fn with_symbols(terms: &[Multiple], count: u16, place: u16, so_far: Terms) -> Op
     requires small { IsTrue (list_all has_small_factor terms.now) }
     requires few { length terms.now ≤ 16 }
     requires places { count + place < 2 ^ 16 }
-    ensures { result ≡ with_symbols (λ j. combined_at terms.now (Symbol j)) count place so_far }
+    ensures { result ≡ with_symbol_terms (λ j. combined_at terms.now (Symbol j)) count place so_far }
 {
     if count == 0 {
         return Some(so_far);

@@ -5,8 +5,8 @@ ghost use Rattle.tree.specs.View.{expression_of};
 ghost use Rattle.linear_forms.specs.Linear.{is_small};
 ghost use Rattle.nest.specs.View.{loop_of};
 ghost use Rattle.last_values.specs.normal_forms.Combinations.{without_loops, times, number_form};
-ghost use Rattle.last_values.specs.normal_forms.NormalLoops.{counter_name, variables_of, values_from, with_counters};
-ghost use Rattle.last_values.specs.normal_forms.NormalLoops.{bound_form};
+ghost use Rattle.last_values.specs.normal_forms.NormalLoops.{counter_name, variables_of, variable_values_from};
+ghost use Rattle.last_values.specs.normal_forms.NormalLoops.{with_counters, bound_form};
 ghost use Rattle.last_values.specs.normal_forms.NormalLoops.{loop_form, symbol_form, has_no_loops, is_constant};
 ghost use Rattle.last_values.specs.normal_forms.NormalLoops.{trip_of, trip_form};
 ghost use Rattle.last_values.specs.normal_forms.NormalLoops.{is_known, is_positive, is_suitable, plus_number};
@@ -68,7 +68,7 @@ fn add_values(
     round: &[NormalLoop],
 ) -> Result<(), Memory>
     requires { place + length round.now < 2 ^ 64 }
-    ensures values { OnOk result (terms.new.items ≡ terms.old.items ++ values_from place form.now round.now) }
+    ensures values { OnOk result (terms.new.items ≡ terms.old.items ++ variable_values_from place form.now round.now) }
     ensures count { OnOk result (length terms.new.items ≡ length terms.old.items + length round.now) }
 {
     let Some((first, rest)) = round.split_first() else {

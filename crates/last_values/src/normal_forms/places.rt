@@ -1,6 +1,6 @@
 //! Places of linear forms.
 ghost use Rattle.std.specs.Prelude.{◌≡◌, pos, slice_index_or};
-ghost use Rattle.last_values.specs.normal_forms.Combinations.{coefficient_in, at};
+ghost use Rattle.last_values.specs.normal_forms.Combinations.{coefficient_in, number_of_place};
 
 use subscripts::Affine;
 
@@ -36,7 +36,7 @@ fn loop_coefficient(loops: &[i64], place: usize) -> i64
 impl Place {
     /// The number at this place of a form.
     pub fn of(self, form: &Affine) -> i64
-        ensures { result ≡ at form.now self }
+        ensures { result ≡ number_of_place form.now self }
     {
         match self {
             Place::Loop(place) => loop_coefficient(&form.loops, place),

@@ -3,7 +3,8 @@ ghost use Rattle.std.specs.Prelude.{◌≡◌, ◌≤◌, ◌<◌, length, map, 
 ghost use Rattle.tree.specs.Plain.{Binary, Number};
 ghost use Rattle.tree.specs.View.{expression_of};
 ghost use Rattle.last_values.specs.normal_forms.NormalLoops.{counters_of};
-ghost use Rattle.last_values.specs.normal_forms.Texts.{quotient, trip_text, counter_first, value_text, at_least_one};
+ghost use Rattle.last_values.specs.normal_forms.Texts.{quotient_text, trip_text, counter_first, variable_text};
+ghost use Rattle.last_values.specs.normal_forms.Texts.{at_least_one};
 
 use crate::normal_forms::loops::NormalLoop;
 use linear_forms::express;
@@ -33,7 +34,7 @@ fn with_number(alloc: Global, op: Op, expr: Expr, number: i64) -> Result<Expr, M
 }
 
 fn quotient(alloc: Global, expr: Expr, by: i64) -> Result<Expr, Memory>
-    ensures { IfOk result (λ e. expression_of e ≡ quotient (expression_of expr) by) }
+    ensures { IfOk result (λ e. expression_of e ≡ quotient_text (expression_of expr) by) }
 {
     if by == 1 {
         return Ok(expr);
@@ -75,14 +76,14 @@ fn counter_first(step: i64, form: &Affine) -> Affine
 
 /// The increment times the counter, and the lower bound less the increment: what stands for the variable of a loop
 /// under these loops.
-#[tactic(auto, unfolding(crate::specs::normal_forms::Texts::value_text))]
+#[tactic(auto, unfolding(crate::specs::normal_forms::Texts::variable_text))]
 pub fn value_text(
     alloc: Global,
     symbols: &Seq<Name>,
     round: &[NormalLoop],
     turns: &NormalLoop,
 ) -> Result<Expr, Memory>
-    ensures { IfOk result (λ e. expression_of e ≡ value_text symbols.now round.now turns.now) }
+    ensures { IfOk result (λ e. expression_of e ≡ variable_text symbols.now round.now turns.now) }
 {
     let mut counters = Vec::from_slice(alloc, &[turns.counter])?;
     counters.extend_from_slice(counters_of(alloc, round)?.as_slice())?;

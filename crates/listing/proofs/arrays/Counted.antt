@@ -11,10 +11,11 @@ use Rattle.pass_laws.specs.prepared_nests.Nests.{IsPrepared}
 use Rattle.pass_laws.specs.prepared_nests.Statements.{IsPreparedStatement, expressions_of}
 use Rattle.pass_laws.specs.prepared_runs.Running.{MayRun, setting_at}
 use Rattle.tree.specs.Plain.{Declaration, Expression, Program}
-use Rattle.listing.specs.programs.Stages.{with_copies}
+use Rattle.listing.specs.programs.Stages.{with_copies_before}
+use Rattle.tree.specs.declared.width.Width.{Width}
 
 module _ (es : List Declaration) (around : List (List ℕ)) (deepest : ℕ) (n : Nest) (copies : ℕ) where
-  statement_counted : (x : Standing) → IsPreparedStatement es n deepest x → IsPreparedStatement es (with_copies copies n) deepest x
+  statement_counted : (x : Standing) → IsPreparedStatement es n deepest x → IsPreparedStatement es (with_copies_before copies n) deepest x
   statement_counted x h = record {
     line = h.line;
     plain = h.plain;
@@ -29,7 +30,7 @@ module _ (es : List Declaration) (around : List (List ℕ)) (deepest : ℕ) (n :
     canonical = h.canonical;
   }
 
-  pub prepared_counted : IsPrepared es around deepest n → IsPrepared es around deepest (with_copies copies n)
+  pub prepared_counted : IsPrepared es around deepest n → IsPrepared es around deepest (with_copies_before copies n)
   prepared_counted h = record {
     plain = h.plain;
     parts = record {
@@ -40,7 +41,7 @@ module _ (es : List Declaration) (around : List (List ℕ)) (deepest : ℕ) (n :
       few = h.parts.few;
       loops = h.parts.loops;
       once = h.parts.once;
-      statements = All-weaker (IsPreparedStatement es n deepest) (IsPreparedStatement es (with_copies copies n) deepest)
+      statements = All-weaker (IsPreparedStatement es n deepest) (IsPreparedStatement es (with_copies_before copies n) deepest)
           statement_counted (nest_statements n) h.parts.statements;
       made = h.parts.made;
       made_once = h.parts.made_once;
@@ -119,12 +120,12 @@ module _ (es : List Declaration) (around : List (List ℕ)) (deepest more : ℕ)
 
 -- ---- a run
 
-module _ (p : Program) (n : Nest) (copies : ℕ) (u : State) where
-  abbrev pub run_uncounted : MayRun p (with_copies copies n) u → MayRun p n u
+module _ (width : Width) (p : Program) (n : Nest) (copies : ℕ) (u : State) where
+  abbrev pub run_uncounted : MayRun width p (with_copies_before copies n) u → MayRun width p n u
   run_uncounted h =
       record { going = h.going; holds = h.holds; values = h.values; valued = h.valued; made = h.made }
 
-  pub names_counted : ((h : MayRun p n u) → HaveGuardedNames n (setting_at h)) → (h : MayRun p (with_copies copies n) u)
-      → HaveGuardedNames (with_copies copies n) (setting_at h)
+  pub names_counted : ((h : MayRun width p n u) → HaveGuardedNames n (setting_at width h)) → (h : MayRun width p (with_copies_before copies n) u)
+      → HaveGuardedNames (with_copies_before copies n) (setting_at width h)
   names_counted f h s less guarded =
       let names = f (run_uncounted h) s less guarded in record { declared = names.declared; made = names.made }

@@ -12,7 +12,7 @@ use Rattle.prepared_passes.proofs.ExpandedNests.GuardedNames.{all_suit, counts_b
 use Rattle.prepared_passes.proofs.ExpandedNests.MadeArrays.{made_are}
 use Rattle.prepared_passes.proofs.ExpandedNests.References.{ComesFrom, all_of, of_statement, read_by, scalar_has_none}
 use Rattle.prepared_passes.proofs.ExpandedNests.Standings.{IsMadeOf, loops_round, statement_made}
-use Rattle.prepared_passes.specs.expansion.Left.{references_of}
+use Rattle.prepared_passes.specs.expansion.Left.{references_touched}
 use Rattle.prepared_passes.specs.expansion.Places.{IsExpandedInPlaces}
 use Rattle.last_values.specs.Occurrences.{stands_in_statement}
 use Rattle.meaning.specs.Typed.{declared}
@@ -27,7 +27,7 @@ use Rattle.pass_laws.proofs.PreparedNests.Lists.{distinct_too}
 use Rattle.pass_laws.specs.prepared_nests.Loops.{variables_of_loops}
 use Rattle.pass_laws.specs.prepared_nests.Made.{IsPreparedMade}
 use Rattle.pass_laws.specs.prepared_nests.Statements.{IsPreparedStatement}
-use Rattle.scalar_expand.specs.Expanded.{element, expanded, expanding, made_before, made_now, named_private, variable}
+use Rattle.scalar_expand.specs.Expanded.{element, expanded, expanding, made_before, made_now, named_private, loop_subscript}
 use Rattle.scalar_expand.specs.Privates.{private_scalars, round_loop}
 use Rattle.scalar_expand.specs.declared.privates.Private.{Private}
 use Rattle.scalar_expand.specs.declared.privates.RoundLoop.{RoundLoop}
@@ -35,6 +35,7 @@ use Rattle.scalar_expand.specs.Privates.{trip_or_none}
 use Rattle.prepared_passes.specs.splitting.Elements as splitting
 use Rattle.node_splitting.specs.Arrays as copies
 use Rattle.tree.specs.Plain.{Declaration, Given, Program, Reference, Subscript, subscripts}
+use Rattle.tree.specs.declared.width.Width.TheVariants.{Plain}
 
 pub made_named : (ms : List Made) (y : List ℕ) → list_any (λ (c : Made). bytes_eq c.name y) ms ≡ true
     → (c : Made) × In c ms × (c.name ≡ y)
@@ -50,7 +51,7 @@ made_named (c ∷ ms) y e = by (bytes_eq c.name y) refl e (λ f. made_named ms y
 -- its subscripts are the variables of some of these loops, the innermost one first
 pub record IsElementIn (ls : List Loop) (r : Reference) : Type 0 where
   pub loops : List RoundLoop
-  pub is : r.subscripts ≡ subscripts (reverse (map variable loops))
+  pub is : r.subscripts ≡ subscripts (reverse (map loop_subscript loops))
   pub among : (l : RoundLoop) → In l loops → In l.variable (variables_of_loops ls)
 
 variables_round : (ls : List Loop) → map (λ (l : RoundLoop). l.variable) (map round_loop ls) ≡ variables_of_loops ls
@@ -81,10 +82,10 @@ module _ (p b a : Program) (around : List (List ℕ)) (deepest deeper : ℕ) (m 
           (map-In (λ (k : RoundLoop). k.variable) l q.loops i);
     }
 
-    scalar_is : (r : Reference) → In r (references_of y.statement) → (c : Made) → In c m.made
+    scalar_is : (r : Reference) → In r (references_touched y.statement) → (c : Made) → In c m.made
         → named_private (private_scalars m) c.name ≡ None → c.name ≡ r.name → IsElementIn y.loops r
     scalar_is r i c j none same =
-        let scalar = made_scalar_there p b a around deepest deeper m x c j none in
+        let scalar = made_scalar_there Plain p b a around deepest deeper m x c j none in
         let given = subst (λ n. IsSomeAnd (declared a.declarations n) (λ (d : Declaration). d.extent ≡ Given [])) same
         (extent_of (declared a.declarations c.name) scalar) in
         record {
@@ -100,7 +101,7 @@ module _ (p b a : Program) (around : List (List ℕ)) (deepest deeper : ℕ) (m 
         extent_of None h = absurd h
         extent_of (Some d) h = h.1
 
-    either : (r : Reference) → In r (references_of y.statement) → is_made (expanded m) r.name ≡ true → IsElementIn y.loops r
+    either : (r : Reference) → In r (references_touched y.statement) → is_made (expanded m) r.name ≡ true → IsElementIn y.loops r
     either r i e =
         let c = made_named (expanded m).made r.name e in
         by c.0 c.1 (subst (In c.0) (made_are m) c.1) c.2
@@ -126,7 +127,7 @@ module _ (p b a : Program) (around : List (List ℕ)) (deepest deeper : ℕ) (m 
             n.0 (same ∙ (h.name ∙ n.1)))
 
   pub elements_stand : (y : Standing) → In y (nest_statements (expanded m)) → ¬ (y.statement.guard ≡ None) → (r : Reference)
-      → In r (references_of y.statement) → is_made (expanded m) r.name ≡ true → IsElementIn y.loops r
+      → In r (references_touched y.statement) → is_made (expanded m) r.name ≡ true → IsElementIn y.loops r
   elements_stand y inside guarded r i e = by (statement_made m x.before.plain y inside)
     where
       by : IsMadeOf (expanding (private_scalars m)) (nest_statements m) y → IsElementIn y.loops r
@@ -136,9 +137,9 @@ module _ (p b a : Program) (around : List (List ℕ)) (deepest deeper : ℕ) (m 
 -- ---- by the variables alone
 
 variables_are : (ls : List RoundLoop)
-    → map variable ls ≡ map copies.variable (map (λ (l : RoundLoop). l.variable) ls)
+    → map loop_subscript ls ≡ map copies.variable_subscript (map (λ (l : RoundLoop). l.variable) ls)
 variables_are [] = refl
-variables_are (l ∷ ls) = ap (λ (ss : List Subscript). variable l ∷ ss) (variables_are ls)
+variables_are (l ∷ ls) = ap (λ (ss : List Subscript). loop_subscript l ∷ ss) (variables_are ls)
 
 by_variables : (ls : List Loop) (r : Reference) → IsElementIn ls r → splitting.IsElementIn ls r
 by_variables ls r h = record {
@@ -153,10 +154,10 @@ by_variables ls r h = record {
 round_named : List ℕ → RoundLoop
 round_named x = record { number = 0; variable = x; trip = trip_or_none None }
 
-named_are : (xs : List (List ℕ)) → map variable (map round_named xs) ≡ map copies.variable xs
+named_are : (xs : List (List ℕ)) → map loop_subscript (map round_named xs) ≡ map copies.variable_subscript xs
 unfolding round_named
 named_are [] = refl
-named_are (x ∷ xs) = ap (λ (ss : List Subscript). copies.variable x ∷ ss) (named_are xs)
+named_are (x ∷ xs) = ap (λ (ss : List Subscript). copies.variable_subscript x ∷ ss) (named_are xs)
 
 pub by_loops : (ls : List Loop) (r : Reference) → splitting.IsElementIn ls r → IsElementIn ls r
 unfolding round_named

@@ -18,7 +18,7 @@ use Rattle.emission.specs.graph_orders.Nests.{run_nest, turns_in}
 use Rattle.prepared_passes.proofs.ExpandedNests.Guarded.{expanded_nest_has_guarded_names}
 use Rattle.prepared_passes.proofs.ExpandedNests.Rounds.{each_here, linear_variable}
 use Rattle.prepared_passes.proofs.ExpandedNests.Variables.{Here, Pairs, are_linear, has_each}
-use Rattle.prepared_passes.specs.expansion.Left.{references_of}
+use Rattle.prepared_passes.specs.expansion.Left.{references_touched}
 use Rattle.prepared_passes.proofs.SplitNests.Elements.{split_nest_has_elements}
 use Rattle.prepared_passes.proofs.SplitNests.Guarded.{split_nest_has_guarded_names}
 use Rattle.prepared_passes.proofs.SplitNests.Prepared.{split_nest_is_prepared}
@@ -67,7 +67,8 @@ use Rattle.listing.proofs.arrays.Moved.{IsInBoth, in_both, loops_made, making, n
 use Rattle.listing.proofs.arrays.Moved.{variables_made}
 use Rattle.listing.proofs.arrays.References.{ComesFrom, of_statement, subscripts_stay}
 use Rattle.listing.specs.arrays.Laws.{ArrangedNestHasGuardedNames}
-use Rattle.listing.specs.programs.Stages.{with_copies}
+use Rattle.listing.specs.programs.Stages.{with_copies_before}
+use Rattle.tree.specs.declared.width.Width.{Width}
 
 -- ---- lists
 
@@ -113,12 +114,12 @@ module _ (es : List Declaration) (around : List (List ℕ)) (deepest : ℕ) (n :
 
 -- ---- a nest whose loops have moved
 
-module _ (a : Program) (around : List (List ℕ)) (deeper : ℕ) (nest : Nest) (are : AreDeclarations a.declarations)
+module _ (width : Width) (a : Program) (around : List (List ℕ)) (deeper : ℕ) (nest : Nest) (are : AreDeclarations a.declarations)
     (behind : IsPrepared a.declarations around deeper nest) (elements : HasElements nest) (u : State)
-    (names_before : (h : MayRun a nest u) → HaveGuardedNames nest (setting_at h)) (k : Nest) (c : IsMovedChain nest k)
-    (g : IsPrepared a.declarations around (deeper + 18) (there nest k c)) (may : MayRun a (there nest k c) u) where
+    (names_before : (h : MayRun width a nest u) → HaveGuardedNames nest (setting_at width h)) (k : Nest) (c : IsMovedChain nest k)
+    (g : IsPrepared a.declarations around (deeper + 18) (there nest k c)) (may : MayRun width a (there nest k c) u) where
   -- before a loop moved it might be run there, too
-  abbrev may_before : MayRun a nest u
+  abbrev may_before : MayRun width a nest u
   may_before = record {
     going = may.going;
     holds = may.holds;
@@ -128,7 +129,7 @@ module _ (a : Program) (around : List (List ℕ)) (deeper : ℕ) (nest : Nest) (
   }
 
   abbrev w : Setting
-  w = setting_at may
+  w = setting_at width may
 
   once : Distinct (numbers_of (nest_loops nest))
   once = distinct_too (numbers_of (nest_loops nest)) behind.parts.once
@@ -161,17 +162,17 @@ module _ (a : Program) (around : List (List ℕ)) (deeper : ℕ) (nest : Nest) (
         behind.parts.statements was was_in).plain
 
     module _ (guarded : ¬ (q.guarded.guard ≡ None)) where
-      names : HasGuardedNames nest (setting_at may_before) s
+      names : HasGuardedNames nest (setting_at width may_before) s
       names =
           names_before may_before s before_is.0
           (λ none. guarded (sym (ap (λ (y : Standing). y.statement.guard) before_is.1) ∙ none))
 
       -- ---- an element
 
-      module _ (r : Reference) (inside : In r (references_of q.guarded)) (made : is_made nest r.name ≡ true) where
-        cells : HasCells (run_nest nest) (setting_at may_before) s r
+      module _ (r : Reference) (inside : In r (references_touched q.guarded)) (made : is_made nest r.name ≡ true) where
+        cells : HasCells (run_nest nest) (setting_at width may_before) s r
         cells =
-            names.made r (subst (λ (y : runs.Guarded). In r (y.left ∷ references_read y)) (sym (ap guarded_of q.was)) inside)
+            names.made r (subst (λ (y : runs.GuardedAssignment). In r (y.left ∷ references_read y)) (sym (ap guarded_of q.was)) inside)
             made
 
         element : IsElementIn (old nest k c) r
@@ -215,7 +216,7 @@ module _ (a : Program) (around : List (List ℕ)) (deeper : ℕ) (nest : Nest) (
                 (sym (ap rounds_of q.was)) (first.within []),
           )
 
-          named : NamesCell (run_nest nest) (setting_at may_before) place r
+          named : NamesCell (run_nest nest) (setting_at width may_before) place r
           named = cells.names place stands refl
 
           -- the variables of the element have the same iterations in both
@@ -244,7 +245,7 @@ module _ (a : Program) (around : List (List ℕ)) (deeper : ℕ) (nest : Nest) (
               (sym element.is)
               (has_each (run_nest (there nest k c)) may.values s o.iterations element.loops have.iterations have.second))
 
-          names_now : NamesCell (run_nest (there nest k c)) (setting_at may) o r
+          names_now : NamesCell (run_nest (there nest k c)) (setting_at width may) o r
           names_now = record {
             cell = named.cell;
             may = record {
@@ -264,7 +265,7 @@ module _ (a : Program) (around : List (List ℕ)) (deeper : ℕ) (nest : Nest) (
             (subst (λ z. In z (variables_of_loops (new nest k c))) (sym v.is)
             (map-In (λ (y : Loop). y.variable) v.it (new nest k c) (c.all v.it v.inside)))
 
-        has_cells : HasCells (run_nest (there nest k c)) (setting_at may) s r
+        has_cells : HasCells (run_nest (there nest k c)) (setting_at width may) s r
         has_cells = record {
           linear =
               subst (AreLinear (run_nest (there nest k c)) s) (sym element.is)
@@ -279,13 +280,13 @@ module _ (a : Program) (around : List (List ℕ)) (deeper : ℕ) (nest : Nest) (
       in_nest : (l : Loop) → In l (new nest k c) → In l (nest_loops nest)
       in_nest l i = subst (In l) (sym (old_loops nest k c)) (c.among l i)
 
-      of_made : (r : Reference) → In r (references_of (rewritten_statement (making nest k c) q.guarded))
-          → is_made nest r.name ≡ true → HasCells (run_nest (there nest k c)) (setting_at may) s r
+      of_made : (r : Reference) → In r (references_touched (rewritten_statement (making nest k c) q.guarded))
+          → is_made nest r.name ≡ true → HasCells (run_nest (there nest k c)) (setting_at width may) s r
       of_made r i made =
           by (of_statement (variables_of_loops (new nest k c)) nest.symbols q.guarded plain r i)
         where
-          by : ComesFrom (variables_of_loops (new nest k c)) nest.symbols (references_of q.guarded) r
-              → HasCells (run_nest (there nest k c)) (setting_at may) s r
+          by : ComesFrom (variables_of_loops (new nest k c)) nest.symbols (references_touched q.guarded) r
+              → HasCells (run_nest (there nest k c)) (setting_at width may) s r
           by (inl j) =
               absurd
               (made_apart a.declarations around deeper nest behind (new nest k c) in_nest r.name made j)
@@ -298,17 +299,17 @@ module _ (a : Program) (around : List (List ℕ)) (deeper : ℕ) (nest : Nest) (
               ∙ (subscripts_stay (variables_of_loops (new nest k c)) nest.symbols o.loops ∙ sym o.is) in
               let same : r ≡ h.first
               = ap₂ (λ y (qs : Subscripts). record { name = y; subscripts = qs }) h.name (h.subscripts ∙ stay) in
-              subst (HasCells (run_nest (there nest k c)) (setting_at may) s) (sym same)
+              subst (HasCells (run_nest (there nest k c)) (setting_at width may) s) (sym same)
               (has_cells h.first h.inside there_made)
 
-      has_names : HasGuardedNames (there nest k c) (setting_at may) s
+      has_names : HasGuardedNames (there nest k c) (setting_at width may) s
       has_names = record {
         declared = names.declared;
         made = λ r i made.
-            of_made r (subst (λ (y : runs.Guarded). In r (y.left ∷ references_read y)) (ap guarded_of q.is) i) made;
+            of_made r (subst (λ (y : runs.GuardedAssignment). In r (y.left ∷ references_read y)) (ap guarded_of q.is) i) made;
       }
 
-  guarded_names : HaveGuardedNames (there nest k c) (setting_at may)
+  guarded_names : HaveGuardedNames (there nest k c) (setting_at width may)
   guarded_names s within guarded =
       let q = in_both nest k c s within in
       let at = at_place (nest_statements (there nest k c)) s (is s q) no_statement q.is in
@@ -317,55 +318,55 @@ module _ (a : Program) (around : List (List ℕ)) (deeper : ℕ) (nest : Nest) (
       ∙ ap (option_map (made (making nest k c))) none))
 
 -- whatever nest it is whose guarded statements name elements of what was made
-moved_nest_has_guarded_names : (a : Program) (around : List (List ℕ)) (deeper : ℕ) (nest : Nest) (vectors : List Dirs)
+moved_nest_has_guarded_names : (width : Width) (a : Program) (around : List (List ℕ)) (deeper : ℕ) (nest : Nest) (vectors : List Dirs)
     (u : State) → AreDeclarations a.declarations → IsPrepared a.declarations around deeper nest → HasElements nest
-    → ((h : MayRun a nest u) → HaveGuardedNames nest (setting_at h)) → (may : MayRun a (arranged nest vectors) u)
-    → HaveGuardedNames (arranged nest vectors) (setting_at may)
-moved_nest_has_guarded_names a around deeper nest vectors u are behind elements before may =
+    → ((h : MayRun width a nest u) → HaveGuardedNames nest (setting_at width h)) → (may : MayRun width a (arranged nest vectors) u)
+    → HaveGuardedNames (arranged nest vectors) (setting_at width may)
+moved_nest_has_guarded_names width a around deeper nest vectors u are behind elements before may =
     by (with_moved_loops nest vectors) refl may
   where
     prepared : IsPrepared a.declarations around (deeper + 18) (arranged nest vectors)
     prepared = arranged_nest_is_prepared a.declarations around deeper nest vectors behind
 
-    by : (o : Option Nest) → with_moved_loops nest vectors ≡ o → (h : MayRun a (unwrap_or o nest) u)
-        → HaveGuardedNames (unwrap_or o nest) (setting_at h)
+    by : (o : Option Nest) → with_moved_loops nest vectors ≡ o → (h : MayRun width a (unwrap_or o nest) u)
+        → HaveGuardedNames (unwrap_or o nest) (setting_at width h)
     by None e h = before h
     by (Some k) e h =
         let c = moved_chain nest vectors k (moved_is nest vectors k e) in
         let same = nest_is nest k c in
         let again : IsPrepared a.declarations around (deeper + 18) k
         = subst (λ (o : Option Nest). IsPrepared a.declarations around (deeper + 18) (unwrap_or o nest)) e prepared in
-        subst (λ (z : Nest). (i : MayRun a z u) → HaveGuardedNames z (setting_at i)) (sym same)
-        (λ i. guarded_names a around deeper nest are behind elements u before k c
+        subst (λ (z : Nest). (i : MayRun width a z u) → HaveGuardedNames z (setting_at width i)) (sym same)
+        (λ i. guarded_names width a around deeper nest are behind elements u before k c
         (subst (IsPrepared a.declarations around (deeper + 18)) same again) i) h
 
 -- ---- the split nest
 
-module _ (p b a : Program) (around : List (List ℕ)) (deepest deeper copies : ℕ) (m : Nest) (may : Place → Bool)
+module _ (width : Width) (p b a : Program) (around : List (List ℕ)) (deepest deeper copies : ℕ) (m : Nest) (may : Place → Bool)
     (u : State) (x : IsExpandedInPlaces p b a around deepest deeper m) (room : extent_depth ≤ deeper)
-    (can : MayBeSplit a.declarations may (with_copies copies (expanded m))) (sized : HoldsSized u.store) where
+    (can : MayBeSplit a.declarations may (with_copies_before copies (expanded m))) (sized : HoldsSized u.store) where
   abbrev e : Nest
-  e = with_copies copies (expanded m)
+  e = with_copies_before copies (expanded m)
 
   abbrev HasAll : Nest → Type 0
   HasAll z = IsPrepared a.declarations around (deeper + split_rise) z × HasElements z
-      × ((h : MayRun a z u) → HaveGuardedNames z (setting_at h))
+      × ((h : MayRun width a z u) → HaveGuardedNames z (setting_at width h))
 
-  prepared_before : IsPrepared a.declarations around deeper (with_copies copies (expanded m))
+  prepared_before : IsPrepared a.declarations around deeper (with_copies_before copies (expanded m))
   prepared_before = prepared_counted a.declarations around deeper (expanded m) copies x.behind
 
-  elements_before : HasElements (with_copies copies (expanded m))
+  elements_before : HasElements (with_copies_before copies (expanded m))
   elements_before = expanded_nest_has_elements p b a around deepest deeper m x
 
-  names_before_split : (h : MayRun a (with_copies copies (expanded m)) u) → HaveGuardedNames (with_copies copies (expanded m)) (setting_at h)
+  names_before_split : (h : MayRun width a (with_copies_before copies (expanded m)) u) → HaveGuardedNames (with_copies_before copies (expanded m)) (setting_at width h)
   names_before_split =
-      names_counted a (expanded m) copies u
-      (λ h. expanded_nest_has_guarded_names p b a around deepest deeper m u x h sized)
+      names_counted width a (expanded m) copies u
+      (λ h. expanded_nest_has_guarded_names width p b a around deepest deeper m u x h sized)
 
-  split_has_all : IsPrepared a.declarations around (deeper + split_rise) (nodes_split may (with_copies copies (expanded m)))
-      × HasElements (nodes_split may (with_copies copies (expanded m)))
-      × ((h : MayRun a (nodes_split may (with_copies copies (expanded m))) u)
-      → HaveGuardedNames (nodes_split may (with_copies copies (expanded m))) (setting_at h))
+  split_has_all : IsPrepared a.declarations around (deeper + split_rise) (nodes_split may (with_copies_before copies (expanded m)))
+      × HasElements (nodes_split may (with_copies_before copies (expanded m)))
+      × ((h : MayRun width a (nodes_split may (with_copies_before copies (expanded m))) u)
+      → HaveGuardedNames (nodes_split may (with_copies_before copies (expanded m))) (setting_at width h))
   split_has_all = by (with_nodes_split may e) refl
     where
       by : (o : Option Nest) → with_nodes_split may e ≡ o → HasAll (unwrap_or o e)
@@ -377,13 +378,13 @@ module _ (p b a : Program) (around : List (List ℕ)) (deepest deeper copies : �
       by (Some k) f = (
         split_nest_is_prepared a.declarations around deeper may e k prepared_before can room f,
         split_nest_has_elements a around deeper may e k prepared_before can f elements_before,
-        (λ h. split_nest_has_guarded_names a around deeper may e k u x.places.behind.are prepared_before can room f
+        (λ h. split_nest_has_guarded_names width a around deeper may e k u x.places.behind.are prepared_before can room f
             elements_before names_before_split h sized),
       )
 
-pub arranged_nest_has_guarded_names : ArrangedNestHasGuardedNames
-arranged_nest_has_guarded_names p b a around deepest deeper copies m split may vectors u x room can same run sized =
-    let all = split_has_all p b a around deepest deeper copies m may u x room can sized in
-    subst (λ (z : Nest). (h : MayRun a (arranged z vectors) u) → HaveGuardedNames (arranged z vectors) (setting_at h)) (sym same)
-    (λ h. moved_nest_has_guarded_names a around (deeper + split_rise) (nodes_split may (with_copies copies (expanded m)))
+pub arranged_nest_has_guarded_names : (width : Width) → ArrangedNestHasGuardedNames width
+arranged_nest_has_guarded_names width p b a around deepest deeper copies m split may vectors u x room can same run sized =
+    let all = split_has_all width p b a around deepest deeper copies m may u x room can sized in
+    subst (λ (z : Nest). (h : MayRun width a (arranged z vectors) u) → HaveGuardedNames (arranged z vectors) (setting_at width h)) (sym same)
+    (λ h. moved_nest_has_guarded_names width a around (deeper + split_rise) (nodes_split may (with_copies_before copies (expanded m)))
     vectors u x.places.behind.are all.0 all.1 all.2 h) run

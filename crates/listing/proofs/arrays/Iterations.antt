@@ -8,7 +8,7 @@ use Rattle.prepared_passes.proofs.ArrangedNests.Trips.{same_turns}
 use Rattle.dependence_graph.specs.nest_graph.Instances.{turns_at}
 use Rattle.emission.specs.graph_orders.Nests.{turns_in, turns_of_loop, turns_of_trip}
 use Rattle.prepared_passes.proofs.ExpandedNests.Variables.{Pairs}
-use Rattle.interchange.specs.Arranged.{has_no_loop}
+use Rattle.interchange.specs.Arranged.{is_loop_free}
 use Rattle.nest.specs.Bodies.{nest_loops}
 use Rattle.nest.specs.Plain.{Loop, Nest}
 use Rattle.nest.specs.declared.parts.Trip.{Trip}
@@ -57,7 +57,7 @@ of_loops P Q xs is h (l ∷ ls) f =
 
 -- ---- linear subscripts have one value
 
-module _ (n : runs.Nest) (v : ℕ → ℤ) (s : ℕ) (is : List ℕ) where
+module _ (n : runs.RunNest) (v : ℕ → ℤ) (s : ℕ) (is : List ℕ) where
   one_value : (o : Option ((ℕ → ℤ) → List ℕ → ℤ)) (z w : ℤ) → IsSome o → MayHave n v is o z → MayHave n v is o w → z ≡ w
   one_value None z w l h k = let no : ⊥ = cc in absurd no
   one_value (Some f) z w l h k = h ∙ sym k
@@ -78,7 +78,7 @@ module _ (n : runs.Nest) (v : ℕ → ℤ) (s : ℕ) (is : List ℕ) where
 module _ (n k : Nest) (c : IsMovedChain n k) (v : ℕ → ℤ) (once : Distinct (numbers_of (nest_loops n)))
     (once_there : Distinct (numbers_of (nest_loops (there n k c)))) where
   abbrev IsTurn : Loop → Trip → Type 0
-  IsTurn l t = (l.trip ≡ Some t) × (has_no_loop t ≡ true)
+  IsTurn l t = (l.trip ≡ Some t) × (is_loop_free t ≡ true)
 
   turns_before : (l : Loop) → In l (old n k c) → (t : Trip) → IsTurn l t → (done : List ℕ)
       → turns_in n v l.number done ≡ counted (turns_at t v [])

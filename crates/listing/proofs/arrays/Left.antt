@@ -8,14 +8,14 @@ use Rattle.prepared_passes.proofs.ArrangedNests.MovedChains.{IsMovedChain, moved
 use Rattle.prepared_passes.proofs.ArrangedNests.Names.{found_in}
 use Rattle.prepared_passes.proofs.ArrangedNests.Shapes.{all_guarded, standing_under}
 use Rattle.prepared_passes.proofs.ExpandedNests.MadeArrays.{symbols_are}
-use Rattle.prepared_passes.specs.expansion.Left.{NoPrivateScalarIsLeft, references_of}
+use Rattle.prepared_passes.specs.expansion.Left.{NoPrivateScalarIsLeft, references_touched}
 use Rattle.prepared_passes.proofs.SplitNests.Prepared.{split_nest_is_prepared}
 use Rattle.prepared_passes.proofs.SplitNests.Private.{split_nest_has_no_private_scalars}
 use Rattle.prepared_passes.specs.expansion.Prepared.{extent_depth}
 use Rattle.prepared_passes.specs.splitting.Laws.{split_rise}
 use Rattle.prepared_passes.specs.splitting.Splits.{MayBeSplit, nodes_split}
 use Rattle.dependence_graph.specs.declared.graphs.Place.{Place}
-use Rattle.interchange.specs.Arranged.{arranged, has_no_loop, with_moved_loops}
+use Rattle.interchange.specs.Arranged.{arranged, is_loop_free, with_moved_loops}
 use Rattle.node_splitting.specs.Split.{with_nodes_split}
 use Rattle.statement_passes.specs.Standings.{IsLoop}
 use Rattle.last_values.specs.Scalars.{scalar}
@@ -50,11 +50,11 @@ use Rattle.listing.proofs.arrays.Moved.{loops_made, making, nest_is, new, new_st
 use Rattle.listing.proofs.arrays.References.{ComesFrom, of_statement}
 use Rattle.listing.proofs.programs.Splitting.{split_rest}
 use Rattle.listing.specs.arrays.Laws.{ArrangedNestHasNoPrivateScalars}
-use Rattle.listing.specs.programs.Stages.{with_copies}
+use Rattle.listing.specs.programs.Stages.{with_copies_before}
 
 -- ---- the last iteration is known where no trip has a loop's variable
 
-known_end : (ls : List Loop) → ((l : Loop) → In l ls → (t : Trip) × (l.trip ≡ Some t) × (has_no_loop t ≡ true))
+known_end : (ls : List Loop) → ((l : Loop) → In l ls → (t : Trip) × (l.trip ≡ Some t) × (is_loop_free t ≡ true))
     → list_all (λ (l : RoundLoop). has_no_loops l.trip.top) (map round_loop ls) ≡ true
 known_end [] f = refl
 known_end (l ∷ ls) f =
@@ -138,7 +138,7 @@ module _ (es fs : List Declaration) (around outside : List (List ℕ)) (deepest 
         by (inr j) = no_symbol es around deepest m before p i (subst (In p.name) same_symbols j)
 
     -- it isn't copied, either
-    nowhere_before : (g : Guarded) → In g (all_guarded c.body) → ¬ In (scalar p.name) (references_of g)
+    nowhere_before : (g : Guarded) → In g (all_guarded c.body) → ¬ In (scalar p.name) (references_touched g)
     nowhere_before g inside j =
         let stands : In (standing_under (old nest k c) g) (nest_statements nest)
         = subst (In (standing_under (old nest k c) g)) (sym (old_statements nest k c))
@@ -152,7 +152,7 @@ module _ (es fs : List Declaration) (around outside : List (List ℕ)) (deepest 
         both e = cc
 
     nowhere_behind : (g : Guarded) → In g (all_guarded c.body)
-        → ¬ In (scalar p.name) (references_of (rewritten_statement (making nest k c) g))
+        → ¬ In (scalar p.name) (references_touched (rewritten_statement (making nest k c) g))
     nowhere_behind g inside j =
         by (of_statement (variables_of_loops (new nest k c)) nest.symbols g plain (scalar p.name) j)
       where
@@ -166,23 +166,23 @@ module _ (es fs : List Declaration) (around outside : List (List ℕ)) (deepest 
             (all_in (IsPreparedStatement fs nest deeper) (nest_statements nest) h.parts.statements
             (standing_under (old nest k c) g) stands).plain
 
-        by : ComesFrom (variables_of_loops (new nest k c)) nest.symbols (references_of g) (scalar p.name) → ⊥
+        by : ComesFrom (variables_of_loops (new nest k c)) nest.symbols (references_touched g) (scalar p.name) → ⊥
         by (inl n) = apart n
         by (inr o) =
             let none : o.first.subscripts ≡ no_subscripts
             = none_before (making nest k c) o.first.subscripts o.subscripts in
             let same : scalar p.name ≡ o.first
             = ap₂ (λ y (qs : Subscripts). record { name = y; subscripts = qs }) o.name (sym none) in
-            nowhere_before g inside (subst (λ (r : Reference). In r (references_of g)) (sym same) o.inside)
+            nowhere_before g inside (subst (λ (r : Reference). In r (references_touched g)) (sym same) o.inside)
 
     none_left : (s : Standing) → In s (nest_statements (there nest k c))
-        → ¬ In (scalar p.name) (references_of s.statement)
+        → ¬ In (scalar p.name) (references_touched s.statement)
     none_left s j r =
         let a = In-map (standing_under (loops_made (making nest k c) (new nest k c))) s
         (map (rewritten_statement (making nest k c)) (all_guarded c.body)) (subst (In s) (new_statements nest k c) j) in
         let b = In-map (rewritten_statement (making nest k c)) a.it (all_guarded c.body) a.inside in
         nowhere_behind b.it b.inside
-        (subst (λ (g : Guarded). In (scalar p.name) (references_of g)) (ap (λ (y : Standing). y.statement) a.is ∙ b.is) r)
+        (subst (λ (g : Guarded). In (scalar p.name) (references_touched g)) (ap (λ (y : Standing). y.statement) a.is ∙ b.is) r)
 
   no_scalars : NoPrivateScalarIsLeft m (there nest k c)
   no_scalars p i s j r = absurd (none_left p i s j r)
@@ -191,32 +191,32 @@ module _ (es fs : List Declaration) (around outside : List (List ℕ)) (deepest 
 
 module _ (es fs : List Declaration) (around outside : List (List ℕ)) (deepest deeper copies : ℕ) (m : Nest)
     (may : Place → Bool) (before : IsPrepared es around deepest m) (h : IsPrepared fs outside deeper (expanded m))
-    (loop : IsLoop (expanded m).body) (can : MayBeSplit fs may (with_copies copies (expanded m)))
+    (loop : IsLoop (expanded m).body) (can : MayBeSplit fs may (with_copies_before copies (expanded m)))
     (room : extent_depth ≤ deeper) (left : NoPrivateScalarIsLeft m (expanded m)) where
   abbrev e : Nest
-  e = with_copies copies (expanded m)
+  e = with_copies_before copies (expanded m)
 
-  prepared_before : IsPrepared fs outside deeper (with_copies copies (expanded m))
+  prepared_before : IsPrepared fs outside deeper (with_copies_before copies (expanded m))
   prepared_before = prepared_counted fs outside deeper (expanded m) copies h
 
-  prepared_split : IsPrepared fs outside (deeper + split_rise) (nodes_split may (with_copies copies (expanded m)))
+  prepared_split : IsPrepared fs outside (deeper + split_rise) (nodes_split may (with_copies_before copies (expanded m)))
   prepared_split = by (with_nodes_split may e) refl
     where
       by : (o : Option Nest) → with_nodes_split may e ≡ o → IsPrepared fs outside (deeper + split_rise) (unwrap_or o e)
       by None f = nothing_deeper fs outside deeper split_rise e prepared_before
       by (Some k) f = split_nest_is_prepared fs outside deeper may e k prepared_before can room f
 
-  left_split : NoPrivateScalarIsLeft m (nodes_split may (with_copies copies (expanded m)))
+  left_split : NoPrivateScalarIsLeft m (nodes_split may (with_copies_before copies (expanded m)))
   left_split =
       split_nest_has_no_private_scalars es fs around outside deepest deeper may m e before prepared_before loop left
 
-  symbols_split : (nodes_split may (with_copies copies (expanded m))).symbols ≡ m.symbols
+  symbols_split : (nodes_split may (with_copies_before copies (expanded m))).symbols ≡ m.symbols
   symbols_split = ap (λ (z : Nest). z.symbols) (split_rest may e) ∙ symbols_are m
 
   abbrev s : Nest
-  s = nodes_split may (with_copies copies (expanded m))
+  s = nodes_split may (with_copies_before copies (expanded m))
 
-  left_moved : (vectors : List Dirs) → NoPrivateScalarIsLeft m (arranged (nodes_split may (with_copies copies (expanded m))) vectors)
+  left_moved : (vectors : List Dirs) → NoPrivateScalarIsLeft m (arranged (nodes_split may (with_copies_before copies (expanded m))) vectors)
   left_moved vectors = by (with_moved_loops s vectors) refl
     where
       by : (o : Option Nest) → with_moved_loops s vectors ≡ o → NoPrivateScalarIsLeft m (unwrap_or o s)

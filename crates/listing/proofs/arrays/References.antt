@@ -8,20 +8,20 @@ use Rattle.std.specs.Str.{bytes_eq}
 use Rattle.std.proofs.lemmas.Slice.Eq.{bytes_eq-Decides}
 use mathlib.Core.List.{reverse_aux}
 use Rattle.components.specs.Lists.{Each}
-use Rattle.prepared_passes.specs.expansion.Left.{references_of}
+use Rattle.prepared_passes.specs.expansion.Left.{references_touched}
 use Rattle.linear_forms.specs.Canonical.{canonical_text, canonising, text_or}
 use Rattle.linear_forms.specs.Expressed.{minus_term, plus_term, term, variables, with_constant, with_term, with_terms}
 use Rattle.linear_forms.specs.Linear.{Form, form_of, is_limited, limited, linear, unit, with_no_constant, with_zero}
 use Rattle.nest.specs.Plain.{Guarded}
 use Rattle.nest_order.proofs.orders.Lists.{In-append, In-left, In-right}
 use Rattle.nest_order.specs.orders.Lists.{In}
-use Rattle.nest_order.specs.runs.Touched.{ArePlain, EachIsPlain, IsPlain, IsPlainAssignment, IsPlainGuard, references_in}
-use Rattle.nest_order.specs.runs.Touched.{references_in_each, references_in_guard, references_in_subscripts}
+use Rattle.nest_order.specs.runs.Touched.{ArePlain, EachIsPlain, IsPlain, IsPlainAssignment, IsPlainGuard, touched_in}
+use Rattle.nest_order.specs.runs.Touched.{references_in_each, touched_in_guard, touched_in_subscripts}
 use Rattle.nest_rewrite.specs.Statements.{rewritten_statement}
 use Rattle.pass_laws.specs.prepared_nests.Statements.{assignment}
 use Rattle.rewrite.specs.Making.{Making, made, made_expressions, made_subscripts}
 use Rattle.rewrite.specs.Names.{mentions}
-use Rattle.scalar_expand.specs.Expanded.{variable}
+use Rattle.scalar_expand.specs.Expanded.{loop_subscript}
 use Rattle.scalar_expand.specs.declared.privates.RoundLoop.{RoundLoop}
 use Rattle.tree.specs.Limits.{nest_depth}
 use Rattle.tree.specs.Plain.{Apply, Binary, Constructor, Expression, Expressions, Logic, Named, Number, Only, Reduce, Reference}
@@ -33,7 +33,7 @@ use Rattle.tree.specs.declared.ops.Op.TheVariants.{Mul}
 
 module _ (names : List (List ℕ)) where
   abbrev Only-named : Expression → Type 0
-  Only-named e = (r : Reference) → In r (references_in e) → In r.name names
+  Only-named e = (r : Reference) → In r (touched_in e) → In r.name names
 
   abbrev SoFar : Option Expression → Type 0
   SoFar None = Unit {0}
@@ -56,11 +56,11 @@ module _ (names : List (List ℕ)) where
 
   of_plus : (o : Option Expression) (t : Expression) → SoFar o → Only-named t → Only-named (plus_term o t)
   of_plus None t h k r i = k r i
-  of_plus (Some e) t h k r i = both (references_in e) (references_in t) r (h r) (k r) i
+  of_plus (Some e) t h k r i = both (touched_in e) (touched_in t) r (h r) (k r) i
 
   of_minus : (o : Option Expression) (t : Expression) → SoFar o → Only-named t → Only-named (minus_term o t)
   of_minus None t h k r i = k r i
-  of_minus (Some e) t h k r i = both (references_in e) (references_in t) r (h r) (k r) i
+  of_minus (Some e) t h k r i = both (touched_in e) (touched_in t) r (h r) (k r) i
 
   of_one : (o : Option Expression) (c : ℤ) (t : Expression) → SoFar o → Only-named t → SoFar (with_term o c t)
   of_one o (pos zero) t h k = h
@@ -77,8 +77,8 @@ module _ (names : List (List ℕ)) where
   of_constant None (pos n) h r i = absurd i
   of_constant None (negsuc n) h r i = absurd i
   of_constant (Some e) (pos zero) h r i = h r i
-  of_constant (Some e) (pos (suc n)) h r i = both (references_in e) [] r (h r) (λ j. absurd j) i
-  of_constant (Some e) (negsuc n) h r i = both (references_in e) [] r (h r) (λ j. absurd j) i
+  of_constant (Some e) (pos (suc n)) h r i = both (touched_in e) [] r (h r) (λ j. absurd j) i
+  of_constant (Some e) (negsuc n) h r i = both (touched_in e) [] r (h r) (λ j. absurd j) i
 
   of_variable : (x : List ℕ) → In x names → Only-named (Named x no_subscripts)
   of_variable x i r (inl e) = subst (λ (q : Reference). In q.name names) (sym e) i
@@ -119,24 +119,24 @@ module _ (loops symbols : List (List ℕ)) where
       by (inl j) = more rs (rs ++ us) r (λ x k. In-left x rs us k) (f j)
       by (inr j) = more us (rs ++ us) r (λ x k. In-right x rs us k) (g j)
 
-  of_node : (whole e : Expression) (rs : List Reference) (r : Reference) → (In r (references_in e) → ComesFrom rs r)
-      → In r (references_in ((canonising loops symbols).expression whole e)) → ComesFrom rs r
+  of_node : (whole e : Expression) (rs : List Reference) (r : Reference) → (In r (touched_in e) → ComesFrom rs r)
+      → In r (touched_in ((canonising loops symbols).expression whole e)) → ComesFrom rs r
   of_node whole e rs r h = chosen (mentions loops whole)
     where
-      text : (o : Option Form) → In r (references_in (text_or loops symbols o e)) → ComesFrom rs r
+      text : (o : Option Form) → In r (touched_in (text_or loops symbols o e)) → ComesFrom rs r
       text None i = h i
       text (Some f) i =
           inl (of_constant (loops ++ symbols) (with_terms None f.coefficients (variables (loops ++ symbols))) f.constant
           (of_terms (loops ++ symbols) None f.coefficients (variables (loops ++ symbols)) tt
           (of_variables (loops ++ symbols) (loops ++ symbols) (λ x j. j))) r i)
 
-      chosen : (b : Bool) → In r (references_in (cond b (canonical_text loops symbols e) e)) → ComesFrom rs r
+      chosen : (b : Bool) → In r (touched_in (cond b (canonical_text loops symbols e) e)) → ComesFrom rs r
       chosen true i = text (form_of loops symbols e) i
       chosen false i = h i
 
   of_name : (x : List ℕ) (qs : Subscripts) (r : Reference)
-      → (In r (references_in_subscripts (made_subscripts (canonising loops symbols) qs)) → ComesFrom (references_in_subscripts qs) r)
-      → In r (references_in (Named x (made_subscripts (canonising loops symbols) qs))) → ComesFrom (references_in (Named x qs)) r
+      → (In r (touched_in_subscripts (made_subscripts (canonising loops symbols) qs)) → ComesFrom (touched_in_subscripts qs) r)
+      → In r (touched_in (Named x (made_subscripts (canonising loops symbols) qs))) → ComesFrom (touched_in (Named x qs)) r
   of_name x qs r within (inl e) = inr (record {
     first = record { name = x; subscripts = qs };
     inside = inl refl;
@@ -144,24 +144,24 @@ module _ (loops symbols : List (List ℕ)) where
     subscripts = ap (λ (q : Reference). q.subscripts) e;
   })
   of_name x qs r within (inr j) =
-      more (references_in_subscripts qs) (references_in (Named x qs)) r (λ y k. inr k) (within j)
+      more (touched_in_subscripts qs) (touched_in (Named x qs)) r (λ y k. inr k) (within j)
 
   mutual
-    of_expression : (e : Expression) → IsPlain e → (r : Reference) → In r (references_in (made (canonising loops symbols) e))
-        → ComesFrom (references_in e) r
+    of_expression : (e : Expression) → IsPlain e → (r : Reference) → In r (touched_in (made (canonising loops symbols) e))
+        → ComesFrom (touched_in e) r
     of_expression (Number n) plain r i = of_node (Number n) (Number n) [] r (λ j. absurd j) i
     of_expression (Logic b) plain r i = of_node (Logic b) (Logic b) [] r (λ j. absurd j) i
     of_expression (Named x qs) plain r i =
-        of_node (Named x qs) (Named x (made_subscripts (canonising loops symbols) qs)) (references_in (Named x qs)) r
+        of_node (Named x qs) (Named x (made_subscripts (canonising loops symbols) qs)) (touched_in (Named x qs)) r
         (of_name x qs r (of_subscripts qs plain r)) i
     of_expression (Unary o a) plain r i =
-        of_node (Unary o a) (Unary o (made (canonising loops symbols) a)) (references_in a) r
+        of_node (Unary o a) (Unary o (made (canonising loops symbols) a)) (touched_in a) r
         (λ j. of_expression a plain r j) i
     of_expression (Binary o a b) plain r i =
         of_node (Binary o a b) (Binary o (made (canonising loops symbols) a) (made (canonising loops symbols) b))
-        (references_in a ++ references_in b) r
-        (of_two (references_in (made (canonising loops symbols) a)) (references_in (made (canonising loops symbols) b))
-        (references_in a) (references_in b) r (λ j. of_expression a plain.0 r j) (λ j. of_expression b plain.1 r j)) i
+        (touched_in a ++ touched_in b) r
+        (of_two (touched_in (made (canonising loops symbols) a)) (touched_in (made (canonising loops symbols) b))
+        (touched_in a) (touched_in b) r (λ j. of_expression a plain.0 r j) (λ j. of_expression b plain.1 r j)) i
     of_expression (Apply f es) plain r i =
         of_node (Apply f es) (Apply f (made_expressions (canonising loops symbols) es)) (references_in_each es) r
         (λ j. of_each es plain r j) i
@@ -175,27 +175,27 @@ module _ (loops symbols : List (List ℕ)) where
         → In r (references_in_each (made_expressions (canonising loops symbols) es)) → ComesFrom (references_in_each es) r
     of_each no_expressions plain r i = absurd i
     of_each (expression e es) plain r i =
-        of_two (references_in (made (canonising loops symbols) e))
-        (references_in_each (made_expressions (canonising loops symbols) es)) (references_in e) (references_in_each es) r
+        of_two (touched_in (made (canonising loops symbols) e))
+        (references_in_each (made_expressions (canonising loops symbols) es)) (touched_in e) (references_in_each es) r
         (λ j. of_expression e plain.0 r j) (λ j. of_each es plain.1 r j) i
 
     of_subscripts : (qs : Subscripts) → ArePlain qs → (r : Reference)
-        → In r (references_in_subscripts (made_subscripts (canonising loops symbols) qs))
-        → ComesFrom (references_in_subscripts qs) r
+        → In r (touched_in_subscripts (made_subscripts (canonising loops symbols) qs))
+        → ComesFrom (touched_in_subscripts qs) r
     of_subscripts no_subscripts plain r i = absurd i
     of_subscripts (subscript (Only e) qs) plain r i =
-        of_two (references_in (made (canonising loops symbols) e))
-        (references_in_subscripts (made_subscripts (canonising loops symbols) qs)) (references_in e)
-        (references_in_subscripts qs) r (λ j. of_expression e plain.0 r j) (λ j. of_subscripts qs plain.1 r j) i
+        of_two (touched_in (made (canonising loops symbols) e))
+        (touched_in_subscripts (made_subscripts (canonising loops symbols) qs)) (touched_in e)
+        (touched_in_subscripts qs) r (λ j. of_expression e plain.0 r j) (λ j. of_subscripts qs plain.1 r j) i
     of_subscripts (subscript (Section a b c) qs) plain r i = absurd plain.0
 
   of_guard : (o : Option Expression) → IsPlainGuard o → (r : Reference)
-      → In r (references_in_guard (option_map (made (canonising loops symbols)) o)) → ComesFrom (references_in_guard o) r
+      → In r (touched_in_guard (option_map (made (canonising loops symbols)) o)) → ComesFrom (touched_in_guard o) r
   of_guard None plain r i = absurd i
   of_guard (Some e) plain r i = of_expression e plain r i
 
   pub of_statement : (g : Guarded) → IsPlainAssignment (assignment g) → (r : Reference)
-      → In r (references_of (rewritten_statement (canonising loops symbols) g)) → ComesFrom (references_of g) r
+      → In r (references_touched (rewritten_statement (canonising loops symbols) g)) → ComesFrom (references_touched g) r
   of_statement g plain r (inl e) = inr (record {
     first = g.left;
     inside = inl refl;
@@ -203,16 +203,16 @@ module _ (loops symbols : List (List ℕ)) where
     subscripts = ap (λ (q : Reference). q.subscripts) e;
   })
   of_statement g plain r (inr i) =
-      more (references_in_guard g.guard ++ (references_in_subscripts g.left.subscripts ++ references_in g.right))
-      (references_of g) r (λ x k. inr k)
-      (of_two (references_in_guard (option_map (made (canonising loops symbols)) g.guard))
-      (references_in_subscripts (made_subscripts (canonising loops symbols) g.left.subscripts)
-      ++ references_in (made (canonising loops symbols) g.right))
-      (references_in_guard g.guard) (references_in_subscripts g.left.subscripts ++ references_in g.right) r
+      more (touched_in_guard g.guard ++ (touched_in_subscripts g.left.subscripts ++ touched_in g.right))
+      (references_touched g) r (λ x k. inr k)
+      (of_two (touched_in_guard (option_map (made (canonising loops symbols)) g.guard))
+      (touched_in_subscripts (made_subscripts (canonising loops symbols) g.left.subscripts)
+      ++ touched_in (made (canonising loops symbols) g.right))
+      (touched_in_guard g.guard) (touched_in_subscripts g.left.subscripts ++ touched_in g.right) r
       (of_guard g.guard plain.0 r)
-      (of_two (references_in_subscripts (made_subscripts (canonising loops symbols) g.left.subscripts))
-      (references_in (made (canonising loops symbols) g.right)) (references_in_subscripts g.left.subscripts)
-      (references_in g.right) r (of_subscripts g.left.subscripts plain.2 r) (of_expression g.right plain.1 r)) i)
+      (of_two (touched_in_subscripts (made_subscripts (canonising loops symbols) g.left.subscripts))
+      (touched_in (made (canonising loops symbols) g.right)) (touched_in_subscripts g.left.subscripts)
+      (touched_in g.right) r (of_subscripts g.left.subscripts plain.2 r) (of_expression g.right plain.1 r)) i)
 
   -- ---- a name alone is canonical text
 
@@ -268,16 +268,16 @@ module _ (loops symbols : List (List ℕ)) where
 
   stay_onto : (ls : List RoundLoop) (ss : List Subscript)
       → made_subscripts (canonising loops symbols) (subscripts ss) ≡ subscripts ss
-      → made_subscripts (canonising loops symbols) (subscripts (reverse_aux (map variable ls) ss))
-      ≡ subscripts (reverse_aux (map variable ls) ss)
+      → made_subscripts (canonising loops symbols) (subscripts (reverse_aux (map loop_subscript ls) ss))
+      ≡ subscripts (reverse_aux (map loop_subscript ls) ss)
   stay_onto [] ss e = e
   stay_onto (l ∷ ls) ss e =
-      stay_onto ls (variable l ∷ ss)
+      stay_onto ls (loop_subscript l ∷ ss)
       (ap (λ z. subscript (Only z) (made_subscripts (canonising loops symbols) (subscripts ss))) (name_stays l.variable)
-      ∙ ap (subscript (variable l)) e)
+      ∙ ap (subscript (loop_subscript l)) e)
 
   -- so the subscripts of elements stay
   pub subscripts_stay : (ls : List RoundLoop)
-      → made_subscripts (canonising loops symbols) (subscripts (reverse (map variable ls)))
-      ≡ subscripts (reverse (map variable ls))
+      → made_subscripts (canonising loops symbols) (subscripts (reverse (map loop_subscript ls)))
+      ≡ subscripts (reverse (map loop_subscript ls))
   subscripts_stay ls = stay_onto ls [] refl

@@ -6,7 +6,7 @@ use Rattle.prepared_passes.proofs.ArrangedNests.MovedChains.{moved_is}
 use Rattle.dependence_graph.specs.nest_graph.Spans.{spans_of}
 use Rattle.prepared_passes.specs.expansion.Found.{expanded_depth}
 use Rattle.prepared_passes.specs.splitting.Laws.{split_rise}
-use Rattle.interchange.specs.Arranged.{arranged, arranged_by, arranged_chain, body_in, is_changed, trips_of, with_moved_loops}
+use Rattle.interchange.specs.Arranged.{arranged, arranged_by, arranged_chain, body_in, is_changed, free_trips_of, with_moved_loops}
 use Rattle.interchange.specs.Arranged.{with_order}
 use Rattle.interchange.specs.Chains.{Chain, chain_of}
 use Rattle.interchange.specs.Orders.{order_of}
@@ -72,9 +72,9 @@ module _ (n : Nest) (after : Block) (vectors : List Dirs) where
   same_nest (Some c) = by (read_own_elements n)
     where
       by : (b : Bool)
-          → unwrap_or (cond b (arranged_chain (record n { after = after }) vectors c (trips_of c.loops)) None) (record n { after = after })
-          ≡ record (unwrap_or (cond b (arranged_chain n vectors c (trips_of c.loops)) None) n) { after = after }
-      by true = same_chain c (trips_of c.loops)
+          → unwrap_or (cond b (arranged_chain (record n { after = after }) vectors c (free_trips_of c.loops)) None) (record n { after = after })
+          ≡ record (unwrap_or (cond b (arranged_chain n vectors c (free_trips_of c.loops)) None) n) { after = after }
+      by true = same_chain c (free_trips_of c.loops)
       by false = refl
 
   pub arranged_with_anything_behind : arranged (record n { after = after }) vectors ≡ record (arranged n vectors) { after = after }

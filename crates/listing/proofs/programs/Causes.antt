@@ -14,6 +14,7 @@ use Rattle.emission.specs.emission_causes.Causes.{HaveCauses}
 use Rattle.emission.specs.emission_pieces.Cycles.{AreCyclesOf}
 use Rattle.find_nests.specs.Found.{Found, InNest, Kept, found_in}
 use Rattle.meaning.specs.Dialect.{fortran77}
+use Rattle.tree.specs.declared.width.Width.{Width}
 use Rattle.meaning.specs.Profile77.{IsProgram77}
 use Rattle.meaning_laws.proofs.profiles.Lists.{here, there}
 use Rattle.nest.specs.Bodies.{loops_of}
@@ -31,13 +32,13 @@ use Rattle.listing.specs.programs.Laws.{ListedNestsHaveCauses}
 use Rattle.listing.specs.programs.Listing.{HasCycleEntries, HaveEntries, counts_of, no_counts, tested_entries}
 use Rattle.listing.specs.programs.Stages.{IsListedFrom}
 
-module _ (p : Program) (is : IsProgram77 fortran77 p) where
+module _ (width : Width) (p : Program) (is : IsProgram77 (fortran77 width) p) where
   have_causes : (counts : Counts) (n m : Nest) (g : Graph) (cs : List Cycle) → Contains (found_in p) (InNest n) → IsListedFrom counts n m
       → IsGraphOf m g → AreCyclesOf m g.edges (all_holds m) cs → HaveCauses m g.edges (all_holds m) cs
   have_causes counts n m g cs c listed graph cycles =
       let w = listed_is_made counts n m listed in
-      let prepared = prepared_for p counts n w.nest is c w.made in
-      let shallow = ready_is_shallow m (listed_nest_is_testable p counts n m is c listed) in
+      let prepared = prepared_for width p counts n w.nest is c w.made in
+      let shallow = ready_is_shallow m (listed_nest_is_testable width p counts n m is c listed) in
       loops_have_causes m g.edges (all_holds m) cs (subst (λ (k : Nest). IsPlain k.body) (sym w.same) prepared.plain)
       (subst (λ (k : Nest). Distinct (numbers_of (loops_of k.body))) (sym w.same) prepared.parts.once)
       (edges_lead m g shallow graph) cycles
@@ -64,5 +65,5 @@ module _ (p : Program) (is : IsProgram77 fortran77 p) where
   all_caused counts (Kept line r ∷ fs) es c h =
       all_caused counts fs h.1 (λ g i. c g (there (Kept line r) fs g i)) h.4
 
-pub listed_nests_have_causes : ListedNestsHaveCauses
-listed_nests_have_causes p lines is l = all_caused p is no_counts (found_in p) l.entries (λ f c. c) l.are
+pub listed_nests_have_causes : (width : Width) → ListedNestsHaveCauses width
+listed_nests_have_causes width p lines is l = all_caused width p is no_counts (found_in p) l.entries (λ f c. c) l.are

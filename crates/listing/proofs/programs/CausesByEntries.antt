@@ -45,7 +45,7 @@ module _ (edges : List Edge) where
 
   -- ---- walks
 
-  flat_walk : (k s : ℕ) (qs : List ℕ) (r : ℕ) → flat.IsWalk (leads bare) k (λ q. Unit {0}) s qs r → flat.IsWalk (leads edges) k (λ q. Unit {0}) s qs r
+  flat_walk : (k s : ℕ) (qs : List ℕ) (r : ℕ) → flat.IsFlatWalk (leads bare) k (λ q. Unit {0}) s qs r → flat.IsFlatWalk (leads edges) k (λ q. Unit {0}) s qs r
   flat_walk k s [] r w = w
   flat_walk k s (q ∷ qs) r w = (sym (same_leads k s q) ∙ w.0, tt, flat_walk k q qs r w.2)
 

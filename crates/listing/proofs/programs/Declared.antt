@@ -11,6 +11,7 @@ use Rattle.dependence_graph.specs.declared.graphs.Place.{Place}
 use Rattle.find_nests.specs.Found.{InNest, found_in}
 use Rattle.if_convert.specs.Converted.{converted_nest}
 use Rattle.meaning.specs.Dialect.{fortran77}
+use Rattle.tree.specs.declared.width.Width.{Width}
 use Rattle.meaning.specs.Reads.{names_in_block}
 use Rattle.meaning.specs.Profile77.{IsProgram77}
 use Rattle.meaning.specs.Profile90.{AreDeclarations, IsExtent}
@@ -60,7 +61,7 @@ use Rattle.prepared_passes.specs.expansion.Unexpanded.{substituted, unexpanded}
 use Rattle.prepared_passes.specs.splitting.Kept.{AreCopies}
 use Rattle.prepared_passes.specs.splitting.Splits.{IsKnown, MayBeSplit}
 use Rattle.nest_rewrite.specs.Assembled.{with_parts}
-use Rattle.scalar_expand.specs.Expanded.{declared_privates, expanded, expanded_part, expanding, with_arrays}
+use Rattle.scalar_expand.specs.Expanded.{declared_privates, expanded, expanded_part, expanding, with_made_arrays}
 use Rattle.scalar_expand.specs.Privates.{number_behind, private_scalars}
 use Rattle.scalar_expand.specs.Texts.{extent_texts}
 use Rattle.scalar_rename.specs.Ranges.{HaveFewRanges}
@@ -69,7 +70,7 @@ use Rattle.tree.specs.Names.{IsSourceName}
 use Rattle.tree.specs.Plain.{Declaration, Expression, Program}
 use Rattle.listing.proofs.arrays.Counted.{prepared_counted}
 use Rattle.listing.proofs.programs.Names.{names_declared}
-use Rattle.listing.specs.programs.Stages.{with_copies}
+use Rattle.listing.specs.programs.Stages.{with_copies_before}
 
 -- declarations by which the expanded nest is prepared, and may be split
 pub record HasCopiesDeclared (may : Place → Bool) (copies : ℕ) (k : Nest) : Type 0 where
@@ -77,7 +78,7 @@ pub record HasCopiesDeclared (may : Place → Bool) (copies : ℕ) (k : Nest) : 
   pub around : List (List ℕ)
   pub are : AreDeclarations declarations
   pub prepared : IsPrepared declarations around expanded_depth (expanded k)
-  pub split : MayBeSplit declarations may (with_copies copies (expanded k))
+  pub split : MayBeSplit declarations may (with_copies_before copies (expanded k))
 
 -- ---- what is declared of arrays
 
@@ -139,7 +140,7 @@ no_copy_letter c (inr (inr e)) f = omega (arith, e, f)
 -- ---- the nest
 
 pub expanded_loop : (n : Nest) → IsLoop n.body → IsLoop (expanded n).body
-unfolding with_arrays with_parts
+unfolding with_made_arrays with_parts
 expanded_loop n h = by n.body h
   where
     by : (b : Part) → IsLoop b
@@ -150,29 +151,29 @@ expanded_loop n h = by n.body h
     by (Label j) h = absurd h
     by (Jump j) h = absurd h
 
-module _ (p : Program) (n m masked k : Nest) (masks copies : ℕ) (may : Place → Bool) (is : IsProgram77 fortran77 p)
+module _ (width : Width) (p : Program) (n m masked k : Nest) (masks copies : ℕ) (may : Place → Bool) (is : IsProgram77 (fortran77 width) p)
     (among : Contains (found_in p) (InNest n)) (normal : normalised n ≡ Some m)
     (made : converted_nest masks m ≡ Some masked) (few : masked.masks ≤ 4294967296) (anew : k ≡ unexpanded m masked)
     (ranges_few : HaveFewRanges (substituted m masked))
-    (top : copies + length (made_arrays may (with_copies copies (expanded k))) ≤ 2 ^ 32) where
+    (top : copies + length (made_arrays may (with_copies_before copies (expanded k))) ≤ 2 ^ 32) where
   abbrev c : Nest
-  c = with_copies copies (expanded k)
+  c = with_copies_before copies (expanded k)
 
-  numbers : AreCopies may (with_copies copies (expanded k))
+  numbers : AreCopies may (with_copies_before copies (expanded k))
   numbers = split_nest_has_copies may c top
 
   abbrev counted : List Declaration
-  counted = counters p n m masked masks is among normal made few
+  counted = counters width p n m masked masks is among normal made few
 
   abbrev arrays : List Declaration
   arrays = map as_declared (expanded k).made
 
   abbrev copied : List Declaration
-  copied = map as_declared (made_arrays may (with_copies copies (expanded k)))
+  copied = map as_declared (made_arrays may (with_copies_before copies (expanded k)))
 
   -- ---- copies
 
-  few_texts : (a : Made) → In a (made_arrays may (with_copies copies (expanded k))) → length a.extents ≤ 7
+  few_texts : (a : Made) → In a (made_arrays may (with_copies_before copies (expanded k))) → length a.extents ≤ 7
   few_texts a i = by (for_statement may c 0 copies (nest_statements c) a i)
     where
       some_is : (o : Option (List Trip)) → is_some o ≡ true → o ≡ Some (unwrap_or o [])
@@ -192,7 +193,7 @@ module _ (p : Program) (n m masked k : Nest) (masks copies : ℕ) (may : Place �
           (subst (λ (w : Option (List Trip)). length (texts_over c.symbols w) ≤ 7) (sym are)
           (omega (arith, most, all, turned)))
 
-  copy_is_made : (a : Made) → In a (made_arrays may (with_copies copies (expanded k))) → IsMadeDeclaration (as_declared a)
+  copy_is_made : (a : Made) → In a (made_arrays may (with_copies_before copies (expanded k))) → IsMadeDeclaration (as_declared a)
   copy_is_made a i =
       let o = numbers.numbered a i in
       let high : o.0 < copies + length (made_arrays may c) = o.2 in
@@ -212,13 +213,13 @@ module _ (p : Program) (n m masked k : Nest) (masks copies : ℕ) (may : Place �
   counter_letter : (d : Declaration) → Contains counted d → fourth d.name ≡ 76
   counter_letter d i =
       ap fourth
-      (sym (of_counter (nest_loops m) (numbered p n m masked masks is among normal made few) d i).numbered.is)
+      (sym (of_counter (nest_loops m) (numbered width p n m masked masks is among normal made few) d i).numbered.is)
 
   array_letter : (x : Made) → In x (expanded k).made → IsMadeLetter (fourth x.name)
   array_letter x i =
-      made_letter n k masks x (named_so p n m masked k masks is among normal made few anew ranges_few x i)
+      made_letter n k masks x (named_so width p n m masked k masks is among normal made few anew ranges_few x i)
 
-  copy_letter : (a : Made) → In a (made_arrays may (with_copies copies (expanded k))) → fourth a.name ≡ 67
+  copy_letter : (a : Made) → In a (made_arrays may (with_copies_before copies (expanded k))) → fourth a.name ≡ 67
   copy_letter a i = ap fourth (numbers.numbered a i).3
 
   -- one of an array or of a copy
@@ -240,7 +241,7 @@ module _ (p : Program) (n m masked k : Nest) (masks copies : ℕ) (may : Place �
     new = counted ++ (arrays ++ extra)
 
     abbrev IsWhich : Declaration → Type 0
-    IsWhich d = Contains counted d ⊎ (IsOf (expanded k).made d ⊎ IsOf (made_arrays may (with_copies copies (expanded k))) d)
+    IsWhich d = Contains counted d ⊎ (IsOf (expanded k).made d ⊎ IsOf (made_arrays may (with_copies_before copies (expanded k))) d)
 
     which : (d : Declaration) → Contains (counted ++ (arrays ++ extra)) d → IsWhich d
     which d i = by (Contains-append_cases counted (arrays ++ extra) d i)
@@ -259,10 +260,10 @@ module _ (p : Program) (n m masked k : Nest) (masks copies : ℕ) (may : Place �
         by : IsWhich d → IsMadeDeclaration d
         by (inl j) =
             is_made d
-            (a_counter (nest_loops m) (numbered p n m masked masks is among normal made few) masked.masks few d j)
+            (a_counter (nest_loops m) (numbered width p n m masked masks is among normal made few) masked.masks few d j)
         by (inr (inl o)) =
             subst IsMadeDeclaration o.is_it
-            (made_is_made p n m masked k masks is among normal made few anew ranges_few o.it o.inside)
+            (made_is_made width p n m masked k masks is among normal made few anew ranges_few o.it o.inside)
         by (inr (inr o)) = subst IsMadeDeclaration o.is_it (copy_is_made o.it o.inside)
 
     alone : AgreeOnNames (counted ++ (arrays ++ extra)) (counted ++ (arrays ++ extra))
@@ -274,14 +275,14 @@ module _ (p : Program) (n m masked k : Nest) (masks copies : ℕ) (may : Place �
             no_loop_letter (fourth o.it.name) (array_letter o.it o.inside)
             (ap fourth (name_of (expanded k).made y o ∙ sym e) ∙ counter_letter x g)
 
-        counter_copy : (x y : Declaration) → Contains counted x → IsOf (made_arrays may (with_copies copies (expanded k))) y
+        counter_copy : (x y : Declaration) → Contains counted x → IsOf (made_arrays may (with_copies_before copies (expanded k))) y
             → x.name ≡ y.name → ⊥
         counter_copy x y g o e =
             let bad : 67 ≡ 76
             = sym (copy_letter o.it o.inside) ∙ ap fourth (name_of (made_arrays may c) y o ∙ sym e) ∙ counter_letter x g in
             omega (arith, bad)
 
-        made_copy : (x y : Declaration) → IsOf (expanded k).made x → IsOf (made_arrays may (with_copies copies (expanded k))) y
+        made_copy : (x y : Declaration) → IsOf (expanded k).made x → IsOf (made_arrays may (with_copies_before copies (expanded k))) y
             → x.name ≡ y.name → ⊥
         made_copy x y g o e =
             no_copy_letter (fourth g.it.name) (array_letter g.it g.inside)
@@ -290,15 +291,15 @@ module _ (p : Program) (n m masked k : Nest) (masks copies : ℕ) (may : Place �
         by : IsWhich d → IsWhich e → d ≡ e
         by (inl f) (inl g) =
             agree d e
-            (a_counter (nest_loops m) (numbered p n m masked masks is among normal made few) masked.masks few d f)
-            (a_counter (nest_loops m) (numbered p n m masked masks is among normal made few) masked.masks few e g) same
+            (a_counter (nest_loops m) (numbered width p n m masked masks is among normal made few) masked.masks few d f)
+            (a_counter (nest_loops m) (numbered width p n m masked masks is among normal made few) masked.masks few e g) same
         by (inl f) (inr (inl g)) = absurd (counter_made d e f g same)
         by (inl f) (inr (inr g)) = absurd (counter_copy d e f g same)
         by (inr (inl f)) (inl g) = absurd (counter_made e d g f (sym same))
         by (inr (inl f)) (inr (inl g)) =
             sym f.is_it
             ∙ (ap as_declared
-            (one_named (expanded k).made (once p n m masked k masks is among normal made few anew ranges_few) f.it g.it
+            (one_named (expanded k).made (once width p n m masked k masks is among normal made few anew ranges_few) f.it g.it
             f.inside g.inside (name_of (expanded k).made d f ∙ same ∙ sym (name_of (expanded k).made e g))) ∙ g.is_it)
         by (inr (inl f)) (inr (inr g)) = absurd (made_copy d e f g same)
         by (inr (inr f)) (inl g) = absurd (counter_copy e d g f (sym same))
@@ -314,31 +315,31 @@ module _ (p : Program) (n m masked k : Nest) (masks copies : ℕ) (may : Place �
 
     are_all : AreWith p.declarations (counted ++ (arrays ++ extra)) (with_declarations p.declarations (counted ++ (arrays ++ extra)))
     are_all =
-        with_made_names p.declarations new (own_are p n m masked masks is among normal made few)
+        with_made_names p.declarations new (own_are width p n m masked masks is among normal made few)
         (each_member IsMadeDeclaration new each_made) alone
         (λ d e i j same.
-        (each_made e j).made (subst IsSourceName same (own_source p n m masked masks is among normal made few d i)))
+        (each_made e j).made (subst IsSourceName same (own_source width p n m masked masks is among normal made few d i)))
 
     counted_so : All (λ (l : Loop). IsSomeAnd (declared (with_declarations p.declarations (counted ++ (arrays ++ extra))) l.variable) IsCounter) (nest_loops m)
     counted_so =
         each_member (λ (l : Loop). IsSomeAnd (declared all l.variable) IsCounter) (nest_loops m)
-        (λ l i. counts p n m masked masks is among normal made few all l
+        (λ l i. counts width p n m masked masks is among normal made few all l
         (are_all.declared (counter_of l)
         (Contains-append_left counted (arrays ++ extra) (counter_of l)
-        (counter_in p n m masked masks is among normal made few l i))))
+        (counter_in width p n m masked masks is among normal made few l i))))
 
     abbrev around : List (List ℕ)
-    around = (stands p n m masked masks is among normal made few).round.variables
+    around = (stands width p n m masked masks is among normal made few).round.variables
 
     prepared : IsPrepared (with_declarations p.declarations (counted ++ (arrays ++ extra))) around expanded_depth (expanded k)
     prepared =
-        let s = stands p n m masked masks is among normal made few in
-        (in_places p (record p { declarations = all }) n m masked k masks is among normal made few anew ranges_few
+        let s = stands width p n m masked masks is among normal made few in
+        (in_places width p (record p { declarations = all }) n m masked k masks is among normal made few anew ranges_few
         are_all.more counted_so
         (λ x i. are_all.declared (as_declared x)
         (Contains-append_right counted (arrays ++ extra) (as_declared x)
         (Contains-append_left arrays extra (as_declared x) (in_map as_declared (expanded k).made x i))))
-        s.round (here p n m masked masks is among normal made few) (number p n m masked masks is among normal made few)
+        s.round (here width p n m masked masks is among normal made few) (number width p n m masked masks is among normal made few)
         s.named s.is).places.behind
 
   -- ---- without the arrays of copies these stand nowhere
@@ -349,14 +350,14 @@ module _ (p : Program) (n m masked k : Nest) (masks copies : ℕ) (may : Place �
   none_of : (d : Declaration) → Contains [] d → Contains copied d
   none_of d i = absurd (nowhere d i)
 
-  prepared_first : IsPrepared (with_declarations p.declarations (counted ++ (arrays ++ []))) (around [] none_of) expanded_depth (with_copies copies (expanded k))
+  prepared_first : IsPrepared (with_declarations p.declarations (counted ++ (arrays ++ []))) (around [] none_of) expanded_depth (with_copies_before copies (expanded k))
   prepared_first = prepared_counted first (around [] none_of) expanded_depth (expanded k) copies (prepared [] none_of)
 
   same : (expanded k).declarations ≡ p.declarations
-  unfolding with_arrays with_parts
-  same = same_declarations p n m masked k masks is among normal made few anew ranges_few
+  unfolding with_made_arrays with_parts
+  same = same_declarations width p n m masked k masks is among normal made few anew ranges_few
 
-  undeclared : (a : Made) → In a (made_arrays may (with_copies copies (expanded k)))
+  undeclared : (a : Made) → In a (made_arrays may (with_copies_before copies (expanded k)))
       → declared (with_declarations p.declarations (counted ++ (arrays ++ []))) a.name ≡ None
   undeclared a i = by (declared first a.name) refl
     where
@@ -376,7 +377,7 @@ module _ (p : Program) (n m masked k : Nest) (masks copies : ℕ) (may : Place �
       other : (d : Declaration) → d.name ≡ a.name → Contains p.declarations d ⊎ Contains (counted ++ (arrays ++ [])) d → ⊥
       other d e (inl j) =
           (copy_is_made a i).made
-          (subst IsSourceName e (own_source p n m masked masks is among normal made few d j))
+          (subst IsSourceName e (own_source width p n m masked masks is among normal made few d j))
       other d e (inr j) = new d e (Contains-append_cases counted (arrays ++ []) d j)
 
       by : (o : Option Declaration) → declared first a.name ≡ o → o ≡ None
@@ -385,19 +386,19 @@ module _ (p : Program) (n m masked k : Nest) (masks copies : ℕ) (may : Place �
           let f = found first a.name d e in
           absurd (other d f.name (each_of p.declarations (counted ++ (arrays ++ [])) d f.among))
 
-  fresh : (a : Made) → In a (made_arrays may (with_copies copies (expanded k)))
-      → (¬ Contains (names_in_block (loops_then_after (with_copies copies (expanded k)))) a.name)
-      × (¬ Contains (made_names (with_copies copies (expanded k))) a.name)
+  fresh : (a : Made) → In a (made_arrays may (with_copies_before copies (expanded k)))
+      → (¬ Contains (names_in_block (loops_then_after (with_copies_before copies (expanded k)))) a.name)
+      × (¬ Contains (made_names (with_copies_before copies (expanded k))) a.name)
   fresh a i = copies_are_fresh first (around [] none_of) expanded_depth may c prepared_first undeclared a i
 
   -- ---- known names
 
-  known : (x : List ℕ) → IsDeclared (with_declarations p.declarations (counted ++ (arrays ++ []))) x → IsKnown (with_copies copies (expanded k)) x
+  known : (x : List ℕ) → IsDeclared (with_declarations p.declarations (counted ++ (arrays ++ []))) x → IsKnown (with_copies_before copies (expanded k)) x
   known x h = by (declared first x) refl h
     where
       new : (d : Declaration) → d.name ≡ x → Contains counted d ⊎ Contains (arrays ++ []) d → IsKnown c x
       new d e (inl j) =
-          let o = (of_counter (nest_loops m) (numbered p n m masked masks is among normal made few) d j).numbered in
+          let o = (of_counter (nest_loops m) (numbered width p n m masked masks is among normal made few) d j).numbered in
           let small : o.number ≤ 4294967295 = o.small in
           let less : o.number < 4294967296 = omega (arith, small) in
           inr (inr (o.number, less, sym (o.is ∙ e)))
@@ -427,8 +428,8 @@ module _ (p : Program) (n m masked k : Nest) (masks copies : ℕ) (may : Place �
           let f = found first x d e in
           which_is d f.name (each_of p.declarations (counted ++ (arrays ++ [])) d f.among)
 
-  statement_known : (s : Standing) → In s (nest_statements (with_copies copies (expanded k))) → (x : List ℕ)
-      → In x (names_of (assignment s.statement)) → IsKnown (with_copies copies (expanded k)) x
+  statement_known : (s : Standing) → In s (nest_statements (with_copies_before copies (expanded k))) → (x : List ℕ)
+      → In x (names_of (assignment s.statement)) → IsKnown (with_copies_before copies (expanded k)) x
   statement_known s j x i =
       known x
       (names_declared first c expanded_depth s
@@ -443,12 +444,12 @@ module _ (p : Program) (n m masked k : Nest) (masks copies : ℕ) (may : Place �
   are_last = are_all copied (λ d i. i)
 
   pub may_be_split : (es : List Declaration) → AddMadeNames p.declarations es
-      → ((a : Made) → In a (made_arrays may (with_copies copies (expanded k))) → declared es a.name ≡ Some (as_declared a))
-      → MayBeSplit es may (with_copies copies (expanded k))
+      → ((a : Made) → In a (made_arrays may (with_copies_before copies (expanded k))) → declared es a.name ≡ Some (as_declared a))
+      → MayBeSplit es may (with_copies_before copies (expanded k))
   may_be_split es add there = record {
     loop = loop;
     few = top;
-    among = λ x d e. (extends fortran77 p es is add).found x d (subst (λ (ds : List Declaration). declared ds x ≡ Some d) same e);
+    among = λ x d e. (extends (fortran77 width) p es is add).found x d (subst (λ (ds : List Declaration). declared ds x ≡ Some d) same e);
     source = λ x d e. of_source x d (subst (λ (ds : List Declaration). declared ds x ≡ Some d) same e);
     known = statement_known;
     declared = λ a i. subst (λ (o : Option Declaration). IsSomeAnd o
@@ -459,13 +460,13 @@ module _ (p : Program) (n m masked k : Nest) (masks copies : ℕ) (may : Place �
     where
       loop : IsLoop (expanded k).body
       loop =
-          let o = one_loop p n m masked k masks is among normal made few anew ranges_few in
+          let o = one_loop width p n m masked k masks is among normal made few anew ranges_few in
           expanded_loop k (subst IsLoop (sym o.is_loop) tt)
 
       of_source : (x : List ℕ) (d : Declaration) → declared p.declarations x ≡ Some d → IsSourceName x
       of_source x d e =
           let f = found p.declarations x d e in
-          subst IsSourceName f.name (own_source p n m masked masks is among normal made few d f.among)
+          subst IsSourceName f.name (own_source width p n m masked masks is among normal made few d f.among)
 
   pub has_copies_declared : HasCopiesDeclared may copies k
   has_copies_declared = record {

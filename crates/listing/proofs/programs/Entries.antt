@@ -11,7 +11,7 @@ use Rattle.emission.specs.emission_pieces.Cycles.{AreCyclesOf}
 use Rattle.tree.specs.declared.programs.Line.{Line}
 use Rattle.tree.specs.Plain.{Program}
 use Rattle.f90_grammar.specs.PrintedText.{with_line_feed}
-use Rattle.f90_print.specs.Notes.{text_of}
+use Rattle.f90_print.specs.Notes.{line_text}
 use Rattle.nest.specs.Plain.{Nest}
 use Rattle.dependence_graph.specs.nest_graph.Graph.{IsGraphOf}
 use Rattle.find_nests.specs.declared.reasons.Reason.{Reason}
@@ -26,18 +26,18 @@ use Rattle.listing.specs.declared.programs.nests.Listed.{Listed}
 use Rattle.listing.specs.programs.Listed.{IsListedAs}
 use Rattle.listing.specs.programs.Listing.{HasEntries, HaveEntries, IsListing, IsListingText, counts_behind, counts_of}
 use Rattle.listing.specs.programs.Listing.{no_counts}
-use Rattle.listing.specs.programs.Listing.{kept, reason_word, tested_entries}
+use Rattle.listing.specs.programs.Listing.{kept_loop_entry, reason_word, tested_entries}
 use Rattle.listing.specs.programs.Stages.{IsLastGraph, IsListedFrom}
 use Rattle.listing.specs.programs.Testable.{AreTestsOf}
 
 abbrev GivesTexts : {E : Type 0} → Result (List Line) E → List (List ℕ) → Type 0
-GivesTexts r lines = IfOk r (λ all. map text_of all ≡ lines)
+GivesTexts r lines = IfOk r (λ all. map line_text all ≡ lines)
 
 -- ---- a nest
 
 pub tests_of : (number : ℕ) (n : Nest) (g : Graph) (holds : List Hold) (cycles : List Cycle) (lines : List Line)
     → IsGraphOf n g → holds ≡ all_holds n → AreCyclesOf n g.edges holds cycles
-    → map text_of lines ≡ listing_of n number g holds cycles → AreTestsOf number n g holds (map text_of lines)
+    → map line_text lines ≡ listing_of n number g holds cycles → AreTestsOf number n g holds (map line_text lines)
 tests_of number n g holds cycles lines graph h are l = record {
   graph = graph;
   holds_are = h;
@@ -54,7 +54,7 @@ tests_of number n g holds cycles lines graph h are l = record {
 
 pub listed_nest : (counts : Counts) (found n : Nest) (g : Graph) (holds : List Hold) (r : Listed)
     → (listed : IsListedFrom counts found n) → IsLastGraph listed.stages.split listed.stages.graph g
-    → AreTestsOf found.number n g holds (map text_of r.lines) → r.counts ≡ counts_of n → IsListedAs counts (InNest found) r
+    → AreTestsOf found.number n g holds (map line_text r.lines) → r.counts ≡ counts_of n → IsListedAs counts (InNest found) r
 listed_nest counts found n g holds r t kept h e = record {
   entries = h.entries;
   are = (n, t, (g, h.graph, h.listed, kept));
@@ -68,17 +68,17 @@ found_listed counts r f g e h = subst (λ (f : Found). IfOk r (IsListedAs counts
 
 pub kept_texts : {E : Type 0} (r : Result (List Line) E) (line : ℕ) (reason : Reason) (word : List ℕ)
     → word ≡ reason_word reason → GivesTexts r (lines_of_entry (KeepEntry line word))
-    → GivesTexts r (lines_of_entries (kept line reason))
+    → GivesTexts r (lines_of_entries (kept_loop_entry line reason))
 kept_texts (Err e) line reason word w h = tt
 kept_texts (Ok all) line reason word w h =
     h ∙ ap (λ (t : List ℕ). lines_of_entry (KeepEntry line t)) w
     ∙ sym (append-nil (lines_of_entry (KeepEntry line (reason_word reason))))
 
 pub kept_listed : (counts : Counts) (line : ℕ) (reason : Reason) (f : Found) (r : Listed) → f ≡ Kept line reason
-    → map text_of r.lines ≡ lines_of_entries (kept line reason) → r.counts ≡ counts → IsListedAs counts f r
+    → map line_text r.lines ≡ lines_of_entries (kept_loop_entry line reason) → r.counts ≡ counts → IsListedAs counts f r
 kept_listed counts line reason f r is h e =
     subst (λ (f : Found). IsListedAs counts f r) (sym is)
-    (record { entries = kept line reason; are = refl; lines = h; behind = e })
+    (record { entries = kept_loop_entry line reason; are = refl; lines = h; behind = e })
 
 -- ---- one more
 
@@ -111,7 +111,7 @@ have_more counts (g ∷ fs) es last f h k =
     }
 
 lines_more : (fs : List Found) (f : Found) (old new : List (List ℕ)) (counts : Counts) (r : Listed) → AreListed fs old counts
-    → IsListedAs counts f r → new ≡ old ++ map text_of r.lines → AreListed (fs ++ f ∷ []) new r.counts
+    → IsListedAs counts f r → new ≡ old ++ map line_text r.lines → AreListed (fs ++ f ∷ []) new r.counts
 lines_more fs f old new counts r h k e = by (subst (λ (m : Counts). IsListedAs m f r) h.counts_are k)
   where
     by : IsListedAs (counts_after no_counts fs h.entries h.are) f r → AreListed (fs ++ f ∷ []) new r.counts
@@ -121,7 +121,7 @@ lines_more fs f old new counts r h k e = by (subst (λ (m : Counts). IsListedAs 
           entries = h.entries ++ i.entries;
           are = more.are;
           lines_are =
-              e ∙ ap (λ u. u ++ map text_of r.lines) h.lines_are ∙ ap (λ u. lines_of_entries h.entries ++ u) i.lines
+              e ∙ ap (λ u. u ++ map line_text r.lines) h.lines_are ∙ ap (λ u. lines_of_entries h.entries ++ u) i.lines
               ∙ sym (entries-append h.entries i.entries);
           counts_are = i.behind ∙ more.counts_are;
         }
@@ -130,36 +130,36 @@ pub listed_none : (items : List Found') → AreListed (map found_of (take 0 item
 listed_none items = record { entries = []; are = refl; lines_are = refl; counts_are = refl }
 
 pub listed_more : (items : List Found') (i : ℕ) (x : Found') (old new : List Line) (counts next : Counts) (r : Listed)
-    → i < length items → x ≡ get_or items i x → AreListed (map found_of (take i items)) (map text_of old) counts
+    → i < length items → x ≡ get_or items i x → AreListed (map found_of (take i items)) (map line_text old) counts
     → IsListedAs counts (found_of x) r → new ≡ old ++ r.lines → next ≡ r.counts
-    → AreListed (map found_of (take (i + 1) items)) (map text_of new) next
+    → AreListed (map found_of (take (i + 1) items)) (map line_text new) next
 listed_more items i x old new counts next r h is before this now behind =
     let one : map found_of (take (i + 1) items) ≡ map found_of (take i items) ++ found_of x ∷ [] =
     ap (map found_of) (one_more items i x h is) ∙ map-append found_of (take i items) (x ∷ []) in
-    let lines : map text_of new ≡ map text_of old ++ map text_of r.lines
-    = ap (map text_of) now ∙ map-append text_of old r.lines in
-    subst (AreListed (map found_of (take (i + 1) items)) (map text_of new)) (sym behind)
-    (subst (λ (fs : List Found). AreListed fs (map text_of new) r.counts) (sym one)
-    (lines_more (map found_of (take i items)) (found_of x) (map text_of old) (map text_of new) counts r before this lines))
+    let lines : map line_text new ≡ map line_text old ++ map line_text r.lines
+    = ap (map line_text) now ∙ map-append line_text old r.lines in
+    subst (AreListed (map found_of (take (i + 1) items)) (map line_text new)) (sym behind)
+    (subst (λ (fs : List Found). AreListed fs (map line_text new) r.counts) (sym one)
+    (lines_more (map found_of (take i items)) (found_of x) (map line_text old) (map line_text new) counts r before this lines))
 
 -- all that was found
 pub listed_all : (p : Program) (items : List Found') (i : ℕ) (all lines : List Line) (counts : Counts)
     → map found_of items ≡ found_in p → length items ≤ i
-    → AreListed (map found_of (take i items)) (map text_of all) counts → lines ≡ all → IsListing p (map text_of lines)
+    → AreListed (map found_of (take i items)) (map line_text all) counts → lines ≡ all → IsListing p (map line_text lines)
 listed_all p items i all lines counts is h k e =
     let whole : map found_of (take i items) ≡ found_in p = ap (map found_of) (take_all i items h) ∙ is in
-    let l : AreListed (found_in p) (map text_of lines) counts =
-    subst (λ (fs : List Found). AreListed fs (map text_of lines) counts) whole
-    (subst (λ (ls : List Line). AreListed (map found_of (take i items)) (map text_of ls) counts) (sym e) k) in
+    let l : AreListed (found_in p) (map line_text lines) counts =
+    subst (λ (fs : List Found). AreListed fs (map line_text lines) counts) whole
+    (subst (λ (ls : List Line). AreListed (map found_of (take i items)) (map line_text ls) counts) (sym e) k) in
     record { entries = l.entries; are = l.are; lines_are = l.lines_are }
 
 -- ---- the text
 
-pub text_given : {A E : Type 0} (r : Result A E) (items : A → List ℕ) (p : Program) (lines given : List Line) → given ≡ lines → IsListing p (map text_of lines)
-    → IfOk r (λ a. items a ≡ flat_map with_line_feed (map text_of given)) → IfOk r (λ a. IsListingText p (items a))
+pub text_given : {A E : Type 0} (r : Result A E) (items : A → List ℕ) (p : Program) (lines given : List Line) → given ≡ lines → IsListing p (map line_text lines)
+    → IfOk r (λ a. items a ≡ flat_map with_line_feed (map line_text given)) → IfOk r (λ a. IsListingText p (items a))
 text_given (Err e) items p lines given same h k = tt
 text_given (Ok a) items p lines given same h k = record {
-  lines = map text_of lines;
+  lines = map line_text lines;
   listing = h;
-  text_is = k ∙ ap (λ (l : List Line). flat_map with_line_feed (map text_of l)) same;
+  text_is = k ∙ ap (λ (l : List Line). flat_map with_line_feed (map line_text l)) same;
 }

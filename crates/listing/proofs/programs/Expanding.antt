@@ -6,8 +6,8 @@ use Rattle.nest.specs.Bodies.{Standing, nest_statements}
 use Rattle.nest.specs.Plain.{Nest}
 use Rattle.nest_order.specs.orders.Lists.{In}
 use Rattle.nest_rewrite.specs.Assembled.{with_parts}
-use Rattle.scalar_expand.specs.Expanded.{expanded, with_arrays}
-use Rattle.scalar_expand.specs.Privates.{begun_by, names_written, or_none, private_among, private_scalars, privates_named}
+use Rattle.scalar_expand.specs.Expanded.{expanded, with_made_arrays}
+use Rattle.scalar_expand.specs.Privates.{begun_by, names_written, private_or_none, private_among, private_scalars, privates_named}
 use Rattle.scalar_expand.specs.declared.privates.Private.{Private}
 use Rattle.prepared_passes.specs.expansion.Left.{NoPrivateScalarIsLeft}
 use Rattle.last_values.specs.Occurrences.{stands_in_statement}
@@ -26,19 +26,19 @@ module _ (c : Nest) (b : Block) where
   named : (xs : List (List ℕ)) → privates_named beside xs ≡ privates_named c xs
   named [] = refl
   named (x ∷ xs) =
-      ap₂ (λ (o : Option Private) (ps : List Private). or_none o ++ ps) (among x (nest_statements c)) (named xs)
+      ap₂ (λ (o : Option Private) (ps : List Private). private_or_none o ++ ps) (among x (nest_statements c)) (named xs)
 
   pub privates_beside : private_scalars beside ≡ private_scalars c
   privates_beside = named (names_written [] (nest_statements c))
 
-  arrays_beside : (ps : List Private) → with_arrays beside ps ≡ record (with_arrays c ps) { after = (with_arrays beside ps).after }
-  unfolding with_arrays with_parts
+  arrays_beside : (ps : List Private) → with_made_arrays beside ps ≡ record (with_made_arrays c ps) { after = (with_made_arrays beside ps).after }
+  unfolding with_made_arrays with_parts
   arrays_beside ps = refl
 
   nest_beside : expanded beside ≡ record (expanded c) { after = (expanded beside).after }
   nest_beside =
       arrays_beside (private_scalars beside)
-      ∙ ap (λ (ps : List Private). record (with_arrays c ps) { after = (expanded beside).after }) privates_beside
+      ∙ ap (λ (ps : List Private). record (with_made_arrays c ps) { after = (expanded beside).after }) privates_beside
 
 -- ---- the expanded nest
 
@@ -49,7 +49,7 @@ expanded_beside k c m same e =
     subst (λ (j : Nest). j ≡ record (expanded c) { after = j.after }) (sym is) (nest_beside c k.after)
 
 pub masks_kept : (c : Nest) → (expanded c).masks ≡ c.masks
-unfolding with_arrays with_parts
+unfolding with_made_arrays with_parts
 masks_kept c = refl
 
 -- ---- what is left in it

@@ -7,6 +7,7 @@ use Rattle.inductions.specs.Found.{inductions_of}
 use Rattle.inductions.specs.Laws.{IsWrittenNowhere}
 use Rattle.inductions.specs.Nests.{induction_names}
 use Rattle.meaning.specs.Dialect.{fortran77}
+use Rattle.tree.specs.declared.width.Width.{Width}
 use Rattle.meaning.specs.Profile77.{IsProgram77}
 use Rattle.meaning_laws.proofs.profiles.Lists.{here, there as further}
 use Rattle.nest.specs.Bodies.{Standing, nest_statements}
@@ -44,11 +45,11 @@ left_beside k m c j given last h =
 
 -- ---- a nest that passes made
 
-module _ (p : Program) (is : IsProgram77 fortran77 p) (counts : Counts) (n m : Nest)
+module _ (width : Width) (p : Program) (is : IsProgram77 (fortran77 width) p) (counts : Counts) (n m : Nest)
     (among : Contains (found_in p) (InNest n)) (made : IsMadeBy counts n m) where
   most : made.named.masks ≤ 4294967296
   most =
-      let few : (expanded made.named).masks < 4294967296 = few_made p counts n m is among made in
+      let few : (expanded made.named).masks < 4294967296 = few_made width p counts n m is among made in
       let same = masks_kept made.named in
       omega (arith, few, same)
 
@@ -59,14 +60,14 @@ module _ (p : Program) (is : IsProgram77 fortran77 p) (counts : Counts) (n m : N
       → In x m.symbols
   is_symbol x i =
       let least = few_before made.normal made.converted made.named (named_so counts n m made) most in
-      let from = renamed_from p n made.normal made.converted made.named counts.masks is among made.made made.is_converted
+      let from = renamed_from width p n made.normal made.converted made.named counts.masks is among made.made made.is_converted
       least (named_so counts n m made) (few_so counts n m made) in
-      subst (λ (ys : List (List ℕ)). In x ys) (sym (symbols_made p counts n m is among made))
+      subst (λ (ys : List (List ℕ)). In x ys) (sym (symbols_made width p counts n m is among made))
       (subst (λ (ys : List (List ℕ)). In x ys) (sym (ap (λ (z : Nest). z.symbols) from.rest))
-      ((sub_from p n made.normal made.converted counts.masks is among made.made made.is_converted least).added x i))
+      ((sub_from width p n made.normal made.converted counts.masks is among made.made made.is_converted least).added x i))
 
   abbrev has : HasCopiesDeclared made.may counts.copies made.named
-  has = declared_for p counts n m is among made
+  has = declared_for width p counts n m is among made
 
   not_given : (x : List ℕ) → In x (induction_names (inductions_of (with_symbols_found made.normal made.converted)))
       → (s : Standing) → In s (nest_statements m) → bytes_eq s.statement.left.name x ≡ false
@@ -76,7 +77,7 @@ module _ (p : Program) (is : IsProgram77 fortran77 p) (counts : Counts) (n m : N
       by false e = refl
       by true e =
           let h = all_in (IsPreparedStatement has.declarations m last_depth) (nest_statements m)
-          (prepared_for p counts n m is among made).parts.statements s j in
+          (prepared_for width p counts n m is among made).parts.statements s j in
           absurd (h.free (In-Contains s.statement.left.name m.symbols
           (subst (λ y. In y m.symbols) (sym ((bytes_eq-Decides s.statement.left.name x).0 e)) (is_symbol x i))))
 
@@ -93,14 +94,14 @@ module _ (p : Program) (is : IsProgram77 fortran77 p) (counts : Counts) (n m : N
 
 -- ---- the nests of a listing
 
-module _ (p : Program) (is : IsProgram77 fortran77 p) where
+module _ (width : Width) (p : Program) (is : IsProgram77 (fortran77 width) p) where
   none_left : (counts : Counts) (n m : Nest) → Contains (found_in p) (InNest n) → (h : IsListedFrom counts n m)
       → NoInductionIsLeft h.stages.anew m
   none_left counts n m c h =
       let b = stages_beside counts n h.stages h.are in
       subst (NoInductionIsLeft h.stages.anew) (sym h.last)
       (left_beside h.stages.anew h.stages.arranged b.made.anew b.last b.given b.behind
-      (left p is counts n b.last c b.made))
+      (left width p is counts n b.last c b.made))
 
   all_substituted : (counts : Counts) (fs : List Found) (es : List Entry)
       → ((f : Found) → Contains fs f → Contains (found_in p) f) → (h : HaveEntries counts fs es)
@@ -113,5 +114,5 @@ module _ (p : Program) (is : IsProgram77 fortran77 p) where
   all_substituted counts (Kept line r ∷ fs) es c h =
       all_substituted counts fs h.1 (λ g i. c g (further (Kept line r) fs g i)) h.4
 
-pub listed_nests_are_substituted : ListedNestsAreSubstituted
-listed_nests_are_substituted p lines is l = all_substituted p is no_counts (found_in p) l.entries (λ f c. c) l.are
+pub listed_nests_are_substituted : (width : Width) → ListedNestsAreSubstituted width
+listed_nests_are_substituted width p lines is l = all_substituted width p is no_counts (found_in p) l.entries (λ f c. c) l.are

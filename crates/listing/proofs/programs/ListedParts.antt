@@ -12,7 +12,7 @@ use Rattle.nest.specs.Bodies.{Standing, nest_statements}
 use Rattle.nest.specs.Plain.{Branches, Choice, Jump, Label, Loop, Nest, Part, Parts, Run, Turns, branch, no_branches, no_parts, part}
 use Rattle.listing.specs.graphs.Lines.{Entry}
 use Rattle.listing.specs.graphs.Listing.{answer_entry, cycle_entry, dependence_entries, entries_of, hold_entries, loop_entries, loop_entries_in, loop_entries_under, loop_entry, statement_entries, statement_entry}
-use Rattle.listing.specs.graphs.Order.{Answered, Found, RuledOut, in_order, before, not_before}
+use Rattle.listing.specs.graphs.Order.{Answered, Found, RuledOut, entries_in_order, before, not_before}
 use Rattle.listing.specs.programs.Causes.{cycle_listed, edge_listed, hold_listed, listed_cycles, listed_edges, listed_holds}
 
 -- an edge without its directions and its pair
@@ -83,10 +83,10 @@ module _ (ts : List Standing) where
   drops_none [] = refl
   drops_none (d ∷ ds) = drops_none ds
 
-  edges_are : (es : List Edge) (ds : List Dropped) → edges_of (in_order es ds) ≡ map as_listed es
+  edges_are : (es : List Edge) (ds : List Dropped) → edges_of (entries_in_order es ds) ≡ map as_listed es
   edges_are [] ds = drops_none ds
   edges_are (e ∷ es) ds =
-      no_drops (before e ds) (Found e ∷ in_order es (not_before e ds)) ∙ ap (λ us. as_listed e ∷ us) (edges_are es (not_before e ds))
+      no_drops (before e ds) (Found e ∷ entries_in_order es (not_before e ds)) ∙ ap (λ us. as_listed e ∷ us) (edges_are es (not_before e ds))
 
   holds_none : (xs : List Answered) → listed_holds (map (answer_entry ts) xs) ≡ []
   holds_none [] = refl
@@ -134,10 +134,10 @@ module _ (n : Nest) (nest : ℕ) (g : Graph) (hs : List Hold) (cs : List Cycle) 
   pub holds_listed : listed_holds (entries_of n nest g hs cs) ≡ hs
   holds_listed =
       of_entries hold_listed (λ outer l. refl) (λ s t. refl) n nest g hs cs
-      ∙ (ap₂ (λ us vs. us ++ vs) (holds_none (nest_statements n) (in_order g.edges g.dropped)) (ap₂ (λ us vs. us ++ vs) (holds_are hs) (holds_of_cycles cs))
+      ∙ (ap₂ (λ us vs. us ++ vs) (holds_none (nest_statements n) (entries_in_order g.edges g.dropped)) (ap₂ (λ us vs. us ++ vs) (holds_are hs) (holds_of_cycles cs))
       ∙ append-nil hs)
 
   pub cycles_listed : listed_cycles (entries_of n nest g hs cs) ≡ cs
   cycles_listed =
       of_entries cycle_listed (λ outer l. refl) (λ s t. refl) n nest g hs cs
-      ∙ ap₂ (λ us vs. us ++ vs) (cycles_none (nest_statements n) (in_order g.edges g.dropped)) (ap₂ (λ us vs. us ++ vs) (cycles_of_holds hs) (cycles_are cs))
+      ∙ ap₂ (λ us vs. us ++ vs) (cycles_none (nest_statements n) (entries_in_order g.edges g.dropped)) (ap₂ (λ us vs. us ++ vs) (cycles_of_holds hs) (cycles_are cs))

@@ -1,22 +1,22 @@
 -- Neither substitution of inductions nor renaming asks anything of what stands behind a nest.
 use Rattle.std.proofs.Common.{◌≡◌, ℕ, List, [], ◌∷◌, Option, Some, None, ap, sym, ◌∙◌, subst, refl}
-use Rattle.inductions.specs.Found.{inductions_by, outermost}
-use Rattle.inductions.specs.Nests.{induction_names, inductions_substituted, substituted_by, with_body, with_inductions}
+use Rattle.inductions.specs.Found.{inductions_by, outermost_trip}
+use Rattle.inductions.specs.Nests.{induction_names, inductions_substituted, substituted_by, with_inductions_put, with_inductions}
 use Rattle.inductions.specs.declared.found.Induction.{Induction}
 use Rattle.nest.specs.Plain.{Nest}
 use Rattle.nest.specs.declared.parts.Trip.{Trip}
 use Rattle.scalar_rename.specs.Ranges.{webs_of}
 use Rattle.scalar_rename.specs.Renamed.{renamed, with_names}
 use Rattle.scalar_rename.specs.declared.ranges.Web.{Web}
-use Rattle.statement_passes.specs.Shifted.{with_symbol, with_symbols}
+use Rattle.statement_passes.specs.Shifted.{with_nest_symbol, with_nest_symbols}
 use Rattle.tree.specs.Plain.{Block}
 
 -- ---- inductions
 
 symbols_beside : (n : Nest) (b : Block) (xs : List (List ℕ))
-    → with_symbols (record n { after = b }) xs ≡ record (with_symbols n xs) { after = b }
+    → with_nest_symbols (record n { after = b }) xs ≡ record (with_nest_symbols n xs) { after = b }
 symbols_beside n b [] = refl
-symbols_beside n b (x ∷ xs) = symbols_beside (with_symbol n x) b xs
+symbols_beside n b (x ∷ xs) = symbols_beside (with_nest_symbol n x) b xs
 
 module _ (c : Nest) (b : Block) where
   abbrev beside : Nest
@@ -26,7 +26,7 @@ module _ (c : Nest) (b : Block) where
       → with_inductions beside o ds ≡ record (with_inductions c o ds) { after = (with_inductions beside o ds).after }
   with_beside o [] = refl
   with_beside o (d ∷ ds) =
-      ap (λ (m : Nest). with_body o.0 (d ∷ ds) (with_inductions beside o (d ∷ ds)).after m)
+      ap (λ (m : Nest). with_inductions_put o.0 (d ∷ ds) (with_inductions beside o (d ∷ ds)).after m)
       (symbols_beside c b (induction_names (d ∷ ds)))
 
   by_beside : (o : Option (List ℕ × Trip))
@@ -37,7 +37,7 @@ module _ (c : Nest) (b : Block) where
   all_beside : inductions_substituted beside
       ≡ record (inductions_substituted c) { after = (inductions_substituted beside).after }
   unfolding inductions_substituted
-  all_beside = by_beside (outermost c.body)
+  all_beside = by_beside (outermost_trip c.body)
 
 pub substituted_beside : (k c m : Nest) → k ≡ record c { after = k.after } → m ≡ inductions_substituted k
     → m ≡ record (inductions_substituted c) { after = m.after }
@@ -65,9 +65,9 @@ renamed_beside k c m same e =
 -- ---- what stays
 
 symbols_rest : (n : Nest) (xs : List (List ℕ))
-    → with_symbols n xs ≡ record n { symbols = (with_symbols n xs).symbols; body = (with_symbols n xs).body }
+    → with_nest_symbols n xs ≡ record n { symbols = (with_nest_symbols n xs).symbols; body = (with_nest_symbols n xs).body }
 symbols_rest n [] = refl
-symbols_rest n (x ∷ xs) = symbols_rest (with_symbol n x) xs
+symbols_rest n (x ∷ xs) = symbols_rest (with_nest_symbol n x) xs
 
 abbrev IsRestOf : Nest → Nest → Type 0
 IsRestOf n m = m ≡ record n { symbols = m.symbols; body = m.body; after = m.after }
@@ -75,7 +75,7 @@ IsRestOf n m = m ≡ record n { symbols = m.symbols; body = m.body; after = m.af
 inductions_rest : (n : Nest) (o : List ℕ × Trip) (ds : List Induction) → IsRestOf n (with_inductions n o ds)
 inductions_rest n o [] = refl
 inductions_rest n o (d ∷ ds) =
-    ap (λ (m : Nest). with_body o.0 (d ∷ ds) (with_inductions n o (d ∷ ds)).after m)
+    ap (λ (m : Nest). with_inductions_put o.0 (d ∷ ds) (with_inductions n o (d ∷ ds)).after m)
     (symbols_rest n (induction_names (d ∷ ds)))
 
 outermost_rest : (n : Nest) (o : Option (List ℕ × Trip)) → IsRestOf n (substituted_by n o)
@@ -89,7 +89,7 @@ pub substituted_rest : (n : Nest) → inductions_substituted n ≡ record n {
   after = (inductions_substituted n).after;
 }
 unfolding inductions_substituted
-substituted_rest n = outermost_rest n (outermost n.body)
+substituted_rest n = outermost_rest n (outermost_trip n.body)
 
 names_rest : (n : Nest) (ws : List Web)
     → with_names n ws ≡ record n { body = (with_names n ws).body; made = (with_names n ws).made }

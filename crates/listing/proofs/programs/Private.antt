@@ -12,6 +12,7 @@ use Rattle.statement_passes.specs.Standings.{IsLoop}
 use Rattle.find_nests.specs.Found.{Found, InNest, Kept, found_in}
 use Rattle.interchange.specs.Arranged.{arranged}
 use Rattle.meaning.specs.Dialect.{fortran77}
+use Rattle.tree.specs.declared.width.Width.{Width}
 use Rattle.meaning.specs.Profile77.{IsProgram77}
 use Rattle.meaning_laws.proofs.profiles.Lists.{here, there}
 use Rattle.nest.specs.Plain.{Nest}
@@ -26,30 +27,30 @@ use Rattle.listing.specs.graphs.Lines.{Entry}
 use Rattle.listing.specs.programs.Laws.{ListedNestsAreExpanded}
 use Rattle.listing.specs.programs.Listing.{HaveEntries, counts_of, no_counts}
 use Rattle.listing.specs.programs.Private.{AreExpanded}
-use Rattle.listing.specs.programs.Stages.{IsListedFrom, with_copies}
+use Rattle.listing.specs.programs.Stages.{IsListedFrom, with_copies_before}
 
-module _ (p : Program) (is : IsProgram77 fortran77 p) where
+module _ (width : Width) (p : Program) (is : IsProgram77 (fortran77 width) p) where
   none_left : (counts : Counts) (n m : Nest) → Contains (found_in p) (InNest n) → (h : IsListedFrom counts n m)
       → NoPrivateScalarIsLeft h.stages.named m
   none_left counts n m c h =
       let b = stages_beside counts n h.stages h.are in
       let made = b.made in
-      let few : (expanded made.named).masks < 4294967296 = few_made p counts n b.last is c made in
+      let few : (expanded made.named).masks < 4294967296 = few_made width p counts n b.last is c made in
       let same = masks_kept made.named in
       let most : made.named.masks ≤ 4294967296 = omega (arith, few, same) in
       let so = named_so counts n b.last made in
       let least = few_before made.normal made.converted made.named so most in
       let ranges = few_so counts n b.last made in
-      let d = declared_for p counts n b.last is c made in
-      let left = found_nest_has_no_private_scalars p n made.normal made.converted made.named counts.masks is c made.made
+      let d = declared_for width p counts n b.last is c made in
+      let left = found_nest_has_no_private_scalars width p n made.normal made.converted made.named counts.masks is c made.made
       made.is_converted so ranges most in
-      let split = nodes_split made.may (with_copies counts.copies (expanded made.named)) in
-      let o = one_loop p n made.normal made.converted made.named counts.masks is c made.made made.is_converted least so ranges in
+      let split = nodes_split made.may (with_copies_before counts.copies (expanded made.named)) in
+      let o = one_loop width p n made.normal made.converted made.named counts.masks is c made.made made.is_converted least so ranges in
       let moved : NoPrivateScalarIsLeft made.named
-      (arranged (nodes_split made.may (with_copies counts.copies (expanded made.named))) made.vectors)
+      (arranged (nodes_split made.may (with_copies_before counts.copies (expanded made.named))) made.vectors)
       = arranged_nest_has_no_private_scalars _ d.declarations _ d.around unexpanded_depth expanded_depth counts.copies
       made.named split made.may made.vectors
-      (prepared p n made.normal made.converted made.named counts.masks is c made.made made.is_converted least so ranges)
+      (prepared width p n made.normal made.converted made.named counts.masks is c made.made made.is_converted least so ranges)
       d.prepared (expanded_loop made.named (subst IsLoop (sym o.is_loop) tt)) refl d.split (omega arith) left in
       subst (NoPrivateScalarIsLeft h.stages.named) (sym h.last)
       (left_beside h.stages.named h.stages.arranged made.named b.last b.named b.behind
@@ -65,5 +66,5 @@ module _ (p : Program) (is : IsProgram77 fortran77 p) where
   all_expanded counts (Kept line r ∷ fs) es c h =
       all_expanded counts fs h.1 (λ g i. c g (there (Kept line r) fs g i)) h.4
 
-pub listed_nests_are_expanded : ListedNestsAreExpanded
-listed_nests_are_expanded p lines is l = all_expanded p is no_counts (found_in p) l.entries (λ f c. c) l.are
+pub listed_nests_are_expanded : (width : Width) → ListedNestsAreExpanded width
+listed_nests_are_expanded width p lines is l = all_expanded width p is no_counts (found_in p) l.entries (λ f c. c) l.are

@@ -15,17 +15,18 @@ use Rattle.prepared_passes.proofs.ExpandedNests.Sameness.{few_before}
 use Rattle.prepared_passes.proofs.SplitNests.Prepared.{split_nest_is_prepared}
 use Rattle.prepared_passes.specs.splitting.Laws.{split_rise}
 use Rattle.prepared_passes.specs.splitting.Splits.{nodes_split}
-use Rattle.node_splitting.specs.Split.{IsSplit, made_arrays, with_nodes_split}
+use Rattle.node_splitting.specs.Split.{IsSplitNest, made_arrays, with_nodes_split}
 use Rattle.prepared_passes.specs.expansion.Found.{HasExpandedDeclarations, expanded_depth}
 use Rattle.prepared_passes.specs.expansion.Unexpanded.{substituted, unexpanded}
-use Rattle.f90_print.specs.Notes.{text_of}
+use Rattle.f90_print.specs.Notes.{line_text}
 use Rattle.meaning.specs.Dialect.{fortran77}
+use Rattle.tree.specs.declared.width.Width.{Width}
 use Rattle.meaning.specs.Profile77.{IsProgram77}
 use Rattle.dependence_graph.specs.declared.graphs.Graph.{Graph}
 use Rattle.dependence_graph.specs.declared.graphs.Place.{Place}
 use Rattle.dependence_graph.specs.nest_graph.Graph.{IsGraphOf}
 use Rattle.dependence_graph.specs.nest_graph.Ready.{IsReady}
-use Rattle.dependence_graph.specs.nest_graph.Tested.{IsReference}
+use Rattle.dependence_graph.specs.nest_graph.Tested.{IsReferenceAt}
 use Rattle.prepared_passes.proofs.ArrangedNests.Again.{arranged_nest_is_prepared}
 use Rattle.if_convert.proofs.BodyLaws.{turns-converted}
 use Rattle.if_convert.specs.Converted.{converted_nest}
@@ -66,7 +67,7 @@ use Rattle.listing.specs.declared.programs.nests.Passed.{Passed}
 use Rattle.listing.specs.programs.Passed.{IsAnewOf, IsArrangedAs, IsExpandedOf, IsPassed, IsSplitOf, IsSubstitutedOf}
 use Rattle.listing.specs.programs.Passed.{IsUnexpanded}
 use Rattle.listing.specs.programs.Sources.{IsFoundInSource, IsNestOfSource, IsNormalOfSource}
-use Rattle.listing.specs.programs.Stages.{IsSplitBy, with_copies}
+use Rattle.listing.specs.programs.Stages.{IsSplitBy, with_copies_before}
 use Rattle.listing.specs.programs.Testable.{AreTestsOf, MayBeListed, MayBeSplitReady}
 
 -- ---- symbols and declarations
@@ -82,21 +83,21 @@ within_declarations p n h most =
     omega (arith, size, within, most)
 
 -- no more than a program has names
-pub few_of_source : (n : Nest) → IsNestOfSource n → length n.symbols ≤ 1000
-few_of_source n h = within_declarations h.program n (found_nest_is_loop h.program n h.among) h.profile.declarations.few
+pub few_of_source : (width : Width) (n : Nest) → IsNestOfSource width n → length n.symbols ≤ 1000
+few_of_source width n h = within_declarations h.program n (found_nest_is_loop h.program n h.among) h.profile.declarations.few
 
-pub few_declarations : (p : Program) (ds : List Decl) → map declaration_of ds ≡ p.declarations → IsProgram77 fortran77 p
+pub few_declarations : (width : Width) (p : Program) (ds : List Decl) → map declaration_of ds ≡ p.declarations → IsProgram77 (fortran77 width) p
     → length ds ≤ 2 ^ 16
-few_declarations p ds e is =
+few_declarations width p ds e is =
     let size : length (map declaration_of ds) ≡ length ds = length-map ds declaration_of in
     let same : length (map declaration_of ds) ≡ length p.declarations = ap length e in
     let few : length p.declarations ≤ 1000 = is.declarations.few in
     omega (arith, size, same, few)
 
 -- one of the list that was found
-pub in_source : (p : Program) (items : List Found') (i : ℕ) (x : Found') → IsProgram77 fortran77 p
-    → map found_of items ≡ found_in p → i < length items → x ≡ get_or items i x → IsFoundInSource (found_of x)
-in_source p items i x profile is h e =
+pub in_source : (width : Width) (p : Program) (items : List Found') (i : ℕ) (x : Found') → IsProgram77 (fortran77 width) p
+    → map found_of items ≡ found_in p → i < length items → x ≡ get_or items i x → IsFoundInSource width (found_of x)
+in_source width p items i x profile is h e =
     let size : length (map found_of items) ≡ length items = length-map items found_of in
     let at : get_or (map found_of items) i (found_of x) ≡ found_of x
     = get_or-map found_of items i x (found_of x) h ∙ ap found_of (sym e) in
@@ -110,15 +111,15 @@ in_source p items i x profile is h e =
 -- ---- what passes make
 
 -- of a nest that was found a nest with loops from 1 by 1 is made
-pub normal_there : (n : Nest) → IsNestOfSource n → normalised n ≡ None → ⊥
-normal_there n h none =
-    let form = found_nest_has_normal_form fortran77 h.program n h.profile h.among in
+pub normal_there : (width : Width) (n : Nest) → IsNestOfSource width n → normalised n ≡ None → ⊥
+normal_there width n h none =
+    let form = found_nest_has_normal_form (fortran77 width) h.program n h.profile h.among in
     true≢false (ap is_some (sym form.is ∙ none))
 
 -- and of that one a nest with masks
-pub masks_there : (m : Nest) (masks : ℕ) → IsNormalOfSource m → converted_nest masks m ≡ None → ⊥
-masks_there m masks h none =
-    let form = found_nest_has_normal_form fortran77 h.source.program h.nest h.source.profile h.source.among in
+pub masks_there : (width : Width) (m : Nest) (masks : ℕ) → IsNormalOfSource width m → converted_nest masks m ≡ None → ⊥
+masks_there width m masks h none =
+    let form = found_nest_has_normal_form (fortran77 width) h.source.program h.nest h.source.profile h.source.among in
     let is = form.is in
     let made = h.made in
     let same : form.normal ≡ m = cc in
@@ -133,21 +134,21 @@ symbols_found masks m k (Err e) nest made h = tt
 symbols_found masks m k (Ok a) nest made h = (k, made, h)
 
 -- they are no more than a program has names
-pub few_anew : (masks : ℕ) (m k : Nest) → IsNormalOfSource m → IsAnewOf masks m k → k.masks < 2 ^ 32
+pub few_anew : (width : Width) (masks : ℕ) (m k : Nest) → IsNormalOfSource width m → IsAnewOf masks m k → k.masks < 2 ^ 32
     → length k.symbols ≤ 1000
-few_anew masks m k h u few =
+few_anew width masks m k h u few =
     let less : k.masks < 4294967296 = few in
     let same : k.masks ≡ u.0.masks = masks_anew m u.0 k u.2 in
     let most : u.0.masks ≤ 4294967296 = omega (arith, less, same) in
     let p = h.source.program in
     let is = h.source.profile in
     let c = h.source.among in
-    let both = with_both p h.nest m u.0 masks is c h.made u.1 most in
-    let add = (are_both p h.nest m u.0 masks is c h.made u.1 most).more in
-    let around = (stands p h.nest m u.0 masks is c h.made u.1 most).round.variables in
-    let before = prepared p h.nest m u.0 masks is c h.made u.1 most in
+    let both = with_both width p h.nest m u.0 masks is c h.made u.1 most in
+    let add = (are_both width p h.nest m u.0 masks is c h.made u.1 most).more in
+    let around = (stands width p h.nest m u.0 masks is c h.made u.1 most).round.variables in
+    let before = prepared width p h.nest m u.0 masks is c h.made u.1 most in
     subst (λ (j : Nest). length j.symbols ≤ 1000) (sym u.2)
-    (anew_prepared p h.nest m u.0 masks is c h.made u.1 most both add around before).parts.few
+    (anew_prepared width p h.nest m u.0 masks is c h.made u.1 most both add around before).parts.few
 
 -- and its inductions may be substituted
 pub substituted_of : {E : Type 0} (masks : ℕ) (m k : Nest) (r : Result Nest' E) → IsAnewOf masks m k
@@ -172,13 +173,13 @@ few_ranges : (masks : ℕ) (m k : Nest) (u : IsUnexpanded masks m k) → HaveFew
 few_ranges masks m k u = few_of m u.1.1.0 u.1.0 u.0 u.1.1.2 u.1.2 u.3
 
 -- there are no more symbols still
-pub few_unexpanded : (masks : ℕ) (m k : Nest) → IsNormalOfSource m → IsUnexpanded masks m k → k.masks < 2 ^ 32
+pub few_unexpanded : (width : Width) (masks : ℕ) (m k : Nest) → IsNormalOfSource width m → IsUnexpanded masks m k → k.masks < 2 ^ 32
     → length k.symbols ≤ 1000
-few_unexpanded masks m k h u few =
+few_unexpanded width masks m k h u few =
     let less : k.masks < 4294967296 = few in
     let most : k.masks ≤ 4294967296 = omega (arith, less) in
     let s = h.source in
-    let d = found_nest_has_expanded_declarations s.program h.nest m (with_masks masks m k u) k masks s.profile s.among h.made
+    let d = found_nest_has_expanded_declarations width s.program h.nest m (with_masks masks m k u) k masks s.profile s.among h.made
     u.1.1.1 (named_is masks m k u) (few_ranges masks m k u) most in
     subst (λ (xs : List (List ℕ)). length xs ≤ 1000) (symbols_are k) d.prepared.parts.few
 
@@ -191,7 +192,7 @@ expanded_of masks m k (Ok new) made h = (k, made, h)
 -- ---- nests that may be tested
 
 -- with arrays for private scalars, and behind that pass
-module _ (p : Program) (counts : Counts) (n normal k : Nest) (profile : IsProgram77 fortran77 p)
+module _ (width : Width) (p : Program) (counts : Counts) (n normal k : Nest) (profile : IsProgram77 (fortran77 width) p)
     (among : Contains (found_in p) (InNest n)) (normal_is : normalised n ≡ Some normal)
     (e : IsExpandedOf counts.masks normal k) (few : k.masks < 2 ^ 32) where
   abbrev masks : ℕ
@@ -205,166 +206,166 @@ module _ (p : Program) (counts : Counts) (n normal k : Nest) (profile : IsProgra
 
   -- whichever reads are copied there are declarations for it, where the copies can be counted
   pub copies_declared : (may : Place → Bool)
-      → counts.copies + length (made_arrays may (with_copies counts.copies (expanded e.0))) ≤ 2 ^ 32
+      → counts.copies + length (made_arrays may (with_copies_before counts.copies (expanded e.0))) ≤ 2 ^ 32
       → HasCopiesDeclared may counts.copies e.0
   copies_declared may top =
-      has_copies_declared p n normal (with_masks masks normal e.0 e.1) e.0 masks counts.copies may profile among normal_is
+      has_copies_declared width p n normal (with_masks masks normal e.0 e.1) e.0 masks counts.copies may profile among normal_is
       e.1.1.1.1 (few_before normal (with_masks masks normal e.0 e.1) e.0 (named_is masks normal e.0 e.1) most)
       (named_is masks normal e.0 e.1) (few_ranges masks normal e.0 e.1) top
 
   -- and where none is
   declared_before : HasExpandedDeclarations e.0
   declared_before =
-      found_nest_has_expanded_declarations p n normal (with_masks masks normal e.0 e.1) e.0 masks profile among normal_is
+      found_nest_has_expanded_declarations width p n normal (with_masks masks normal e.0 e.1) e.0 masks profile among normal_is
       e.1.1.1.1 (named_is masks normal e.0 e.1) (few_ranges masks normal e.0 e.1) most
 
-  prepared_before : IsPrepared declared_before.declarations declared_before.around expanded_depth (with_copies counts.copies k)
+  prepared_before : IsPrepared declared_before.declarations declared_before.around expanded_depth (with_copies_before counts.copies k)
   prepared_before =
-      subst (λ (z : Nest). IsPrepared declared_before.declarations declared_before.around expanded_depth (with_copies counts.copies z))
+      subst (λ (z : Nest). IsPrepared declared_before.declarations declared_before.around expanded_depth (with_copies_before counts.copies z))
       (sym e.2)
       (prepared_counted declared_before.declarations declared_before.around expanded_depth (expanded e.0) counts.copies
       declared_before.prepared)
 
-  expanded_nest_is_ready : IsReady (with_copies counts.copies k)
+  expanded_nest_is_ready : IsReady (with_copies_before counts.copies k)
   expanded_nest_is_ready =
       prepared_nest_is_ready declared_before.declarations declared_before.around expanded_depth
-      (with_copies counts.copies k) declared_before.are prepared_before
+      (with_copies_before counts.copies k) declared_before.are prepared_before
 
   -- ---- the split nest
 
   abbrev split_by : (Place → Bool) → Nest
-  split_by may = nodes_split may (with_copies counts.copies (expanded e.0))
+  split_by may = nodes_split may (with_copies_before counts.copies (expanded e.0))
 
   split_is_prepared : (may : Place → Bool)
-      → (top : counts.copies + length (made_arrays may (with_copies counts.copies (expanded e.0))) ≤ 2 ^ 32)
+      → (top : counts.copies + length (made_arrays may (with_copies_before counts.copies (expanded e.0))) ≤ 2 ^ 32)
       → IsPrepared (copies_declared may top).declarations (copies_declared may top).around (expanded_depth + split_rise)
-      (nodes_split may (with_copies counts.copies (expanded e.0)))
-  split_is_prepared may top = by (with_nodes_split may (with_copies counts.copies (expanded e.0))) refl
+      (nodes_split may (with_copies_before counts.copies (expanded e.0)))
+  split_is_prepared may top = by (with_nodes_split may (with_copies_before counts.copies (expanded e.0))) refl
     where
       before : IsPrepared (copies_declared may top).declarations (copies_declared may top).around expanded_depth
-          (with_copies counts.copies (expanded e.0))
+          (with_copies_before counts.copies (expanded e.0))
       before =
           prepared_counted (copies_declared may top).declarations (copies_declared may top).around expanded_depth
           (expanded e.0) counts.copies (copies_declared may top).prepared
 
-      by : (o : Option Nest) → with_nodes_split may (with_copies counts.copies (expanded e.0)) ≡ o
+      by : (o : Option Nest) → with_nodes_split may (with_copies_before counts.copies (expanded e.0)) ≡ o
           → IsPrepared (copies_declared may top).declarations (copies_declared may top).around (expanded_depth + split_rise)
-          (unwrap_or o (with_copies counts.copies (expanded e.0)))
+          (unwrap_or o (with_copies_before counts.copies (expanded e.0)))
       by None f =
           nothing_deeper (copies_declared may top).declarations (copies_declared may top).around expanded_depth split_rise
-          (with_copies counts.copies (expanded e.0)) before
+          (with_copies_before counts.copies (expanded e.0)) before
       by (Some s) f =
           split_nest_is_prepared (copies_declared may top).declarations (copies_declared may top).around expanded_depth may
-          (with_copies counts.copies (expanded e.0)) s before (copies_declared may top).split (omega arith) f
+          (with_copies_before counts.copies (expanded e.0)) s before (copies_declared may top).split (omega arith) f
 
   -- by whatever vectors its loops move
   moved_is_prepared : (may : Place → Bool)
-      → (top : counts.copies + length (made_arrays may (with_copies counts.copies (expanded e.0))) ≤ 2 ^ 32)
+      → (top : counts.copies + length (made_arrays may (with_copies_before counts.copies (expanded e.0))) ≤ 2 ^ 32)
       → (vectors : List Dirs)
       → IsPrepared (copies_declared may top).declarations (copies_declared may top).around last_depth
-      (arranged (nodes_split may (with_copies counts.copies (expanded e.0))) vectors)
+      (arranged (nodes_split may (with_copies_before counts.copies (expanded e.0))) vectors)
   moved_is_prepared may top vectors =
       arranged_nest_is_prepared (copies_declared may top).declarations (copies_declared may top).around
-      (expanded_depth + split_rise) (nodes_split may (with_copies counts.copies (expanded e.0))) vectors
+      (expanded_depth + split_rise) (nodes_split may (with_copies_before counts.copies (expanded e.0))) vectors
       (split_is_prepared may top)
 
   -- how many copies there are behind it
-  pub top_of : (may : Place → Bool) → (nodes_split may (with_copies counts.copies (expanded e.0))).copies < 2 ^ 32
-      → counts.copies + length (made_arrays may (with_copies counts.copies (expanded e.0))) ≤ 2 ^ 32
+  pub top_of : (may : Place → Bool) → (nodes_split may (with_copies_before counts.copies (expanded e.0))).copies < 2 ^ 32
+      → counts.copies + length (made_arrays may (with_copies_before counts.copies (expanded e.0))) ≤ 2 ^ 32
   top_of may h =
-      let less : (nodes_split may (with_copies counts.copies (expanded e.0))).copies < 4294967296 = h in
-      let is = split_copies may (with_copies counts.copies (expanded e.0)) in
-      let least : counts.copies + length (made_arrays may (with_copies counts.copies (expanded e.0))) ≤ 4294967296
+      let less : (nodes_split may (with_copies_before counts.copies (expanded e.0))).copies < 4294967296 = h in
+      let is = split_copies may (with_copies_before counts.copies (expanded e.0)) in
+      let least : counts.copies + length (made_arrays may (with_copies_before counts.copies (expanded e.0))) ≤ 4294967296
       = omega (arith, less, is) in
       least
 
-  split_nest_is_ready : (may : Place → Bool) → (nodes_split may (with_copies counts.copies (expanded e.0))).copies < 2 ^ 32
-      → IsReady (nodes_split may (with_copies counts.copies (expanded e.0)))
+  split_nest_is_ready : (may : Place → Bool) → (nodes_split may (with_copies_before counts.copies (expanded e.0))).copies < 2 ^ 32
+      → IsReady (nodes_split may (with_copies_before counts.copies (expanded e.0)))
   split_nest_is_ready may h =
       let d = copies_declared may (top_of may h) in
       prepared_nest_is_ready d.declarations d.around (expanded_depth + split_rise)
-      (nodes_split may (with_copies counts.copies (expanded e.0))) d.are (split_is_prepared may (top_of may h))
+      (nodes_split may (with_copies_before counts.copies (expanded e.0))) d.are (split_is_prepared may (top_of may h))
 
   split_nest_may_be_listed : (may : Place → Bool)
-      → (nodes_split may (with_copies counts.copies (expanded e.0))).copies < 2 ^ 32
-      → MayBeListed (nodes_split may (with_copies counts.copies (expanded e.0)))
+      → (nodes_split may (with_copies_before counts.copies (expanded e.0))).copies < 2 ^ 32
+      → MayBeListed (nodes_split may (with_copies_before counts.copies (expanded e.0)))
   split_nest_may_be_listed may h =
       let d = copies_declared may (top_of may h) in
       let prepared = split_is_prepared may (top_of may h) in
       record {
         ready = split_nest_is_ready may h;
         emitted = λ g graph. prepared_nest_may_be_emitted d.declarations d.around (expanded_depth + split_rise)
-            (nodes_split may (with_copies counts.copies (expanded e.0))) g d.are prepared graph;
+            (nodes_split may (with_copies_before counts.copies (expanded e.0))) g d.are prepared graph;
       }
 
   moved_nest_may_be_listed : (may : Place → Bool)
-      → (nodes_split may (with_copies counts.copies (expanded e.0))).copies < 2 ^ 32 → (vectors : List Dirs)
-      → MayBeListed (arranged (nodes_split may (with_copies counts.copies (expanded e.0))) vectors)
+      → (nodes_split may (with_copies_before counts.copies (expanded e.0))).copies < 2 ^ 32 → (vectors : List Dirs)
+      → MayBeListed (arranged (nodes_split may (with_copies_before counts.copies (expanded e.0))) vectors)
   moved_nest_may_be_listed may h vectors =
       let d = copies_declared may (top_of may h) in
-      let s = arranged (nodes_split may (with_copies counts.copies (expanded e.0))) vectors in
+      let s = arranged (nodes_split may (with_copies_before counts.copies (expanded e.0))) vectors in
       let prepared = moved_is_prepared may (top_of may h) vectors in
       record {
         ready = prepared_nest_is_ready d.declarations d.around last_depth s d.are prepared;
         emitted = λ g graph. prepared_nest_may_be_emitted d.declarations d.around last_depth s g d.are prepared graph;
       }
 
-pub ready_before : (counts : Counts) (m k : Nest) → IsNormalOfSource m → IsExpandedOf counts.masks m k
-    → k.masks < 2 ^ 32 → IsReady (with_copies counts.copies k)
-ready_before counts m k h e few =
-    expanded_nest_is_ready h.source.program counts h.nest m k h.source.profile h.source.among h.made e few
+pub ready_before : (width : Width) (counts : Counts) (m k : Nest) → IsNormalOfSource width m → IsExpandedOf counts.masks m k
+    → k.masks < 2 ^ 32 → IsReady (with_copies_before counts.copies k)
+ready_before width counts m k h e few =
+    expanded_nest_is_ready width h.source.program counts h.nest m k h.source.profile h.source.among h.made e few
 
 -- the nest that splitting makes of it
-pub ready_split : (counts : Counts) (m k : Nest) → IsNormalOfSource m → IsExpandedOf counts.masks m k
-    → k.masks < 2 ^ 32 → MayBeSplitReady (with_copies counts.copies k)
-ready_split counts m k h e few may s made copied =
+pub ready_split : (width : Width) (counts : Counts) (m k : Nest) → IsNormalOfSource width m → IsExpandedOf counts.masks m k
+    → k.masks < 2 ^ 32 → MayBeSplitReady (with_copies_before counts.copies k)
+ready_split width counts m k h e few may s made copied =
     subst IsReady is
-    (split_nest_is_ready h.source.program counts h.nest m k h.source.profile h.source.among h.made e few may
+    (split_nest_is_ready width h.source.program counts h.nest m k h.source.profile h.source.among h.made e few may
     (subst (λ (z : Nest). z.copies < 2 ^ 32) (sym is) copied))
   where
-    is : nodes_split may (with_copies counts.copies (expanded e.0)) ≡ s
+    is : nodes_split may (with_copies_before counts.copies (expanded e.0)) ≡ s
     is =
-        ap (λ (z : Nest). nodes_split may (with_copies counts.copies z)) (sym e.2)
-        ∙ ap (λ (o : Option Nest). unwrap_or o (with_copies counts.copies k)) made
+        ap (λ (z : Nest). nodes_split may (with_copies_before counts.copies z)) (sym e.2)
+        ∙ ap (λ (o : Option Nest). unwrap_or o (with_copies_before counts.copies k)) made
 
 -- of which the nest k is one, with a graph
 split_of_is : (counts : Counts) (m k : Nest) (g : Graph) (s : IsSplitOf counts m k g)
-    → k ≡ nodes_split s.is_split.is.may (with_copies counts.copies (expanded s.is_expanded.0))
+    → k ≡ nodes_split s.is_split.is.may (with_copies_before counts.copies (expanded s.is_expanded.0))
 split_of_is counts m k g s =
-    split_so (with_copies counts.copies s.expanded) k s.split_graph g s.is_split
-    ∙ ap (λ (z : Nest). nodes_split s.is_split.is.may (with_copies counts.copies z)) s.is_expanded.2
+    split_so (with_copies_before counts.copies s.expanded) k s.split_graph g s.is_split
+    ∙ ap (λ (z : Nest). nodes_split s.is_split.is.may (with_copies_before counts.copies z)) s.is_expanded.2
 
 few_of_split : (counts : Counts) (m k : Nest) (g : Graph) (s : IsSplitOf counts m k g) → k.masks < 2 ^ 32
     → s.expanded.masks < 2 ^ 32
 few_of_split counts m k g s few =
     subst (λ (i : ℕ). i < 2 ^ 32)
     (ap (λ (z : Nest). z.masks)
-    (split_so (with_copies counts.copies s.expanded) k s.split_graph g s.is_split
-    ∙ split_rest s.is_split.is.may (with_copies counts.copies s.expanded))) few
+    (split_so (with_copies_before counts.copies s.expanded) k s.split_graph g s.is_split
+    ∙ split_rest s.is_split.is.may (with_copies_before counts.copies s.expanded))) few
 
-pub may_be_listed_split : (counts : Counts) (m k : Nest) (g : Graph) → IsNormalOfSource m → IsSplitOf counts m k g
+pub may_be_listed_split : (width : Width) (counts : Counts) (m k : Nest) (g : Graph) → IsNormalOfSource width m → IsSplitOf counts m k g
     → k.masks < 2 ^ 32 → k.copies < 2 ^ 32 → MayBeListed k
-may_be_listed_split counts m k g h s few copied =
+may_be_listed_split width counts m k g h s few copied =
     let is = split_of_is counts m k g s in
     subst MayBeListed (sym is)
-    (split_nest_may_be_listed h.source.program counts h.nest m s.expanded h.source.profile h.source.among h.made
+    (split_nest_may_be_listed width h.source.program counts h.nest m s.expanded h.source.profile h.source.among h.made
     s.is_expanded (few_of_split counts m k g s few) s.is_split.is.may
     (subst (λ (z : Nest). z.copies < 2 ^ 32) is copied))
 
-pub may_be_listed_moved : (counts : Counts) (m k : Nest) (g : Graph) → IsNormalOfSource m → IsSplitOf counts m k g
+pub may_be_listed_moved : (width : Width) (counts : Counts) (m k : Nest) (g : Graph) → IsNormalOfSource width m → IsSplitOf counts m k g
     → k.masks < 2 ^ 32 → k.copies < 2 ^ 32 → (vectors : List Dirs) → MayBeListed (arranged k vectors)
-may_be_listed_moved counts m k g h s few copied vectors =
+may_be_listed_moved width counts m k g h s few copied vectors =
     let is = split_of_is counts m k g s in
     subst (λ (z : Nest). MayBeListed (arranged z vectors)) (sym is)
-    (moved_nest_may_be_listed h.source.program counts h.nest m s.expanded h.source.profile h.source.among h.made
+    (moved_nest_may_be_listed width h.source.program counts h.nest m s.expanded h.source.profile h.source.among h.made
     s.is_expanded (few_of_split counts m k g s few) s.is_split.is.may
     (subst (λ (z : Nest). z.copies < 2 ^ 32) is copied) vectors)
 
 -- the last one
-module _ (p : Program) (counts : Counts) (n m : Nest) (profile : IsProgram77 fortran77 p)
+module _ (width : Width) (p : Program) (counts : Counts) (n m : Nest) (profile : IsProgram77 (fortran77 width) p)
     (among : Contains (found_in p) (InNest n)) (made : IsMadeBy counts n m) where
   abbrev pub split_made : Nest
-  split_made = nodes_split made.may (with_copies counts.copies (expanded made.named))
+  split_made = nodes_split made.may (with_copies_before counts.copies (expanded made.named))
 
   same_rest : m ≡ record split_made { body = m.body }
   same_rest =
@@ -376,51 +377,51 @@ module _ (p : Program) (counts : Counts) (n m : Nest) (profile : IsProgram77 for
       let less : m.masks < 4294967296 = made.counted in
       let same : m.masks ≡ (expanded made.named).masks
       = ap (λ (j : Nest). j.masks) same_rest
-      ∙ ap (λ (j : Nest). j.masks) (split_rest made.may (with_copies counts.copies (expanded made.named))) in
+      ∙ ap (λ (j : Nest). j.masks) (split_rest made.may (with_copies_before counts.copies (expanded made.named))) in
       let few : (expanded made.named).masks < 4294967296 = omega (arith, less, same) in
       few
 
   pub symbols_made : m.symbols ≡ made.named.symbols
   symbols_made =
       ap (λ (j : Nest). j.symbols) same_rest
-      ∙ (ap (λ (j : Nest). j.symbols) (split_rest made.may (with_copies counts.copies (expanded made.named)))
+      ∙ (ap (λ (j : Nest). j.symbols) (split_rest made.may (with_copies_before counts.copies (expanded made.named)))
       ∙ symbols_are made.named)
 
   abbrev before : IsExpandedOf counts.masks made.normal (expanded made.named)
   before =
       (made.named, (made.substituted, (made.anew, (made.converted, made.is_converted, made.is_anew), made.is_substituted), made.is_named, made.few), refl)
 
-  copied_made : (nodes_split made.may (with_copies counts.copies (expanded made.named))).copies < 2 ^ 32
+  copied_made : (nodes_split made.may (with_copies_before counts.copies (expanded made.named))).copies < 2 ^ 32
   copied_made = subst (λ (i : ℕ). i < 2 ^ 32) (ap (λ (j : Nest). j.copies) same_rest) made.copied
 
-  pub top_made : counts.copies + length (made_arrays made.may (with_copies counts.copies (expanded made.named))) ≤ 2 ^ 32
+  pub top_made : counts.copies + length (made_arrays made.may (with_copies_before counts.copies (expanded made.named))) ≤ 2 ^ 32
   top_made =
-      top_of p counts n made.normal (expanded made.named) profile among made.made before few_made made.may copied_made
+      top_of width p counts n made.normal (expanded made.named) profile among made.made before few_made made.may copied_made
 
   pub declared_for : HasCopiesDeclared made.may counts.copies made.named
   declared_for =
-      copies_declared p counts n made.normal (expanded made.named) profile among made.made before few_made made.may top_made
+      copies_declared width p counts n made.normal (expanded made.named) profile among made.made before few_made made.may top_made
 
   pub prepared_for : IsPrepared declared_for.declarations declared_for.around last_depth m
   unfolding declared_for
   prepared_for =
       subst (IsPrepared declared_for.declarations declared_for.around last_depth) (sym made.is_arranged)
-      (moved_is_prepared p counts n made.normal (expanded made.named) profile among made.made before few_made made.may
+      (moved_is_prepared width p counts n made.normal (expanded made.named) profile among made.made before few_made made.may
       top_made made.vectors)
 
   made_nest_is_ready : IsReady m
   made_nest_is_ready =
       prepared_nest_is_ready declared_for.declarations declared_for.around last_depth m declared_for.are prepared_for
 
-pub ready : (counts : Counts) (n m : Nest) → IsNestOfSource n → IsMadeBy counts n m → IsReady m
-ready counts n m h made = made_nest_is_ready h.program counts n m h.profile h.among made
+pub ready : (width : Width) (counts : Counts) (n m : Nest) → IsNestOfSource width n → IsMadeBy counts n m → IsReady m
+ready width counts n m h made = made_nest_is_ready width h.program counts n m h.profile h.among made
 
 -- what stands behind a nest isn't tested
 module _ (n : Nest) (b : Block) (h : IsReady n) where
   abbrev beside : Nest
   beside = record n { after = b }
 
-  at_place : (p : Place) (s : Standing) (r : Reference) → IsReference beside p s r → IsReference n p s r
+  at_place : (p : Place) (s : Standing) (r : Reference) → IsReferenceAt beside p s r → IsReferenceAt n p s r
   at_place p s r i = record { statement = i.statement; reference = i.reference }
 
   ready_too : IsReady beside
@@ -431,16 +432,16 @@ module _ (n : Nest) (b : Block) (h : IsReady n) where
     loops = h.loops;
   }
 
-pub listed_nest_is_testable : ListedNestIsTestable
-listed_nest_is_testable p counts n m profile among listed =
+pub listed_nest_is_testable : (width : Width) → ListedNestIsTestable width
+listed_nest_is_testable width p counts n m profile among listed =
     let w = listed_is_made counts n m listed in
     subst IsReady (sym w.same)
-    (ready_too w.nest m.after (made_nest_is_ready p counts n w.nest profile among w.made))
+    (ready_too w.nest m.after (made_nest_is_ready width p counts n w.nest profile among w.made))
 
 -- ---- what the code gives
 
 -- the nest with copies, and with a graph of it
-pub split_some : {E : Type 0} (k s : Nest) (g : Graph) (r : Result Graphed E) → IsSplit k g (Some s)
+pub split_some : {E : Type 0} (k s : Nest) (g : Graph) (r : Result Graphed E) → IsSplitNest k g (Some s)
     → IfOk r (λ a. nest_of a.nest.value ≡ s) → IfOk r (λ a. IsGraphOf s a.graph)
     → IfOk r (λ a. IsSplitBy k g (nest_of a.nest.value) a.graph)
 split_some k s g (Err e) is nest graph = tt
@@ -452,12 +453,12 @@ split_some k s g (Ok a) is nest graph = record {
   kept = λ e. absurd (true≢false (ap is_some e));
 }
 
-pub split_none : (k : Nest) (g : Graph) → IsGraphOf k g → IsSplit k g None → IsSplitBy k g k g
+pub split_none : (k : Nest) (g : Graph) → IsGraphOf k g → IsSplitNest k g None → IsSplitBy k g k g
 split_none k g graph is = record { new = None; is = is; nest = refl; graph = graph; kept = λ e. refl }
 
 pub split_of : {E : Type 0} (counts : Counts) (m k : Nest) (g : Graph) (r : Result Graphed E)
-    → IsExpandedOf counts.masks m k → IsGraphOf (with_copies counts.copies k) g
-    → IfOk r (λ a. IsSplitBy (with_copies counts.copies k) g (nest_of a.nest.value) a.graph)
+    → IsExpandedOf counts.masks m k → IsGraphOf (with_copies_before counts.copies k) g
+    → IfOk r (λ a. IsSplitBy (with_copies_before counts.copies k) g (nest_of a.nest.value) a.graph)
     → IfOk r (λ a. IsSplitOf counts m (nest_of a.nest.value) a.graph)
 split_of counts m k g (Err e) made graph is = tt
 split_of counts m k g (Ok a) made graph is =
@@ -466,7 +467,7 @@ split_of counts m k g (Ok a) made graph is =
 -- a nest in which a loop has moved
 pub moved_as : (number : ℕ) (k : Nest) (g : Graph) (r : Passed)
     → with_moved_loops k (vectors_of g.edges) ≡ Some (nest_of r.nest.value)
-    → AreTestsOf number (nest_of r.nest.value) r.tests.graph r.tests.holds (map text_of r.tests.lines)
+    → AreTestsOf number (nest_of r.nest.value) r.tests.graph r.tests.holds (map line_text r.tests.lines)
     → IsArrangedAs number k g r
 moved_as number k g r e tests = record {
   is_arranged = arranged_some k (nest_of r.nest.value) (vectors_of g.edges) e;
@@ -477,7 +478,7 @@ moved_as number k g r e tests = record {
 -- one in which none has
 pub stays_as : (number : ℕ) (k : Nest) (g : Graph) (r : Passed)
     → with_moved_loops k (vectors_of g.edges) ≡ None → nest_of r.nest.value ≡ k → r.tests.graph ≡ g
-    → AreTestsOf number (nest_of r.nest.value) r.tests.graph r.tests.holds (map text_of r.tests.lines)
+    → AreTestsOf number (nest_of r.nest.value) r.tests.graph r.tests.holds (map line_text r.tests.lines)
     → IsArrangedAs number k g r
 stays_as number k g r e same kept tests = record {
   is_arranged = same ∙ sym (ap (λ (o : Option Nest). unwrap_or o k) e);
@@ -491,8 +492,8 @@ pub passed_as : (counts : Counts) (n m k : Nest) (g : Graph) (r : Passed) → no
 passed_as counts n m k g r made s few copied h counted =
     let e = s.is_expanded in
     let rest = h.is_arranged ∙ arranged_rest k (vectors_of g.edges) in
-    let same : with_copies counts.copies s.expanded ≡ with_copies counts.copies (expanded e.0)
-    = ap (with_copies counts.copies) e.2 in
+    let same : with_copies_before counts.copies s.expanded ≡ with_copies_before counts.copies (expanded e.0)
+    = ap (with_copies_before counts.copies) e.2 in
     record {
       passed = record {
         normal = m;

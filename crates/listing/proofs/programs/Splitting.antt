@@ -11,7 +11,7 @@ use Rattle.prepared_passes.proofs.SplitNests.Kept.{splits_with_anything_behind}
 use Rattle.prepared_passes.proofs.SplitNests.Places.{last_is}
 use Rattle.prepared_passes.specs.splitting.Splits.{nodes_split}
 use Rattle.tree.specs.Plain.{Block}
-use Rattle.listing.specs.programs.Stages.{IsSplitBy, with_copies}
+use Rattle.listing.specs.programs.Stages.{IsSplitBy, with_copies_before}
 
 -- ---- what splitting makes
 
@@ -34,11 +34,11 @@ module _ (may : Place → Bool) (n : Nest) (after : Block) where
       by None = refl
       by (Some k) = refl
 
-pub counted_beside : (copies : ℕ) (k c m : Nest) → k ≡ record c { after = k.after } → m ≡ with_copies copies k
-    → m ≡ record (with_copies copies c) { after = m.after }
+pub counted_beside : (copies : ℕ) (k c m : Nest) → k ≡ record c { after = k.after } → m ≡ with_copies_before copies k
+    → m ≡ record (with_copies_before copies c) { after = m.after }
 counted_beside copies k c m same e =
-    let is : m ≡ record (with_copies copies c) { after = k.after } = e ∙ ap (with_copies copies) same in
-    subst (λ (z : Nest). z ≡ record (with_copies copies c) { after = z.after }) (sym is) refl
+    let is : m ≡ record (with_copies_before copies c) { after = k.after } = e ∙ ap (with_copies_before copies) same in
+    subst (λ (z : Nest). z ≡ record (with_copies_before copies c) { after = z.after }) (sym is) refl
 
 pub split_beside : (k c m : Nest) (g h : Graph) → k ≡ record c { after = k.after } → (s : IsSplitBy k g m h)
     → m ≡ record (nodes_split s.is.may c) { after = m.after }

@@ -6,7 +6,7 @@ use Rattle.if_convert.specs.Converted.{converted_loop, converted_nest}
 use Rattle.inductions.specs.Nests.{inductions_substituted}
 use Rattle.interchange.specs.Arranged.{arranged, vectors_of}
 use Rattle.nest.specs.Plain.{Choice, Jump, Label, Nest, Part, Run, Turns}
-use Rattle.normal_loops.specs.Listed.{IsListedFrom as HasNormalLoops}
+use Rattle.normal_loops.specs.Listed.{HasNormalLoops}
 use Rattle.normal_loops.specs.Normalised.{normalised}
 use Rattle.pass_laws.proofs.ListedNests.ListedNests.{listed_nest_is_normal, normal_nest_is_listed}
 use Rattle.tree.specs.Plain.{Block}
@@ -14,7 +14,7 @@ use Rattle.listing.specs.declared.programs.counts.Counts.{Counts}
 use Rattle.listing.specs.programs.Counted.{AreCounted}
 use Rattle.listing.specs.programs.Laws.{LoopsAreListed}
 use Rattle.listing.specs.programs.Passed.{IsPassedAs}
-use Rattle.listing.specs.programs.Stages.{AreStagesOf, IsListedFrom, Stages, with_copies}
+use Rattle.listing.specs.programs.Stages.{AreStagesOf, IsListedFrom, Stages, with_copies_before}
 use Rattle.scalar_expand.specs.Expanded.{expanded}
 use Rattle.scalar_rename.specs.Ranges.{HaveFewRanges}
 use Rattle.scalar_rename.specs.Renamed.{renamed}
@@ -121,7 +121,7 @@ pub record IsMadeBy (counts : Counts) (n m : Nest) : Type 0 where
   pub few : HaveFewRanges substituted
   pub may : Place → Bool
   pub vectors : List Dirs
-  pub is_arranged : m ≡ arranged (nodes_split may (with_copies counts.copies (expanded named))) vectors
+  pub is_arranged : m ≡ arranged (nodes_split may (with_copies_before counts.copies (expanded named))) vectors
   pub counted : m.masks < 2 ^ 32
   pub copied : m.copies < 2 ^ 32
   pub numbered : AreCounted m
@@ -143,7 +143,7 @@ made_by counts n m h = record {
   vectors = vectors_of h.graph.edges;
   is_arranged = h.is_arranged
       ∙ ap (λ (z : Nest). arranged z (vectors_of h.graph.edges))
-      (split_so (with_copies counts.copies (expanded h.named)) h.split h.split_graph h.graph h.is_split);
+      (split_so (with_copies_before counts.copies (expanded h.named)) h.split h.split_graph h.graph h.is_split);
   counted = h.counted;
   copied = h.copied;
   numbered = h.numbered;
@@ -182,7 +182,7 @@ passed_is_listed counts n m h = record {
     anew = h.anew;
     substituted = h.substituted;
     named = h.named;
-    expanded = with_copies counts.copies (expanded h.named);
+    expanded = with_copies_before counts.copies (expanded h.named);
     split_graph = h.split_graph;
     split = h.split;
     graph = h.graph;
@@ -235,7 +235,7 @@ stages_beside counts n k h =
     let q = substituted_beside k.anew a k.substituted u h.is_substituted in
     let r = renamed_beside k.substituted i k.named q h.is_named in
     let e = expanded (renamed i) in
-    let c = with_copies counts.copies e in
+    let c = with_copies_before counts.copies e in
     let x = counted_beside counts.copies (expanded k.named) e k.expanded
     (expanded_beside k.named (renamed i) (expanded k.named) r refl) h.is_expanded in
     let s = nodes_split h.is_split.is.may c in
@@ -277,7 +277,7 @@ loops_are_listed counts n m k s f g h made few ranges first split copied counted
     let a = with_symbols_found m k in
     let i = inductions_substituted a in
     let e = expanded (renamed i) in
-    let c = with_copies counts.copies e in
+    let c = with_copies_before counts.copies e in
     record {
       stages = record {
         normal = m;

@@ -7,7 +7,7 @@ use Rattle.subscripts.specs.declared.verdict.Test.{Test}
 use Rattle.dependence_graph.specs.declared.graphs.Dep.{Dep}
 use Rattle.dependence_graph.specs.declared.graphs.Hold.{Hold}
 use Rattle.dependence_graph.specs.declared.graphs.Place.{Place}
-use Rattle.listing.specs.graphs.Words.{kind_word, test_word, hold_word, sign_of}
+use Rattle.listing.specs.graphs.Words.{kind_word, test_word, hold_word, direction_sign}
 use Rattle.nest.specs.Bodies.{statement_number}
 
 -- a dependence of the second reference on the first, in these directions of their common loops
@@ -62,7 +62,7 @@ place_text p = statement_name (statement_number p.stmt) ++ (codes "." ++ decimal
 abbrev pub dependence_text : Dependence → List ℕ
 dependence_text d =
     place_text d.from ++ (blank_then (place_text d.to) ++ (blank_then (kind_word d.kind)
-    ++ (blank_then d.array ++ blank_then (tuple_text sign_of d.directions))))
+    ++ (blank_then d.array ++ blank_then (tuple_text direction_sign d.directions))))
 
 -- a loop independent dependence has no level
 abbrev pub level_text : ℕ → List ℕ

@@ -18,7 +18,7 @@ use Rattle.nest.specs.View.{Branch}
 use Rattle.f90_grammar.specs.PrintedText.{expression_text, guarded_assignment_text}
 use Rattle.listing.specs.graphs.Lines.{Dependence, Meeting, Entry, NestEntry, LoopEntry, StatementEntry, EdgeEntry}
 use Rattle.listing.specs.graphs.Lines.{DropEntry, HoldEntry, CycleEntry, entry_text}
-use Rattle.listing.specs.graphs.Order.{Answered, Found, RuledOut, in_order}
+use Rattle.listing.specs.graphs.Order.{Answered, Found, RuledOut, entries_in_order}
 
 -- ---- loops, each with the one round it
 
@@ -86,7 +86,7 @@ answer_entry ts (Found e) = edge_entry ts e
 answer_entry ts (RuledOut d) = drop_entry d
 
 abbrev pub dependence_entries : List Standing → Graph → List Entry
-dependence_entries ts g = map (answer_entry ts) (in_order g.edges g.dropped)
+dependence_entries ts g = map (answer_entry ts) (entries_in_order g.edges g.dropped)
 
 -- ---- the listing
 
@@ -103,25 +103,26 @@ entries_of n nest g hs cs =
 
 -- ---- lines of a text: each is a comment of Fortran 90; one of more than 120 characters is cut into pieces of 120
 
-abbrev pub piece_length : ℕ
-piece_length = 120
+abbrev pub line_piece_length : ℕ
+line_piece_length = 120
 
-abbrev pub further_pieces : List ℕ → ℕ
-further_pieces t = (length t - 1) / piece_length
+abbrev pub further_line_pieces : List ℕ → ℕ
+further_line_pieces t = (length t - 1) / line_piece_length
 
 -- each piece stands behind what begins its line; those behind the first one begin with a plus sign
-abbrev pub pieces : List ℕ → ℕ → List ℕ → List (List ℕ)
-pieces first zero t = (first ++ t) ∷ []
-pieces first (suc n) t = (first ++ take piece_length t) ∷ pieces (codes "!G + ") n (drop piece_length t)
+abbrev pub line_pieces : List ℕ → ℕ → List ℕ → List (List ℕ)
+line_pieces first zero t = (first ++ t) ∷ []
+line_pieces first (suc n) t =
+    (first ++ take line_piece_length t) ∷ line_pieces (codes "!G + ") n (drop line_piece_length t)
 
 unfoldable pub lines_from : List ℕ → List ℕ → List (List ℕ)
-lines_from first t = pieces first (further_pieces t) t
+lines_from first t = line_pieces first (further_line_pieces t) t
 
-abbrev pub lines_of_text : List ℕ → List (List ℕ)
-lines_of_text t = lines_from (codes "!G ") t
+abbrev pub listing_lines_of : List ℕ → List (List ℕ)
+listing_lines_of t = lines_from (codes "!G ") t
 
 abbrev pub lines_of_entry : Entry → List (List ℕ)
-lines_of_entry e = lines_of_text (entry_text e)
+lines_of_entry e = listing_lines_of (entry_text e)
 
 abbrev pub lines_of_entries : List Entry → List (List ℕ)
 lines_of_entries es = flat_map lines_of_entry es

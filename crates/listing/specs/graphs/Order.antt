@@ -28,19 +28,19 @@ is_less (x ∷ xs) (y ∷ ys) = nat_lt x y || ((x == y) && is_less xs ys)
 abbrev pub key : Place → Place → List Dir → List ℕ
 key p q ds = p.stmt ∷ p.at ∷ q.stmt ∷ q.at ∷ map rank ds
 
-abbrev pub comes_before : Dropped → Edge → Bool
-comes_before d e = is_less (key d.from d.to d.dirs.at) (key e.from e.to e.dirs.at)
+abbrev pub comes_before_edge : Dropped → Edge → Bool
+comes_before_edge d e = is_less (key d.from d.to d.dirs.at) (key e.from e.to e.dirs.at)
 
 -- the drops that come before an edge, and the others
 abbrev pub before : Edge → List Dropped → List Dropped
 before e [] = []
-before e (d ∷ ds) = if comes_before d e then d ∷ before e ds else []
+before e (d ∷ ds) = if comes_before_edge d e then d ∷ before e ds else []
 
 abbrev pub not_before : Edge → List Dropped → List Dropped
 not_before e [] = []
-not_before e (d ∷ ds) = if comes_before d e then not_before e ds else d ∷ ds
+not_before e (d ∷ ds) = if comes_before_edge d e then not_before e ds else d ∷ ds
 
 -- edges and drops, each in order, as one list in order
-abbrev pub in_order : List Edge → List Dropped → List Answered
-in_order [] ds = map RuledOut ds
-in_order (e ∷ es) ds = map RuledOut (before e ds) ++ (Found e ∷ in_order es (not_before e ds))
+abbrev pub entries_in_order : List Edge → List Dropped → List Answered
+entries_in_order [] ds = map RuledOut ds
+entries_in_order (e ∷ es) ds = map RuledOut (before e ds) ++ (Found e ∷ entries_in_order es (not_before e ds))

@@ -34,8 +34,8 @@ hold_word Form = codes "FORM"
 hold_word Triangle = codes "TRIANGLE"
 hold_word Bounds = codes "BOUNDS"
 
-abbrev pub sign_of : Dir → List ℕ
-sign_of Lt = codes "<"
-sign_of Eq = codes "="
-sign_of Gt = codes ">"
-sign_of Any = codes "*"
+abbrev pub direction_sign : Dir → List ℕ
+direction_sign Lt = codes "<"
+direction_sign Eq = codes "="
+direction_sign Gt = codes ">"
+direction_sign Any = codes "*"

@@ -1,6 +1,6 @@
 -- What is listed of a nest or of a kept loop.
 use Rattle.std.specs.Prelude.{◌≡◌, List, map}
-use Rattle.f90_print.specs.Notes.{text_of}
+use Rattle.f90_print.specs.Notes.{line_text}
 use Rattle.find_nests.specs.Found.{Found}
 use Rattle.listing.specs.graphs.Lines.{Entry}
 use Rattle.listing.specs.graphs.Listing.{lines_of_entries}
@@ -12,5 +12,5 @@ use Rattle.listing.specs.programs.Listing.{HasEntries, counts_behind}
 pub record IsListedAs (counts : Counts) (f : Found) (r : Listed) : Type 0 where
   pub entries : List Entry
   pub are : HasEntries counts f entries
-  pub lines : map text_of r.lines ≡ lines_of_entries entries
+  pub lines : map line_text r.lines ≡ lines_of_entries entries
   pub behind : r.counts ≡ counts_behind counts f entries are

@@ -50,14 +50,14 @@ HasNestEntries counts n entries =
     × HasGraphEntries n.number m (IsLastGraph h.stages.split h.stages.graph) entries
 
 -- a kept loop
-abbrev pub kept : ℕ → Reason → List Entry
-kept line r = KeepEntry line (reason_word r) ∷ []
+abbrev pub kept_loop_entry : ℕ → Reason → List Entry
+kept_loop_entry line r = KeepEntry line (reason_word r) ∷ []
 
 -- ---- programs
 
 abbrev pub HasEntries : Counts → Found → List Entry → Type 0
 HasEntries counts (InNest n) entries = HasNestEntries counts n entries
-HasEntries counts (Kept line r) entries = entries ≡ kept line r
+HasEntries counts (Kept line r) entries = entries ≡ kept_loop_entry line r
 
 -- how many masks and copies are made before the first nest of a program
 abbrev pub no_counts : Counts

@@ -2,7 +2,7 @@
 use Rattle.std.specs.Prelude.{◌≡◌, ◌<◌, ◌^◌, ℕ, Some, map}
 use Rattle.dependence_graph.specs.declared.graphs.Graph.{Graph}
 use Rattle.dependence_graph.specs.nest_graph.Graph.{IsGraphOf}
-use Rattle.f90_print.specs.Notes.{text_of}
+use Rattle.f90_print.specs.Notes.{line_text}
 use Rattle.if_convert.specs.Converted.{converted_nest}
 use Rattle.inductions.specs.Nests.{inductions_substituted}
 use Rattle.interchange.specs.Arranged.{arranged, vectors_of}
@@ -16,7 +16,7 @@ use Rattle.symbols_anew.specs.Nests.{with_symbols_found}
 use Rattle.listing.specs.declared.programs.counts.Counts.{Counts}
 use Rattle.listing.specs.declared.programs.nests.Passed.{Passed}
 use Rattle.listing.specs.programs.Counted.{AreCounted}
-use Rattle.listing.specs.programs.Stages.{IsLastGraph, IsSplitBy, with_copies}
+use Rattle.listing.specs.programs.Stages.{IsLastGraph, IsSplitBy, with_copies_before}
 use Rattle.listing.specs.programs.Testable.{AreTestsOf}
 
 -- The nest k is made of one with loops from 1 by 1, where so many masks were made before in the program: its IFs,
@@ -44,14 +44,14 @@ pub record IsSplitOf (counts : Counts) (normal m : Nest) (h : Graph) : Type 0 wh
   pub expanded : Nest
   pub is_expanded : IsExpandedOf counts.masks normal expanded
   pub split_graph : Graph
-  pub is_split_graph : IsGraphOf (with_copies counts.copies expanded) split_graph
-  pub is_split : IsSplitBy (with_copies counts.copies expanded) split_graph m h
+  pub is_split_graph : IsGraphOf (with_copies_before counts.copies expanded) split_graph
+  pub is_split : IsSplitBy (with_copies_before counts.copies expanded) split_graph m h
 
 -- Of the nest k loops are moved by this graph of it. What is made is in r, with its tests under this number
 pub record IsArrangedAs (number : ℕ) (k : Nest) (g : Graph) (r : Passed) : Type 0 where
   pub is_arranged : nest_of r.nest.value ≡ arranged k (vectors_of g.edges)
   pub kept : IsLastGraph k g r.tests.graph
-  pub tests : AreTestsOf number (nest_of r.nest.value) r.tests.graph r.tests.holds (map text_of r.tests.lines)
+  pub tests : AreTestsOf number (nest_of r.nest.value) r.tests.graph r.tests.holds (map line_text r.tests.lines)
 
 -- So is m made of n, whose loops go from 1 by 1 first: a nest for each pass, and the link to the nest before; last
 -- reads are copied by a graph, and loops are moved by one. Its statements and references are counted, and so are all
@@ -69,10 +69,10 @@ pub record IsPassedAs (counts : Counts) (n m : Nest) : Type 0 where
   pub is_named : named ≡ renamed substituted
   pub few : HaveFewRanges substituted
   pub split_graph : Graph
-  pub is_split_graph : IsGraphOf (with_copies counts.copies (expanded named)) split_graph
+  pub is_split_graph : IsGraphOf (with_copies_before counts.copies (expanded named)) split_graph
   pub split : Nest
   pub graph : Graph
-  pub is_split : IsSplitBy (with_copies counts.copies (expanded named)) split_graph split graph
+  pub is_split : IsSplitBy (with_copies_before counts.copies (expanded named)) split_graph split graph
   pub is_arranged : m ≡ arranged split (vectors_of graph.edges)
   pub counted : m.masks < 2 ^ 32
   pub copied : m.copies < 2 ^ 32
@@ -82,4 +82,4 @@ pub record IsPassedAs (counts : Counts) (n m : Nest) : Type 0 where
 pub record IsPassed (counts : Counts) (n : Nest) (r : Passed) : Type 0 where
   pub passed : IsPassedAs counts n (nest_of r.nest.value)
   pub kept : IsLastGraph passed.split passed.graph r.tests.graph
-  pub tests : AreTestsOf n.number (nest_of r.nest.value) r.tests.graph r.tests.holds (map text_of r.tests.lines)
+  pub tests : AreTestsOf n.number (nest_of r.nest.value) r.tests.graph r.tests.holds (map line_text r.tests.lines)

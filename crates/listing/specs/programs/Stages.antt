@@ -7,24 +7,24 @@ use Rattle.if_convert.specs.Converted.{converted_nest}
 use Rattle.inductions.specs.Nests.{inductions_substituted}
 use Rattle.interchange.specs.Arranged.{arranged, vectors_of, with_moved_loops}
 use Rattle.nest.specs.Plain.{Nest}
-use Rattle.node_splitting.specs.Split.{IsSplit}
+use Rattle.node_splitting.specs.Split.{IsSplitNest}
 use Rattle.listing.specs.declared.programs.counts.Counts.{Counts}
 use Rattle.listing.specs.programs.Counted.{AreCounted}
-use Rattle.normal_loops.specs.Listed.{IsListedFrom as HasNormalLoops}
+use Rattle.normal_loops.specs.Listed.{HasNormalLoops}
 use Rattle.scalar_expand.specs.Expanded.{expanded}
 use Rattle.scalar_rename.specs.Ranges.{HaveFewRanges}
 use Rattle.scalar_rename.specs.Renamed.{renamed}
 use Rattle.symbols_anew.specs.Nests.{with_symbols_found}
 
 -- so many copies were made before the nest
-abbrev pub with_copies : ℕ → Nest → Nest
-with_copies copies n = record n { copies = copies }
+abbrev pub with_copies_before : ℕ → Nest → Nest
+with_copies_before copies n = record n { copies = copies }
 
 -- By the graph g of the nest n reads of what is overwritten are copied: m is what it becomes, and h a graph of that.
 -- Where nothing is copied, both stay
 pub record IsSplitBy (n : Nest) (g : Graph) (m : Nest) (h : Graph) : Type 0 where
   pub new : Option Nest
-  pub is : IsSplit n g new
+  pub is : IsSplitNest n g new
   pub nest : m ≡ unwrap_or new n
   pub graph : IsGraphOf m h
   pub kept : new ≡ None → h ≡ g
@@ -61,7 +61,7 @@ pub record AreStagesOf (counts : Counts) (n : Nest) (k : Stages) : Type 0 where
   pub is_substituted : k.substituted ≡ inductions_substituted k.anew
   pub is_named : k.named ≡ renamed k.substituted
   pub few : HaveFewRanges k.substituted
-  pub is_expanded : k.expanded ≡ with_copies counts.copies (expanded k.named)
+  pub is_expanded : k.expanded ≡ with_copies_before counts.copies (expanded k.named)
   pub is_split_graph : IsGraphOf k.expanded k.split_graph
   pub is_split : IsSplitBy k.expanded k.split_graph k.split k.graph
   pub is_arranged : k.arranged ≡ arranged k.split (vectors_of k.graph.edges)

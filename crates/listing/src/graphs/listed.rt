@@ -1,6 +1,6 @@
 //! The lines of a nest, and of a loop that is kept.
 ghost use Rattle.std.specs.Prelude.{◌≡◌, ◌++◌, ◌≤◌, IfOk, OnOk, drop, length, map, take};
-ghost use Rattle.f90_print.specs.Notes.{text_of};
+ghost use Rattle.f90_print.specs.Notes.{line_text};
 ghost use Rattle.nest.specs.View.{nest_of};
 ghost use Rattle.nest.specs.statement_loops.Standings.{standing_of};
 ghost use Rattle.listing.specs.graphs.Lines.{KeepEntry, NestEntry, entry_text};
@@ -10,7 +10,7 @@ ghost use Rattle.listing.specs.graphs.Order.{before, not_before};
 
 use crate::graphs::dependences::{cycle_text, drop_text, edge_text, hold_text};
 use crate::graphs::order::comes_before;
-use crate::graphs::pieces::Lines;
+use crate::graphs::pieces::ListingLines;
 use crate::graphs::texts::{push, push_count};
 use dependence_graph::graphs::{Cycle, Dropped, Edge, Graph, Hold};
 use nest::Nest;
@@ -42,9 +42,9 @@ fn count_before(drops: &[Dropped], edge: &Edge) -> usize
     count
 }
 
-impl Lines {
+impl ListingLines {
     fn add_drops(&mut self, alloc: Global, drops: &[Dropped]) -> Result<(), Memory>
-        ensures { OnOk result (map text_of self.new.list ≡ map text_of self.old.list
+        ensures { OnOk result (map line_text self.new.list ≡ map line_text self.old.list
             ++ lines_of_entries (map drop_entry drops.now)) }
     {
         for drop in drops {
@@ -60,7 +60,7 @@ impl Lines {
         standings: &Seq<Standing>,
         graph: &Graph,
     ) -> Result<(), Memory>
-        ensures { OnOk result (map text_of self.new.list ≡ map text_of self.old.list
+        ensures { OnOk result (map line_text self.new.list ≡ map line_text self.old.list
             ++ lines_of_entries (dependence_entries (map standing_of standings.now) graph.now)) }
     {
         let mut drops = graph.dropped.as_slice();
@@ -75,7 +75,7 @@ impl Lines {
     }
 
     fn add_holds(&mut self, alloc: Global, holds: &Seq<Hold>) -> Result<(), Memory>
-        ensures { OnOk result (map text_of self.new.list ≡ map text_of self.old.list
+        ensures { OnOk result (map line_text self.new.list ≡ map line_text self.old.list
             ++ lines_of_entries (hold_entries holds.now)) }
     {
         for hold in holds.as_slice() {
@@ -85,7 +85,7 @@ impl Lines {
     }
 
     fn add_cycles(&mut self, alloc: Global, cycles: &Seq<Cycle>) -> Result<(), Memory>
-        ensures { OnOk result (map text_of self.new.list ≡ map text_of self.old.list
+        ensures { OnOk result (map line_text self.new.list ≡ map line_text self.old.list
             ++ lines_of_entries (map cycle_entry cycles.now)) }
     {
         for cycle in cycles.as_slice() {
@@ -106,11 +106,11 @@ pub fn lines(
     holds: &Seq<Hold>,
     cycles: &Seq<Cycle>,
 ) -> Result<Seq<Line>, Memory>
-    ensures { IfOk result (λ all. map text_of all
+    ensures { IfOk result (λ all. map line_text all
         ≡ listing_of (nest_of nest.now) number graph.now holds.now cycles.now) }
 {
     let standings = statements_of(alloc, nest)?;
-    let mut all = Lines {
+    let mut all = ListingLines {
         list: Seq::new(alloc),
     };
     all.add(alloc, nest_text(alloc, number, nest.line)?.as_slice())?;
@@ -125,13 +125,13 @@ pub fn lines(
 /// The line of a loop that is kept as it is, with its line in the source and the word of the reason.
 #[tactic(auto, unfolding(crate::specs::graphs::Lines::entry_text))]
 pub fn kept_lines(alloc: Global, line: u32, reason: &[u8]) -> Result<Seq<Line>, Memory>
-    ensures { IfOk result (λ all. map text_of all ≡ lines_of_entry (KeepEntry line reason.now)) }
+    ensures { IfOk result (λ all. map line_text all ≡ lines_of_entry (KeepEntry line reason.now)) }
 {
     let mut text = Vec::from_slice(alloc, b"KEEP ")?;
     push_count(&mut text, line as usize)?;
     push(&mut text, b" ")?;
     push(&mut text, reason)?;
-    let mut all = Lines {
+    let mut all = ListingLines {
         list: Seq::new(alloc),
     };
     all.add(alloc, text.as_slice())?;

@@ -1,13 +1,13 @@
 //! The lines of loops.
 ghost use Rattle.std.specs.Prelude.{◌≡◌, ◌++◌, IfOk, OnOk, map};
 ghost use Rattle.std.specs.List.{flat_map};
-ghost use Rattle.f90_print.specs.Notes.{text_of};
+ghost use Rattle.f90_print.specs.Notes.{line_text};
 ghost use Rattle.nest.specs.View.{branch_of, loop_of, part_of};
 ghost use Rattle.listing.specs.graphs.Lines.{entry_text};
 ghost use Rattle.listing.specs.graphs.Listing.{lines_of_entries, lines_of_entry};
 ghost use Rattle.listing.specs.graphs.Listing.{loop_entries, loop_entries_of, loop_entry};
 
-use crate::graphs::pieces::Lines;
+use crate::graphs::pieces::ListingLines;
 use crate::graphs::texts::{push, push_count};
 use f90_print::print_expr;
 use nest::{Loop, NestArm, Part};
@@ -29,9 +29,9 @@ fn loop_text(alloc: Global, outer: u32, turns: &Loop) -> Result<Vec<u8>, Memory>
     Ok(text)
 }
 
-impl Lines {
+impl ListingLines {
     fn add_loop(&mut self, alloc: Global, outer: u32, turns: &Loop) -> Result<(), Memory>
-        ensures { OnOk result (map text_of self.new.list ≡ map text_of self.old.list
+        ensures { OnOk result (map line_text self.new.list ≡ map line_text self.old.list
             ++ lines_of_entry (loop_entry outer (loop_of turns.now))) }
     {
         self.add(alloc, loop_text(alloc, outer, turns)?.as_slice())
@@ -41,7 +41,7 @@ impl Lines {
     #[cycle(loops)]
     #[tactic(auto, using(crate::proofs::graphs::LoopLines::loop_laws))]
     pub(crate) fn add_loops(&mut self, alloc: Global, outer: u32, part: &Part) -> Result<(), Memory>
-        ensures { OnOk result (map text_of self.new.list ≡ map text_of self.old.list
+        ensures { OnOk result (map line_text self.new.list ≡ map line_text self.old.list
             ++ lines_of_entries (loop_entries outer (part_of part.now))) }
     {
         match part {
@@ -61,7 +61,7 @@ impl Lines {
 
     #[cycle(loops)]
     fn add_loops_in(&mut self, alloc: Global, outer: u32, parts: &Seq<Part>) -> Result<(), Memory>
-        ensures { OnOk result (map text_of self.new.list ≡ map text_of self.old.list
+        ensures { OnOk result (map line_text self.new.list ≡ map line_text self.old.list
             ++ flat_map (λ p. lines_of_entries (loop_entries outer p)) (map part_of parts.now)) }
     {
         for part in parts.as_slice() {
@@ -73,7 +73,7 @@ impl Lines {
     #[cycle(loops)]
     #[tactic(auto, using(crate::proofs::graphs::LoopLines::loop_laws))]
     fn add_loops_of(&mut self, alloc: Global, outer: u32, arm: &NestArm) -> Result<(), Memory>
-        ensures { OnOk result (map text_of self.new.list ≡ map text_of self.old.list
+        ensures { OnOk result (map line_text self.new.list ≡ map line_text self.old.list
             ++ lines_of_entries (loop_entries_of outer (branch_of arm.now))) }
     {
         self.add_loops_in(alloc, outer, &arm.body)
@@ -86,7 +86,7 @@ impl Lines {
         outer: u32,
         arms: &Seq<NestArm>,
     ) -> Result<(), Memory>
-        ensures { OnOk result (map text_of self.new.list ≡ map text_of self.old.list
+        ensures { OnOk result (map line_text self.new.list ≡ map line_text self.old.list
             ++ flat_map (λ b. lines_of_entries (loop_entries_of outer b)) (map branch_of arms.now)) }
     {
         for arm in arms.as_slice() {

@@ -1,6 +1,6 @@
 //! The order of edges and drops.
 ghost use Rattle.std.specs.Prelude.{◌≡◌, ◌==◌, ◌&&◌, ◌||◌, map, nat_lt};
-ghost use Rattle.listing.specs.graphs.Order.{comes_before, is_less, rank};
+ghost use Rattle.listing.specs.graphs.Order.{comes_before_edge, is_less, rank};
 
 use dependence_graph::graphs::{Dropped, Edge};
 use subscripts::Dir;
@@ -37,7 +37,7 @@ fn stands_before(x: u32, y: u32, behind: bool) -> bool
 
 // Whether the drop stands before the edge.
 pub(crate) fn comes_before(drop: &Dropped, edge: &Edge) -> bool
-    ensures { result ≡ comes_before drop.now edge.now }
+    ensures { result ≡ comes_before_edge drop.now edge.now }
 {
     let dirs = are_less(&drop.dirs.at, &edge.dirs.at);
     let to = stands_before(drop.to.at, edge.to.at, dirs);

@@ -1,7 +1,7 @@
 //! The lines of a text: comments of Fortran 90 (ISO/IEC 1539:1991, section 3.3.1.1), none longer than a line may be.
 ghost use Rattle.std.specs.Prelude.{◌≡◌, ◌++◌, IfOk, OnOk, map};
-ghost use Rattle.f90_print.specs.Notes.{text_of};
-ghost use Rattle.listing.specs.graphs.Listing.{lines_of_text};
+ghost use Rattle.f90_print.specs.Notes.{line_text};
+ghost use Rattle.listing.specs.graphs.Listing.{listing_lines_of};
 
 use crate::graphs::texts::push;
 use std::alloc::Global;
@@ -11,13 +11,13 @@ use tree::{Line, Memory, Seq};
 const PIECE_LENGTH: usize = 120;
 
 #[derive(Drop)]
-pub(crate) struct Lines {
+pub(crate) struct ListingLines {
     pub(crate) list: Seq<Line>,
 }
 
 // One line: what begins it, and a piece of a text.
 fn line_of(alloc: Global, first: &[u8], piece: &[u8]) -> Result<Line, Memory>
-    ensures { IfOk result (λ line. text_of line ≡ first.now ++ piece.now) }
+    ensures { IfOk result (λ line. line_text line ≡ first.now ++ piece.now) }
 {
     let mut text = Vec::from_slice(alloc, first)?;
     push(&mut text, piece)?;
@@ -26,10 +26,10 @@ fn line_of(alloc: Global, first: &[u8], piece: &[u8]) -> Result<Line, Memory>
     })
 }
 
-impl Lines {
+impl ListingLines {
     // A text is added in one line, or in pieces.
     pub(crate) fn add(&mut self, alloc: Global, text: &[u8]) -> Result<(), Memory>
-        ensures { OnOk result (map text_of self.new.list ≡ map text_of self.old.list ++ lines_of_text text.now) }
+        ensures { OnOk result (map line_text self.new.list ≡ map line_text self.old.list ++ listing_lines_of text.now) }
     {
         let mut first = b"!G ".as_slice();
         let mut rest = text;

@@ -1,12 +1,12 @@
 //! The lines of statements.
 ghost use Rattle.std.specs.Prelude.{◌≡◌, ◌++◌, IfOk, OnOk, map};
-ghost use Rattle.f90_print.specs.Notes.{text_of};
+ghost use Rattle.f90_print.specs.Notes.{line_text};
 ghost use Rattle.nest.specs.View.{loop_of};
 ghost use Rattle.nest.specs.statement_loops.Standings.{standing_of};
 ghost use Rattle.listing.specs.graphs.Lines.{entry_text};
 ghost use Rattle.listing.specs.graphs.Listing.{lines_of_entries, loop_numbers, statement_entries, statement_entry};
 
-use crate::graphs::pieces::Lines;
+use crate::graphs::pieces::ListingLines;
 use crate::graphs::texts::{push, push_statement, push_tuple};
 use f90_print::print_assign;
 use nest::Loop;
@@ -40,14 +40,14 @@ fn statement_text(alloc: Global, s: usize, standing: &Standing) -> Result<Vec<u8
     Ok(text)
 }
 
-impl Lines {
+impl ListingLines {
     // The statements, by their numbers from 1.
     pub(crate) fn add_statements(
         &mut self,
         alloc: Global,
         standings: &Seq<Standing>,
     ) -> Result<(), Memory>
-        ensures { OnOk result (map text_of self.new.list ≡ map text_of self.old.list
+        ensures { OnOk result (map line_text self.new.list ≡ map line_text self.old.list
             ++ lines_of_entries (statement_entries 1 (map standing_of standings.now))) }
     {
         for (i, standing) in standings.as_slice().iter().enumerate() {

@@ -3,7 +3,7 @@ ghost use Rattle.std.specs.Prelude.{◌≡◌, ◌++◌, ℕ, List, OnOk, codes}
 ghost use Rattle.std.specs.Fmt.{decimal, signed_decimal};
 ghost use Rattle.std.specs.List.{flat_map};
 ghost use Rattle.listing.specs.graphs.Lines.{statement_name, tuple_text};
-ghost use Rattle.listing.specs.graphs.Words.{sign_of};
+ghost use Rattle.listing.specs.graphs.Words.{direction_sign};
 
 use crate::graphs::words::sign;
 use itoa::Buffer;
@@ -56,7 +56,7 @@ impl Shown for i64 {
 }
 
 impl Shown for Dir {
-    ghost text = { sign_of };
+    ghost text = { direction_sign };
 
     fn push_to(self, out: &mut Vec<u8>) -> Result<(), Memory> {
         push(out, sign(self))

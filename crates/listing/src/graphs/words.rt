@@ -1,6 +1,6 @@
 //! The words of a listing.
 ghost use Rattle.std.specs.Prelude.{◌≡◌};
-ghost use Rattle.listing.specs.graphs.Words.{hold_word, kind_word, sign_of, test_word};
+ghost use Rattle.listing.specs.graphs.Words.{hold_word, kind_word, direction_sign, test_word};
 
 use dependence_graph::graphs::{Dep, HoldReason};
 use subscripts::{Dir, Test};
@@ -45,7 +45,7 @@ pub(crate) fn hold_word(reason: HoldReason) -> &'static [u8]
 }
 
 pub(crate) fn sign(dir: Dir) -> &'static [u8]
-    ensures { result.now ≡ sign_of dir }
+    ensures { result.now ≡ direction_sign dir }
 {
     match dir {
         Dir::Lt => b"<",

@@ -1,14 +1,15 @@
 //! The lines of a program.
 ghost use Rattle.std.specs.Prelude.{◌≡◌, IfOk, map};
-ghost use Rattle.f90_print.specs.Notes.{text_of};
+ghost use Rattle.f90_print.specs.Notes.{line_text};
 ghost use Rattle.find_nests.specs.View.{found_of};
 ghost use Rattle.meaning.specs.Dialect.{fortran77};
 ghost use Rattle.meaning.specs.Profile77.{IsProgram77};
 ghost use Rattle.tree.specs.View.{program_of};
 ghost use Rattle.listing.specs.graphs.Listing.{lines_of_entries};
-ghost use Rattle.listing.specs.programs.Listing.{IsListing, kept};
+ghost use Rattle.listing.specs.programs.Listing.{IsListing, kept_loop_entry};
 ghost use Rattle.listing.specs.programs.Listed.{IsListedAs};
 ghost use Rattle.listing.specs.programs.Sources.{IsFoundInSource};
+ghost use Rattle.tree.specs.declared.width.Width.TheVariants.{Wide};
 
 use crate::graphs::kept_lines;
 use crate::programs::counts::Counts;
@@ -21,13 +22,13 @@ use tree::{Line, Memory, Program77, Seq};
 
 /// The line of a kept loop.
 pub fn kept_loop(alloc: Global, line: u32, reason: Reason) -> Result<Seq<Line>, Memory>
-    ensures { IfOk result (λ all. map text_of all ≡ lines_of_entries (kept line reason)) }
+    ensures { IfOk result (λ all. map line_text all ≡ lines_of_entries (kept_loop_entry line reason)) }
 {
     kept_lines(alloc, line, reason_word(reason))
 }
 
 fn lines_of(alloc: Global, found: &Found, counts: Counts) -> Result<Listed, Memory>
-    requires { IsFoundInSource (found_of found.now) }
+    requires { IsFoundInSource Wide (found_of found.now) }
     ensures { IfOk result (IsListedAs counts (found_of found.now)) }
 {
     match found {
@@ -44,8 +45,8 @@ fn lines_of(alloc: Global, found: &Found, counts: Counts) -> Result<Listed, Memo
 /// Of a nest its IFs, labels and jumps are listed as masks, and reads of what is overwritten as copies, both numbered
 /// through the program.
 pub fn list(alloc: Global, program: &Program77) -> Result<Seq<Line>, Memory>
-    requires { IsProgram77 fortran77 (program_of program.now) }
-    ensures { IfOk result (λ all. IsListing (program_of program.now) (map text_of all)) }
+    requires { IsProgram77 (fortran77 Wide) (program_of program.now) }
+    ensures { IfOk result (λ all. IsListing (program_of program.now) (map line_text all)) }
 {
     let mut all = Vec::new(alloc);
     let mut counts = Counts {

@@ -4,7 +4,7 @@ ghost use Rattle.std.specs.Option.{option_map};
 ghost use Rattle.dependence_graph.specs.nest_graph.Graph.{IsGraphOf};
 ghost use Rattle.dependence_graph.specs.nest_graph.Ready.{IsReady};
 ghost use Rattle.emission.specs.nest_emission.Given.{MayBeEmitted};
-ghost use Rattle.f90_print.specs.Notes.{text_of};
+ghost use Rattle.f90_print.specs.Notes.{line_text};
 ghost use Rattle.find_nests.specs.Found.{InNest};
 ghost use Rattle.if_convert.specs.Converted.{converted_nest};
 ghost use Rattle.interchange.specs.Arranged.{arranged, vectors_of, with_moved_loops};
@@ -15,8 +15,9 @@ ghost use Rattle.listing.specs.programs.Listed.{IsListedAs};
 ghost use Rattle.listing.specs.programs.Passed.{IsAnewOf, IsArrangedAs, IsExpandedOf, IsPassed, IsSubstitutedOf};
 ghost use Rattle.listing.specs.programs.Passed.{IsSplitOf, IsUnexpanded};
 ghost use Rattle.listing.specs.programs.Sources.{IsNestOfSource, IsNormalOfSource};
-ghost use Rattle.listing.specs.programs.Stages.{IsSplitBy, with_copies};
+ghost use Rattle.listing.specs.programs.Stages.{IsSplitBy, with_copies_before};
 ghost use Rattle.listing.specs.programs.Testable.{AreTestsOf, MayBeListed, MayBeSplitReady};
+ghost use Rattle.tree.specs.declared.width.Width.TheVariants.{Wide};
 
 use crate::graphs::lines;
 use crate::programs::counts::{Counts, check_counts};
@@ -50,7 +51,7 @@ fn tests_with(alloc: Global, number: u32, nest: &Nest, graph: Graph) -> Result<T
     requires graph { IsGraphOf (nest_of nest.now) graph }
     requires emitted { MayBeEmitted (nest_of nest.now) graph }
     ensures graph { IfOk result (λ t. t.graph ≡ graph) }
-    ensures tests { IfOk result (λ t. AreTestsOf number (nest_of nest.now) t.graph t.holds (map text_of t.lines)) }
+    ensures tests { IfOk result (λ t. AreTestsOf number (nest_of nest.now) t.graph t.holds (map line_text t.lines)) }
 {
     let holds = all_holds(alloc, nest)?;
     let cycles = cycles(alloc, nest, &graph, &holds)?;
@@ -65,7 +66,7 @@ fn tests_with(alloc: Global, number: u32, nest: &Nest, graph: Graph) -> Result<T
 // Tests a nest that bears this number in the listing.
 fn test(alloc: Global, number: u32, nest: &Nest) -> Result<Tests, Memory>
     requires { MayBeListed (nest_of nest.now) }
-    ensures { IfOk result (λ t. AreTestsOf number (nest_of nest.now) t.graph t.holds (map text_of t.lines)) }
+    ensures { IfOk result (λ t. AreTestsOf number (nest_of nest.now) t.graph t.holds (map line_text t.lines)) }
 {
     let graph = graph(alloc, nest)?;
     tests_with(alloc, number, nest, graph)
@@ -81,7 +82,7 @@ pub struct Passed {
 
 // With masks in place of IFs, labels and jumps.
 fn converted(alloc: Global, normal: &Nest, masks: u32) -> Result<Box<Nest>, Memory>
-    requires { IsNormalOfSource (nest_of normal.now) }
+    requires { IsNormalOfSource Wide (nest_of normal.now) }
     ensures { IfOk result (λ new. converted_nest masks (nest_of normal.now) ≡ Some (nest_of new.value)) }
 {
     match convert(alloc, normal, masks)? {
@@ -92,7 +93,7 @@ fn converted(alloc: Global, normal: &Nest, masks: u32) -> Result<Box<Nest>, Memo
 
 // Conversion leaves statements out, so symbols are found anew behind it.
 fn anew(alloc: Global, normal: &Nest, masks: u32) -> Result<Box<Nest>, Memory>
-    requires { IsNormalOfSource (nest_of normal.now) }
+    requires { IsNormalOfSource Wide (nest_of normal.now) }
     ensures { IfOk result (λ new. IsAnewOf masks (nest_of normal.now) (nest_of new.value)) }
 {
     let converted = converted(alloc, normal, masks)?;
@@ -101,7 +102,7 @@ fn anew(alloc: Global, normal: &Nest, masks: u32) -> Result<Box<Nest>, Memory>
 
 // With forms of the counter in place of inductions. The nest before is dropped here.
 fn substituted(alloc: Global, normal: &Nest, masks: u32) -> Result<Nest, Memory>
-    requires { IsNormalOfSource (nest_of normal.now) }
+    requires { IsNormalOfSource Wide (nest_of normal.now) }
     ensures { IfOk result (λ made. IsSubstitutedOf masks (nest_of normal.now) (nest_of made)) }
 {
     let before = anew(alloc, normal, masks)?;
@@ -113,7 +114,7 @@ fn substituted(alloc: Global, normal: &Nest, masks: u32) -> Result<Nest, Memory>
 
 // What passes make before private scalars become arrays: each range of a scalar's values has a name of its own.
 fn unexpanded(alloc: Global, normal: &Nest, masks: u32) -> Result<Box<Nest>, Memory>
-    requires { IsNormalOfSource (nest_of normal.now) }
+    requires { IsNormalOfSource Wide (nest_of normal.now) }
     ensures { IfOk result (λ new. IsUnexpanded masks (nest_of normal.now) (nest_of new.value)) }
 {
     let made = substituted(alloc, normal, masks)?;
@@ -124,7 +125,7 @@ fn unexpanded(alloc: Global, normal: &Nest, masks: u32) -> Result<Box<Nest>, Mem
 // The nest that passes make of one whose loops go from 1 by 1, up to arrays for its private scalars. Those between are
 // dropped here.
 fn expanded_nest(alloc: Global, normal: &Nest, masks: u32) -> Result<Nest, Memory>
-    requires { IsNormalOfSource (nest_of normal.now) }
+    requires { IsNormalOfSource Wide (nest_of normal.now) }
     ensures { IfOk result (λ made. IsExpandedOf masks (nest_of normal.now) (nest_of made)) }
 {
     let before = unexpanded(alloc, normal, masks)?;
@@ -155,7 +156,7 @@ fn with_graph(alloc: Global, nest: Box<Nest>) -> Result<Graphed, Memory>
 
 // So many copies were made before the nest.
 fn counted_from(nest: Nest, copies: u32) -> Nest
-    ensures { nest_of result ≡ with_copies copies (nest_of nest) }
+    ensures { nest_of result ≡ with_copies_before copies (nest_of nest) }
 {
     let mut nest = nest;
     nest.copies = copies;
@@ -183,7 +184,7 @@ fn split(alloc: Global, whole: Graphed) -> Result<Graphed, Memory>
 
 // The nest that passes make of one whose loops go from 1 by 1, up to copies of what is overwritten.
 fn split_nest(alloc: Global, normal: &Nest, counts: Counts) -> Result<Graphed, Memory>
-    requires { IsNormalOfSource (nest_of normal.now) }
+    requires { IsNormalOfSource Wide (nest_of normal.now) }
     ensures { IfOk result (λ r. IsSplitOf counts (nest_of normal.now) (nest_of r.nest.value) r.graph) }
 {
     let made = expanded_nest(alloc, normal, counts.masks)?;
@@ -234,7 +235,7 @@ fn arranged(alloc: Global, number: u32, nest: Box<Nest>, graph: Graph) -> Result
 
 // By the nest whose loops go from 1 by 1.
 fn from_normal(alloc: Global, found: &Nest, normal: &Nest, counts: Counts) -> Result<Passed, Memory>
-    requires source { IsNestOfSource (nest_of found.now) }
+    requires source { IsNestOfSource Wide (nest_of found.now) }
     requires made { normalised (nest_of found.now) ≡ Some (nest_of normal.now) }
     ensures { IfOk result (IsPassed counts (nest_of found.now)) }
 {
@@ -252,7 +253,7 @@ fn from_normal(alloc: Global, found: &Nest, normal: &Nest, counts: Counts) -> Re
 /// What the passes make of a nest that was found, where so many masks and copies were made before in the program. The
 /// only caller of passes, so that what is listed is what is translated.
 pub fn passes(alloc: Global, found: &Nest, counts: Counts) -> Result<Passed, Memory>
-    requires { IsNestOfSource (nest_of found.now) }
+    requires { IsNestOfSource Wide (nest_of found.now) }
     ensures { IfOk result (IsPassed counts (nest_of found.now)) }
 {
     match normalise(alloc, found)? {
@@ -270,7 +271,7 @@ pub(crate) struct Listed {
 
 /// The lines of a nest that was found.
 pub(crate) fn nest_lines(alloc: Global, found: &Nest, counts: Counts) -> Result<Listed, Memory>
-    requires { IsNestOfSource (nest_of found.now) }
+    requires { IsNestOfSource Wide (nest_of found.now) }
     ensures { IfOk result (IsListedAs counts (InNest (nest_of found.now))) }
 {
     let passed = passes(alloc, found, counts)?;

@@ -10,10 +10,10 @@ use Rattle.dependence_graph.specs.declared.graphs.Graph.{Graph}
 use Rattle.tree.specs.Plain.{Expression, Number, Logic, Named, Unary, Binary, Apply, Constructor, Spread, Transpose}
 use Rattle.tree.specs.Plain.{Reshape, Reduce, Expressions, no_expressions, expression, Subscript, Only, Section}
 use Rattle.tree.specs.Plain.{Subscripts, no_subscripts, subscript, Reference}
-use Rattle.dependence_graph.specs.nest_graph.Arcs.{Answer, Assumed, Couple, Met, Never, Verdict, edge_of, drop_of}
+use Rattle.dependence_graph.specs.nest_graph.Arcs.{VectorVerdict, Assumed, Couple, Met, Never, Verdict, edge_of, drop_of}
 use Rattle.dependence_graph.specs.nest_graph.Arcs.{with_some, edges_of, drops_of}
 use Rattle.dependence_graph.specs.nest_graph.Graph.{IsCouple, IsGraphOf, all_edges, all_drops}
-use Rattle.dependence_graph.specs.nest_graph.References.{is_among, has_none, own_reference, variables_round, references_in}
+use Rattle.dependence_graph.specs.nest_graph.References.{is_among, has_no_subscript, own_reference, variables_round, references_in}
 use Rattle.dependence_graph.specs.nest_graph.References.{references_in_all}
 use Rattle.dependence_graph.specs.nest_graph.References.{references_in_subscript, references_in_subscripts, references_in_guard}
 use Rattle.dependence_graph.specs.nest_graph.References.{references_of}
@@ -37,7 +37,7 @@ several = joined IsPrintableName
 
 module _ (loops : List (List ℕ)) where
   own : (x : List ℕ) (ss : Subscripts) → ArePrintable x → AreNamed (own_reference loops x ss)
-  own x ss h = by (has_none ss) (is_among loops x)
+  own x ss h = by (has_no_subscript ss) (is_among loops x)
     where
       one : List Reference
       one = record { name = x; subscripts = ss } ∷ []
@@ -130,12 +130,12 @@ drop_named c d (Never w) e h k = let same : c.array ≡ e.array = cc in subst Ar
 drop_named c d (Met x y w) e h k = let no : ⊥ = cc in absurd no
 drop_named c d (Assumed w) e h k = let no : ⊥ = cc in absurd no
 
-edges_named : (c : Couple) (answers : List Answer) → HasPrintableArray c → AllByRecursion IsNamedEdge (edges_of c answers)
+edges_named : (c : Couple) (answers : List VectorVerdict) → HasPrintableArray c → AllByRecursion IsNamedEdge (edges_of c answers)
 edges_named c [] h = tt
 edges_named c (a ∷ more) h =
     with_one IsNamedEdge (edge_of c a.0 a.1) (edges_of c more) (λ e k. edge_named c a.0 a.1 e h k) (edges_named c more h)
 
-drops_named : (c : Couple) (answers : List Answer) → HasPrintableArray c → AllByRecursion IsNamedDrop (drops_of c answers)
+drops_named : (c : Couple) (answers : List VectorVerdict) → HasPrintableArray c → AllByRecursion IsNamedDrop (drops_of c answers)
 drops_named c [] h = tt
 drops_named c (a ∷ more) h =
     with_one IsNamedDrop (drop_of c a.0 a.1) (drops_of c more) (λ e k. drop_named c a.0 a.1 e h k) (drops_named c more h)

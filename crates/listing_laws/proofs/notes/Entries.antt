@@ -22,8 +22,8 @@ use Rattle.listing.specs.graphs.Lines.{level_text, meeting_text, entry_text}
 use Rattle.listing.specs.graphs.Listing.{loop_entries, loop_entries_in, loop_entries_under, loop_numbers}
 use Rattle.listing.specs.graphs.Listing.{statement_entries, meeting_of, related, answer_entry}
 use Rattle.listing.specs.graphs.Listing.{cycle_entry, dependence_entries, hold_entries, entries_of}
-use Rattle.listing.specs.graphs.Order.{Answered, Found, RuledOut, comes_before, before, not_before, in_order}
-use Rattle.listing.specs.graphs.Words.{kind_word, test_word, hold_word, sign_of}
+use Rattle.listing.specs.graphs.Order.{Answered, Found, RuledOut, comes_before_edge, before, not_before, entries_in_order}
+use Rattle.listing.specs.graphs.Words.{kind_word, test_word, hold_word, direction_sign}
 use Rattle.nest.specs.Bodies.{Standing, nest_statements}
 use Rattle.nest.specs.Plain.{Loop, Nest, Part, Run, Turns, Choice, Label, Jump, Parts, no_parts, part, Branches}
 use Rattle.nest.specs.Plain.{no_branches, branch}
@@ -65,7 +65,7 @@ hold Form = word (codes "FORM") refl
 hold Triangle = word (codes "TRIANGLE") refl
 hold Bounds = word (codes "BOUNDS") refl
 
-sign : (d : Dir) → ArePrintable (sign_of d)
+sign : (d : Dir) → ArePrintable (direction_sign d)
 sign Lt = word (codes "<") refl
 sign Eq = word (codes "=") refl
 sign Gt = word (codes ">") refl
@@ -83,13 +83,13 @@ place p =
 
 dependence : (d : Dependence) → ArePrintable d.array → ArePrintable (dependence_text d)
 dependence d h =
-    let directions = blank_then (tuple_text sign_of d.directions) in
+    let directions = blank_then (tuple_text direction_sign d.directions) in
     let array = blank_then d.array ++ directions in
     let kinds = blank_then (kind_word d.kind) ++ array in
     both (place_text d.from) (blank_then (place_text d.to) ++ kinds) (place d.from)
     (both (blank_then (place_text d.to)) kinds (blank, place d.to)
     (both (blank_then (kind_word d.kind)) array (blank, kind d.kind)
-    (both (blank_then d.array) directions (blank, h) (blank, tuple sign_of sign d.directions))))
+    (both (blank_then d.array) directions (blank, h) (blank, tuple direction_sign sign d.directions))))
 
 level : (n : ℕ) → ArePrintable (level_text n)
 level zero = word (codes "INDEP") refl
@@ -213,7 +213,7 @@ ruled_out (d ∷ ds) h = (h.0, ruled_out ds h.1)
 
 drops_before : (e : Edge) (ds : List Dropped) → AreDrops ds → AreDrops (before e ds)
 drops_before e [] h = tt
-drops_before e (d ∷ ds) h = by (comes_before d e) (drops_before e ds h.1)
+drops_before e (d ∷ ds) h = by (comes_before_edge d e) (drops_before e ds h.1)
   where
     by : (b : Bool) → AreDrops (before e ds) → AreDrops (cond b (d ∷ before e ds) [])
     by true more = (h.0, more)
@@ -221,16 +221,16 @@ drops_before e (d ∷ ds) h = by (comes_before d e) (drops_before e ds h.1)
 
 drops_behind : (e : Edge) (ds : List Dropped) → AreDrops ds → AreDrops (not_before e ds)
 drops_behind e [] h = tt
-drops_behind e (d ∷ ds) h = by (comes_before d e) (drops_behind e ds h.1)
+drops_behind e (d ∷ ds) h = by (comes_before_edge d e) (drops_behind e ds h.1)
   where
     by : (b : Bool) → AreDrops (not_before e ds) → AreDrops (cond b (not_before e ds) (d ∷ ds))
     by true more = more
     by false more = h
 
-answers : (es : List Edge) (ds : List Dropped) → AllByRecursion IsNamedEdge es → AreDrops ds → AllByRecursion IsNamed (in_order es ds)
+answers : (es : List Edge) (ds : List Dropped) → AllByRecursion IsNamedEdge es → AreDrops ds → AllByRecursion IsNamed (entries_in_order es ds)
 answers [] ds h k = ruled_out ds k
 answers (e ∷ es) ds h k =
-    joined IsNamed (map RuledOut (before e ds)) (Found e ∷ in_order es (not_before e ds)) (ruled_out (before e ds) (drops_before e ds k))
+    joined IsNamed (map RuledOut (before e ds)) (Found e ∷ entries_in_order es (not_before e ds)) (ruled_out (before e ds) (drops_before e ds k))
     (h.0, answers es (not_before e ds) h.1 (drops_behind e ds k))
 
 module _ (ts : List Standing) where
@@ -260,6 +260,6 @@ nest_printable m nest g hs cs h k =
       nest_entry nest m.line,
       several (loop_entries 0 m.body) behind (loops [] 0 m.body h.loops)
           (several (statement_entries 1 ts) arcs (statements 1 ts h.statements)
-          (several (dependence_entries ts g) last (each_answer ts (in_order g.edges g.dropped) (answers g.edges g.dropped k.edges k.drops))
+          (several (dependence_entries ts g) last (each_answer ts (entries_in_order g.edges g.dropped) (answers g.edges g.dropped k.edges k.drops))
           (several (hold_entries hs) (map cycle_entry cs) (holds hs) (cycles cs)))),
     )

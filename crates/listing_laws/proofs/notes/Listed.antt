@@ -4,6 +4,7 @@ use Rattle.find_nests.specs.Found.{Found, InNest, Kept, found_in}
 use Rattle.find_nests.specs.declared.reasons.Reason.{Reason}
 use Rattle.find_nests.specs.declared.reasons.Reason.TheVariants.{Exit, InnerIf, Bound, Step, Deep, Large}
 use Rattle.meaning.specs.Dialect.{fortran77}
+use Rattle.tree.specs.declared.width.Width.{Width}
 use Rattle.meaning.specs.Profile77.{IsProgram77}
 use Rattle.tree.specs.Plain.{Block, Program}
 use Rattle.listing.proofs.programs.Arranging.{last_depth}
@@ -38,14 +39,14 @@ reason Large = word (codes "LARGE") refl
 printable_beside : (m : Nest) (after : Block) → IsPrintableNest m → IsPrintableNest (record m { after = after })
 printable_beside m after h = record { statements = h.statements; loops = h.loops }
 
-module _ (p : Program) (is : IsProgram77 fortran77 p) where
+module _ (width : Width) (p : Program) (is : IsProgram77 (fortran77 width) p) where
   nest_is_printable : (counts : Counts) (n m : Nest) → Contains (found_in p) (InNest n) → IsListedFrom counts n m → IsPrintableNest m
   nest_is_printable counts n m c listed =
       let w = listed_is_made counts n m listed in
-      let d = declared_for p counts n w.nest is c w.made in
+      let d = declared_for width p counts n w.nest is c w.made in
       subst IsPrintableNest (sym w.same)
       (printable_beside w.nest m.after
-      (is_printable d.declarations d.around last_depth w.nest d.are (prepared_for p counts n w.nest is c w.made)))
+      (is_printable d.declarations d.around last_depth w.nest d.are (prepared_for width p counts n w.nest is c w.made)))
 
   nest_entries : (counts : Counts) (n : Nest) (es : List Entry) → Contains (found_in p) (InNest n) → HasNestEntries counts n es
       → ArePrintableEntries es
@@ -70,6 +71,6 @@ module _ (p : Program) (is : IsProgram77 fortran77 p) where
       (joined IsPrintableEntry h.0 h.1 (entries counts f h.0 (c f (here f fs)) h.3)
       (all_entries (counts_behind counts f h.0 h.3) fs h.1 (λ g i. c g (there f fs g i)) h.4))
 
-pub listing_lines_are_notes : ListingLinesAreNotes
-listing_lines_are_notes p lines is h =
-    subst AreNotes (sym h.lines_are) (entry_notes h.entries (all_entries p is no_counts (found_in p) h.entries (λ f c. c) h.are))
+pub listing_lines_are_notes : (width : Width) → ListingLinesAreNotes width
+listing_lines_are_notes width p lines is h =
+    subst AreNotes (sym h.lines_are) (entry_notes h.entries (all_entries width p is no_counts (found_in p) h.entries (λ f c. c) h.are))

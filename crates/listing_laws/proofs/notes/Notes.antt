@@ -5,7 +5,7 @@ use Rattle.std.proofs.Common.{div-add-mod', mod-lt, lit<}
 use Rattle.std.specs.List.{AllByRecursion}
 use Rattle.f90_grammar.specs.PrintedText.{IsNote}
 use Rattle.listing.specs.graphs.Lines.{Entry, entry_text}
-use Rattle.listing.specs.graphs.Listing.{piece_length, further_pieces, pieces, lines_from, lines_of_text, lines_of_entry}
+use Rattle.listing.specs.graphs.Listing.{line_piece_length, further_line_pieces, line_pieces, lines_from, listing_lines_of, lines_of_entry}
 use Rattle.listing.specs.graphs.Listing.{lines_of_entries}
 use Rattle.listing_laws.proofs.notes.Printable.{ArePrintable, joined, both, word, beginning, end}
 
@@ -35,20 +35,20 @@ further = record { rest = codes "+ "; begins = refl; printable = word (codes "!G
 cut : (t : List ℕ) → length (take 120 t) ≤ 120
 cut t = omega (arith, length-take 120 t)
 
-notes : (first : List ℕ) → BeginsNote first → (n : ℕ) (t : List ℕ) → ArePrintable t → length t ≤ suc n * 120 → AreNotes (pieces first n t)
+notes : (first : List ℕ) → BeginsNote first → (n : ℕ) (t : List ℕ) → ArePrintable t → length t ≤ suc n * 120 → AreNotes (line_pieces first n t)
 notes first b zero t h l = (note first b t h (omega (arith, l)), tt)
 notes first b (suc n) t h l =
     let m : length (drop 120 t) ≤ suc n * 120 = omega (arith, l, length-drop 120 t) in
-    (note first b (take piece_length t) (beginning piece_length t h) (cut t), notes (codes "!G + ") further n (drop piece_length t) (end piece_length t h) m)
+    (note first b (take line_piece_length t) (beginning line_piece_length t h) (cut t), notes (codes "!G + ") further n (drop line_piece_length t) (end line_piece_length t h) m)
 
 -- the pieces are as many as the text needs
 covered : (n : ℕ) → n ≤ suc ((n - 1) / 120) * 120
 covered n = let d = div-add-mod' (n - 1) 120 in let m : (n - 1) % 120 < 120 = mod-lt (n - 1) (lit< tt) in omega arith
 
-text_notes : (t : List ℕ) → ArePrintable t → AreNotes (lines_of_text t)
+text_notes : (t : List ℕ) → ArePrintable t → AreNotes (listing_lines_of t)
 unfolding lines_from
 text_notes t h =
-    notes (codes "!G ") (record { rest = []; begins = refl; printable = word (codes "!G ") refl; within = omega arith }) (further_pieces t) t h
+    notes (codes "!G ") (record { rest = []; begins = refl; printable = word (codes "!G ") refl; within = omega arith }) (further_line_pieces t) t h
     (covered (length t))
 
 abbrev pub IsPrintableEntry : Entry → Type 0

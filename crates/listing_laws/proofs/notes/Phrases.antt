@@ -12,8 +12,8 @@ use Rattle.tree.specs.declared.functions.Fun.TheVariants.{Abs, Mod, Max, Min}
 use Rattle.tree.specs.declared.ops.Op.{Op}
 use Rattle.tree.specs.declared.ops.Op.TheVariants.{Pow, Mul, Div, Neg, Add, Sub, Lt, Le, Eq, Ne, Gt, Ge}
 use Rattle.tree.specs.declared.ops.Op.TheVariants.{Not, And, Or, Eqv, Neqv}
-use Rattle.f90_grammar.specs.Phrases.{Phrase, Paren, Joined, Parts, One, Then, Part, Value, level}
-use Rattle.f90_grammar.specs.Printing.{phrase_of, part_of, parts_of, more_parts, arguments, more_arguments, listed, fit}
+use Rattle.f90_grammar.specs.Phrases.{Phrase90, Paren, Joined, ListParts, One, Then, ListPart, Value, phrase_level90}
+use Rattle.f90_grammar.specs.Printing.{phrase_of, list_part_of, printed_parts_of, more_parts, arguments, more_arguments, listed, fit}
 use Rattle.f90_grammar.specs.Printing.{unary_phrase, digits_of}
 use Rattle.f90_grammar.specs.PrintedForms.{reference_phrase}
 use Rattle.f90_grammar.specs.PrintedText.{in_parentheses, comma, sign_text, phrase_text, part_text, parts_text}
@@ -60,26 +60,26 @@ digits (negsuc n) = tt
 
 -- ---- phrases
 
-abbrev IsPrinted : Phrase → Type 0
+abbrev IsPrinted : Phrase90 → Type 0
 IsPrinted p = ArePrintable (phrase_text p)
 
-abbrev ArePrinted : Parts → Type 0
+abbrev ArePrinted : ListParts → Type 0
 ArePrinted ps = ArePrintable (parts_text ps)
 
 enclosed : (t : List ℕ) → ArePrintable t → ArePrintable (in_parentheses t)
 enclosed t h = ((lit≤ tt, lit≤ tt), both t (codes ")") h (word (codes ")") refl))
 
-fitted : (n : ℕ) (p : Phrase) → IsPrinted p → IsPrinted (fit n p)
-fitted n p h = by (nat_le n (level p))
+fitted : (n : ℕ) (p : Phrase90) → IsPrinted p → IsPrinted (fit n p)
+fitted n p h = by (nat_le n (phrase_level90 p))
   where
     by : (b : Bool) → IsPrinted (cond b p (Paren p))
     by true = h
     by false = enclosed (phrase_text p) h
 
-negative : (p : Phrase) → IsPrinted p → ArePrintable (sign_text Minus ++ phrase_text (fit 8 p))
+negative : (p : Phrase90) → IsPrinted p → ArePrintable (sign_text Minus ++ phrase_text (fit 8 p))
 negative p h = both (sign_text Minus) (phrase_text (fit 8 p)) (word (codes "-") refl) (fitted 8 p h)
 
-signed : (o : Op) (p : Phrase) → IsPrinted p → IsPrinted (unary_phrase o p)
+signed : (o : Op) (p : Phrase90) → IsPrinted p → IsPrinted (unary_phrase o p)
 signed Not p h = both (sign_text Negation) (phrase_text (fit 6 p)) (word (codes ".NOT. ") refl) (fitted 6 p h)
 signed Pow p h = negative p h
 signed Mul p h = negative p h
@@ -98,19 +98,19 @@ signed Or p h = negative p h
 signed Eqv p h = negative p h
 signed Neqv p h = negative p h
 
-between : (o : Op) (a b : Phrase) → IsPrinted a → IsPrinted b → IsPrinted (Joined o a b)
+between : (o : Op) (a b : Phrase90) → IsPrinted a → IsPrinted b → IsPrinted (Joined o a b)
 between o a b h k =
     both (phrase_text a) (32 ∷ (spelling90_of o ++ (32 ∷ phrase_text b))) h
     (blank, both (spelling90_of o) (32 ∷ phrase_text b) (operator o) (blank, k))
 
-behind : (ps : Parts) (p : Part) → ArePrinted ps → ArePrintable (part_text p) → ArePrinted (Then ps p)
+behind : (ps : ListParts) (p : ListPart) → ArePrinted ps → ArePrintable (part_text p) → ArePrinted (Then ps p)
 behind ps p h k = both (parts_text ps) (comma ++ part_text p) h (both comma (part_text p) (word (codes ", ") refl) k)
 
-abbrev SomePrinted : Option Parts → Type 0
+abbrev SomePrinted : Option ListParts → Type 0
 SomePrinted None = Unit {0}
 SomePrinted (Some ps) = ArePrinted ps
 
-list : (x : List ℕ) (o : Option Parts) → ArePrintable x → SomePrinted o → IsPrinted (listed x o)
+list : (x : List ℕ) (o : Option ListParts) → ArePrintable x → SomePrinted o → IsPrinted (listed x o)
 list x None h k = h
 list x (Some ps) h k = both x (in_parentheses (parts_text ps)) h (enclosed (parts_text ps) k)
 
@@ -120,7 +120,7 @@ mutual
   phrase : (e : Expression) → IsOver ArePrintable e → IsPrinted (phrase_of e)
   phrase (Number n) h = digits n
   phrase (Logic b) h = truth b
-  phrase (Named x ss) h = list x (parts_of ss) h.0 (some_parts ss h.1)
+  phrase (Named x ss) h = list x (printed_parts_of ss) h.0 (some_parts ss h.1)
   phrase (Unary o a) h = signed o (phrase_of a) (phrase a h)
   phrase (Binary o a b) h =
       between o (fit (left_least o) (phrase_of a)) (fit (right_least o) (phrase_of b)) (fitted (left_least o) (phrase_of a) (phrase a h.0))
@@ -132,23 +132,23 @@ mutual
   phrase (Reshape a es) h = absurd h
   phrase (Reduce r a) h = absurd h
 
-  some_parts : (ss : Subscripts) → AreOver ArePrintable ss → SomePrinted (parts_of ss)
+  some_parts : (ss : Subscripts) → AreOver ArePrintable ss → SomePrinted (printed_parts_of ss)
   some_parts no_subscripts h = tt
-  some_parts (subscript s ss) h = further_parts (One (part_of s)) ss (one_part s h.0) h.1
+  some_parts (subscript s ss) h = further_parts (One (list_part_of s)) ss (one_part s h.0) h.1
 
-  one_part : (s : Subscript) → OneIsOver ArePrintable s → ArePrintable (part_text (part_of s))
+  one_part : (s : Subscript) → OneIsOver ArePrintable s → ArePrintable (part_text (list_part_of s))
   one_part (Only e) h = phrase e h
   one_part (Section a b c) h = absurd h
 
-  further_parts : (ps : Parts) (ss : Subscripts) → ArePrinted ps → AreOver ArePrintable ss → ArePrinted (more_parts ps ss)
+  further_parts : (ps : ListParts) (ss : Subscripts) → ArePrinted ps → AreOver ArePrintable ss → ArePrinted (more_parts ps ss)
   further_parts ps no_subscripts k h = k
-  further_parts ps (subscript s ss) k h = further_parts (Then ps (part_of s)) ss (behind ps (part_of s) k (one_part s h.0)) h.1
+  further_parts ps (subscript s ss) k h = further_parts (Then ps (list_part_of s)) ss (behind ps (list_part_of s) k (one_part s h.0)) h.1
 
   some_arguments : (es : Expressions) → EachIsOver ArePrintable es → SomePrinted (arguments es)
   some_arguments no_expressions h = tt
   some_arguments (expression e es) h = further_arguments (One (Value (phrase_of e))) es (phrase e h.0) h.1
 
-  further_arguments : (ps : Parts) (es : Expressions) → ArePrinted ps → EachIsOver ArePrintable es → ArePrinted (more_arguments ps es)
+  further_arguments : (ps : ListParts) (es : Expressions) → ArePrinted ps → EachIsOver ArePrintable es → ArePrinted (more_arguments ps es)
   further_arguments ps no_expressions k h = k
   further_arguments ps (expression e es) k h =
       further_arguments (Then ps (Value (phrase_of e))) es (behind ps (Value (phrase_of e)) k (phrase e h.0)) h.1

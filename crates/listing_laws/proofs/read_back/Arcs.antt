@@ -16,15 +16,15 @@ use Rattle.tree.specs.Plain.{Subscripts, no_subscripts, subscript, Reference}
 use Rattle.listing.specs.graphs.Listing.{edge_entry, drop_entry, depth_of}
 use Rattle.listing_laws.proofs.notes.Printable.{joined}
 use Rattle.listing_laws.specs.reader.Listable.{IsWord, IsListable, IsListablePlace, IsListableMeeting}
-use Rattle.dependence_graph.specs.nest_graph.Arcs.{Answer, Assumed, Couple, Met, Never, Verdict, edge_of, edge_with, drop_of}
-use Rattle.dependence_graph.specs.nest_graph.Arcs.{with_some, edges_of, drops_of, in_places, in_point, level_from, level_of}
-use Rattle.dependence_graph.specs.nest_graph.Graph.{IsCouple, IsGraphOf, IsRight, all_edges, all_drops, candidate_of}
+use Rattle.dependence_graph.specs.nest_graph.Arcs.{VectorVerdict, Assumed, Couple, Met, Never, Verdict, edge_of, edge_with, drop_of}
+use Rattle.dependence_graph.specs.nest_graph.Arcs.{with_some, edges_of, drops_of, in_places, in_point, level_from, vector_level}
+use Rattle.dependence_graph.specs.nest_graph.Graph.{IsCouple, IsGraphOf, IsRightVerdict, all_edges, all_drops, candidate_of}
 use Rattle.dependence_graph.specs.nest_graph.Pair.{IsCandidate}
 use Rattle.dependence_graph.specs.nest_graph.Ready.{IsReady}
-use Rattle.dependence_graph.specs.nest_graph.References.{is_among, has_none, own_reference, variables_round, references_in}
+use Rattle.dependence_graph.specs.nest_graph.References.{is_among, has_no_subscript, own_reference, variables_round, references_in}
 use Rattle.dependence_graph.specs.nest_graph.References.{references_in_all, references_in_subscript, references_in_subscripts}
 use Rattle.dependence_graph.specs.nest_graph.References.{references_in_guard, references_of}
-use Rattle.dependence_graph.specs.nest_graph.Tested.{Both, IsReference, both}
+use Rattle.dependence_graph.specs.nest_graph.Tested.{Both, IsReferenceAt, both}
 use Rattle.dependence_graph.specs.nest_graph.Vectors.{StandsFor}
 use Rattle.dependence_graph.proofs.dep_graph.Couples.{common_first}
 use Rattle.dependence_graph.proofs.dep_graph.Directions.{places_length}
@@ -50,7 +50,7 @@ several = joined HasWord
 
 module _ (loops : List (List ℕ)) where
   own : (x : List ℕ) (ss : Subscripts) → IsWord x → AreNamed (own_reference loops x ss)
-  own x ss h = by (has_none ss) (is_among loops x)
+  own x ss h = by (has_no_subscript ss) (is_among loops x)
     where
       one : List Reference
       one = record { name = x; subscripts = ss } ∷ []
@@ -143,7 +143,7 @@ module _ (m : Nest) (ready : IsReady m) (tidy : IsTidyNest m) (few : length (nes
   abbrev pub IsListableEdge : Edge → Type 0
   IsListableEdge e = IsListable (edge_entry ts e)
 
-  place : (p : Place) (s : Standing) (r : Reference) → IsReference m p s r → IsListablePlace p
+  place : (p : Place) (s : Standing) (r : Reference) → IsReferenceAt m p s r → IsListablePlace p
   place p s r h =
       let a = slice_get_within ts p.stmt s h.statement in
       let b = slice_get_within (references_of s) p.at r h.reference in
@@ -166,16 +166,16 @@ module _ (m : Nest) (ready : IsReady m) (tidy : IsTidyNest m) (few : length (nes
     of' = both m c.from c.to is.refs
 
     -- what holds of an answer
-    abbrev IsRightAnswer : Answer → Type 0
-    IsRightAnswer a = IsRight m c of' a.0 a.1
+    abbrev IsRightAnswer : VectorVerdict → Type 0
+    IsRightAnswer a = IsRightVerdict m c of' a.0 a.1
 
-    abbrev IsShortAnswer : Answer → Type 0
+    abbrev IsShortAnswer : VectorVerdict → Type 0
     IsShortAnswer a = length a.0 ≤ 7
 
-    level_small : (d : List Dir) → length d ≤ 7 → level_of (in_places d) ≤ 7
+    level_small : (d : List Dir) → length d ≤ 7 → vector_level (in_places d) ≤ 7
     level_small d h = let places = places_length d h in let most = level_most 0 (in_places d).at in omega (arith, places, most)
 
-    edge : (d : List Dir) (v : Verdict) (e : Edge) → length d ≤ 7 → IsRight m c of' d v → edge_of c d v ≡ Some e → IsListableEdge e
+    edge : (d : List Dir) (v : Verdict) (e : Edge) → length d ≤ 7 → IsRightVerdict m c of' d v → edge_of c d v ≡ Some e → IsListableEdge e
     edge d (Never w) e h k g = let no : ⊥ = cc in absurd no
     edge d (Assumed w) e h k g =
         let l = couple c is in
@@ -210,7 +210,7 @@ module _ (m : Nest) (ready : IsReady m) (tidy : IsTidyNest m) (few : length (nes
         subst IsListableDrop (sym same) (record { from = l.from; to = l.to; array = l.array })
 
     -- its vector has a direction for each loop round both
-    short_answer : (a : Answer) → ((v : List Dir) → StandsFor a.0 v → IsCandidate m (candidate_of c v)) → IsShortAnswer a
+    short_answer : (a : VectorVerdict) → ((v : List Dir) → StandsFor a.0 v → IsCandidate m (candidate_of c v)) → IsShortAnswer a
     short_answer a h =
         let i = h (filled a.0) (filled_stands a.0) in
         let common = common_first i.refs.first.loops i.refs.second.loops in
@@ -219,7 +219,7 @@ module _ (m : Nest) (ready : IsReady m) (tidy : IsTidyNest m) (few : length (nes
         let loops = i.loops in
         omega (arith, common, deep, long, loops)
 
-    edges : (answers : List Answer) → All IsShortAnswer answers → All IsRightAnswer answers
+    edges : (answers : List VectorVerdict) → All IsShortAnswer answers → All IsRightAnswer answers
         → AllByRecursion IsListableEdge (edges_of c answers)
     edges [] h k = tt
     edges (a ∷ more) h k =
@@ -227,7 +227,7 @@ module _ (m : Nest) (ready : IsReady m) (tidy : IsTidyNest m) (few : length (nes
         (λ e g. edge a.0 a.1 e (All-head IsShortAnswer a more h) (All-head IsRightAnswer a more k) g)
         (edges more (All-tail IsShortAnswer a more h) (All-tail IsRightAnswer a more k))
 
-    drops : (answers : List Answer) → AllByRecursion IsListableDrop (drops_of c answers)
+    drops : (answers : List VectorVerdict) → AllByRecursion IsListableDrop (drops_of c answers)
     drops [] = tt
     drops (a ∷ more) = with_one IsListableDrop (drop_of c a.0 a.1) (drops_of c more) (λ e g. drop a.0 a.1 e g)
         (drops more)

@@ -24,7 +24,7 @@ use Rattle.listing.specs.graphs.Lines.{Entry}
 use Rattle.listing.specs.graphs.Listing.{loop_entries, loop_entries_in, loop_entries_under}
 use Rattle.listing.specs.graphs.Listing.{statement_entries, answer_entry, edge_entry, dependence_entries}
 use Rattle.listing.specs.graphs.Listing.{cycle_entry, hold_entries}
-use Rattle.listing.specs.graphs.Order.{Answered, Found, RuledOut, comes_before, before, not_before, in_order}
+use Rattle.listing.specs.graphs.Order.{Answered, Found, RuledOut, comes_before_edge, before, not_before, entries_in_order}
 use Rattle.listing_laws.proofs.notes.Printable.{joined}
 use Rattle.listing_laws.specs.reader.Listable.{IsSmall, IsListable, IsListableHold}
 use Rattle.dependence_graph.specs.nest_graph.Graph.{IsGraphOf}
@@ -36,7 +36,7 @@ use Rattle.nest.specs.Plain.{no_branches, branch}
 use Rattle.pass_laws.proofs.NormalFacts.LoopWalk.{EachLoop, EachLoopIn, EachLoopUnder}
 use Rattle.listing.specs.programs.Listing.{tested_entries}
 use Rattle.array_form.specs.holds.Bounds.{is_safe}
-use Rattle.array_form.specs.holds.Holds.{all_holds, hold_at_level, hold_of, hold_with, holds_of, reason_of}
+use Rattle.array_form.specs.holds.Holds.{all_holds, hold_at_level, hold_of, hold_with, holds_of, hold_reason_of}
 use Rattle.array_form.specs.holds.Statements.{no_statement, statement_at, surroundings_at}
 use Rattle.listing_laws.proofs.read_back.Arcs.{IsListableDrop, graph_edges, graph_drops}
 use Rattle.listing_laws.proofs.read_back.Made.{IsTidy, IsTidyIn, IsTidyNest}
@@ -86,7 +86,7 @@ AreDrops ds = AllByRecursion IsListableDrop ds
 
 drops_before : (e : Edge) (ds : List Dropped) → AreDrops ds → AreDrops (before e ds)
 drops_before e [] h = tt
-drops_before e (d ∷ ds) h = by (comes_before d e) (drops_before e ds h.1)
+drops_before e (d ∷ ds) h = by (comes_before_edge d e) (drops_before e ds h.1)
   where
     by : (b : Bool) → AreDrops (before e ds) → AreDrops (cond b (d ∷ before e ds) [])
     by true more = (h.0, more)
@@ -94,7 +94,7 @@ drops_before e (d ∷ ds) h = by (comes_before d e) (drops_before e ds h.1)
 
 drops_behind : (e : Edge) (ds : List Dropped) → AreDrops ds → AreDrops (not_before e ds)
 drops_behind e [] h = tt
-drops_behind e (d ∷ ds) h = by (comes_before d e) (drops_behind e ds h.1)
+drops_behind e (d ∷ ds) h = by (comes_before_edge d e) (drops_behind e ds h.1)
   where
     by : (b : Bool) → AreDrops (not_before e ds) → AreDrops (cond b (not_before e ds) (d ∷ ds))
     by true more = more
@@ -112,10 +112,10 @@ module _ (ts : List Standing) where
   ruled_out (d ∷ ds) h = (h.0, ruled_out ds h.1)
 
   answers : (es : List Edge) (ds : List Dropped) → AllByRecursion HasEdge es → AreDrops ds
-      → AllByRecursion HasEntry (in_order es ds)
+      → AllByRecursion HasEntry (entries_in_order es ds)
   answers [] ds h k = ruled_out ds k
   answers (e ∷ es) ds h k =
-      joined HasEntry (map RuledOut (before e ds)) (Found e ∷ in_order es (not_before e ds))
+      joined HasEntry (map RuledOut (before e ds)) (Found e ∷ entries_in_order es (not_before e ds))
       (ruled_out (before e ds) (drops_before e ds k))
       (h.0, answers es (not_before e ds) h.1 (drops_behind e ds k))
 
@@ -156,7 +156,7 @@ module _ (m : Nest) (ready : IsReady m) where
       let few = shallow (s - 1) in
       let x = statement_at m s in
       from_each (hold_at_level s (surroundings_at m s) x.statement.guard x.statement.left (is_safe m x)) 8 1
-      (length x.loops) (omega (arith, few)) (λ j l. held s j (reason_of (hold_of m x j)) h (omega (arith, l)))
+      (length x.loops) (omega (arith, few)) (λ j l. held s j (hold_reason_of (hold_of m x j)) h (omega (arith, l)))
 
   every_hold : length (nest_statements m) ≤ 2 ^ 40 → AreHolds (all_holds m)
   every_hold few = from_each (holds_of m) (2 ^ 41) 1 (length (nest_statements m)) (omega (arith, few))
@@ -202,7 +202,7 @@ nest_listable m number g cs a b ready tidy few h cycles =
       several (loop_entries 0 m.body) behind (loops [] 0 m.body (omega arith) tidy.loops)
           (several (statement_entries 1 ts) arcs (statements 1 ts (omega (arith, few)) tidy.statements)
           (several (dependence_entries ts g) last
-          (each_answer ts (in_order g.edges g.dropped)
+          (each_answer ts (entries_in_order g.edges g.dropped)
           (answers ts g.edges g.dropped (graph_edges m ready tidy few g h) (graph_drops m ready tidy few g h)))
           (several (hold_entries (all_holds m)) (map cycle_entry cs) (hold_list (all_holds m) (every_hold m ready few))
           (cycle_list m cs (ready_is_shallow m ready) few (cycles_are_inside m g.edges (all_holds m) cs legal cycles))))),

@@ -9,6 +9,7 @@ use Rattle.find_nests.specs.LookedAt.{looked_at}
 use Rattle.find_nests.specs.declared.reasons.Reason.{Reason}
 use Rattle.meaning.specs.Blocks.{outermost}
 use Rattle.meaning.specs.Dialect.{fortran77}
+use Rattle.tree.specs.declared.width.Width.{Width}
 use Rattle.meaning.specs.Profile77.{IsProgram77}
 use Rattle.tree.specs.Plain.{Block, Program}
 use Rattle.listing.specs.declared.programs.counts.Counts.{Counts}
@@ -50,7 +51,7 @@ counted m h = record {
 tidy_beside : (m : Nest) (after : Block) → IsTidyNest m → IsTidyNest (record m { after = after })
 tidy_beside m after h = record { statements = h.statements; loops = h.loops }
 
-module _ (p : Program) (is : IsProgram77 fortran77 p) where
+module _ (width : Width) (p : Program) (is : IsProgram77 (fortran77 width) p) where
   -- ---- a nest
 
   -- what stands in it has small numbers
@@ -62,8 +63,8 @@ module _ (p : Program) (is : IsProgram77 fortran77 p) where
   readable : (counts : Counts) (n m : Nest) → Contains (found_in p) (InNest n) → IsListedFrom counts n m → IsReadable m
   readable counts n m c listed =
       let w = listed_is_made counts n m listed in
-      let d = declared_for p counts n w.nest is c w.made in
-      let prepared = prepared_for p counts n w.nest is c w.made in
+      let d = declared_for width p counts n w.nest is c w.made in
+      let prepared = prepared_for width p counts n w.nest is c w.made in
       let numbers = counted w.nest w.made.numbered in
       subst IsReadable (sym w.same)
       (record {
@@ -81,7 +82,7 @@ module _ (p : Program) (is : IsProgram77 fortran77 p) where
       let number = nest_number p 0 (looked_at p.declarations p.body) n (omega arith) c in
       subst AreListable (sym h.2.2.entries_are)
       (nest_listable m n.number h.2.0 h.2.2.cycles (omega (arith, number)) (omega (arith, line))
-      (listed_nest_is_testable p counts n m is c h.1) r.tidy r.few h.2.1 h.2.2.cycles_are)
+      (listed_nest_is_testable width p counts n m is c h.1) r.tidy r.few h.2.1 h.2.2.cycles_are)
 
   -- ---- a program
 
@@ -104,6 +105,6 @@ module _ (p : Program) (is : IsProgram77 fortran77 p) where
       (joined IsListable h.0 h.1 (entries counts f h.0 (c f (here f fs)) h.3)
       (all_entries (counts_behind counts f h.0 h.3) fs h.1 (λ g i. c g (there f fs g i)) h.4))
 
-pub program_listing_is_read : ProgramListingIsRead
-program_listing_is_read p lines is h =
-    ap read_listing h.lines_are ∙ listing-is-read h.entries (all_entries p is no_counts (found_in p) h.entries (λ f c. c) h.are)
+pub program_listing_is_read : (width : Width) → ProgramListingIsRead width
+program_listing_is_read width p lines is h =
+    ap read_listing h.lines_are ∙ listing-is-read h.entries (all_entries width p is no_counts (found_in p) h.entries (λ f c. c) h.are)

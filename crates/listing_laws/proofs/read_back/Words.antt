@@ -5,7 +5,7 @@ use Rattle.std.proofs.lemmas.Bool.{and_parts, leb-true, ne_eqb}
 use Rattle.std.specs.List.{list_all}
 use Rattle.std.specs.Prelude.{nat_le}
 use Rattle.meaning.specs.SymbolicNames.{IsSymbolicName, is_letter, is_digit}
-use Rattle.listing_laws.proofs.reader.Numbers.{number-lacks}
+use Rattle.listing_laws.proofs.reader.Numbers.{number_read-lacks}
 use Rattle.listing_laws.proofs.reader.Parts.{lacks-append}
 use Rattle.listing_laws.specs.reader.Listable.{IsWord}
 use Rattle.last_values.specs.normal_forms.NormalLoops.{counter_name}
@@ -44,4 +44,4 @@ word (c ∷ cs) h =
 pub counter : (n : ℕ) → n ≤ 4294967295 → IsWord (counter_name n)
 counter n h =
     lacks-append 32 (codes "FV_LOOP_") (decimal n) (word (codes "FV_LOOP_") refl)
-    (number-lacks 32 n (omega arith) (omega (arith, h)))
+    (number_read-lacks 32 n (omega arith) (omega (arith, h)))

@@ -12,23 +12,23 @@ use Rattle.dependence_graph.specs.declared.graphs.Dep.TheVariants.{Flow, Anti, O
 use Rattle.dependence_graph.specs.declared.graphs.Hold.{Hold}
 use Rattle.dependence_graph.specs.declared.graphs.HoldReason.{HoldReason}
 use Rattle.dependence_graph.specs.declared.graphs.HoldReason.TheVariants.{Form, Triangle, Bounds}
-use Rattle.listing.specs.graphs.Words.{kind_word, test_word, hold_word, sign_of}
+use Rattle.listing.specs.graphs.Words.{kind_word, test_word, hold_word, direction_sign}
 use Rattle.listing.specs.graphs.Lines.{Dependence, Meeting, NestEntry, LoopEntry, StatementEntry, EdgeEntry, DropEntry, HoldEntry, CycleEntry, KeepEntry, entry_text, tuple_text, statement_name, place_text, dependence_text, level_text, meeting_text, walk_text}
 use Rattle.std.proofs.lemmas.List.{append-nil}
 use Rattle.listing_laws.specs.reader.Listable.{IsSmall, IsSmallInteger, Lacks, IsWord, IsListableDependence, IsListableHold, IsListablePair}
 use Rattle.listing_laws.specs.reader.Laws.{EntryIsRead}
-use Rattle.listing_laws.specs.reader.Reader.{word, rest, last_word, before_last, tuple, number, signed_number, named, kinds, tests, reasons, sign, statement_number, place, level, meeting, dependence, behind_dependence, kind_in, edge_with, drop_with, hold_with, nest_in, loop_in, statement_in, edge_in, drop_in, hold_in, cycle_in, keep_in, walk_in}
-use Rattle.listing_laws.proofs.reader.Parts.{IsReadBetween, until-then, until-all, behind-then, behind-all, lacks-append, last-word, before-last, split-list, tuple-read}
-use Rattle.listing_laws.proofs.reader.Numbers.{number-lacks, number-read, number-between, signed-between, statement-lacks, statement-read, statement-between, place-lacks, place-read, level-read, level-lacks}
+use Rattle.listing_laws.specs.reader.Reader.{word, rest, last_word, before_last, tuple, number_read, signed_number_read, value_with_text, dependence_kinds, tests, hold_reasons, sign, statement_number_read, place, level_read, meeting, dependence, behind_dependence, kind_in, edge_read, drop_with, hold_read, nest_in, loop_in, statement_in, edge_in, drop_in, hold_in, cycle_in, keep_in, walk_in}
+use Rattle.listing_laws.proofs.reader.Parts.{IsReadBetween, until-then, until-all, rest_behind-then, rest_behind-all, lacks-append, last-word, before-last, split-list, tuple-read}
+use Rattle.listing_laws.proofs.reader.Numbers.{number_read-lacks, number_read-is, number_read-between, signed-between, statement-lacks, statement-read, statement-between, place-lacks, place-read, level_read-is, level_read-lacks}
 
 -- ---- words
 
-kind-read : (k : Dep) → named kind_word kinds (kind_word k) ≡ Some k
+kind-read : (k : Dep) → value_with_text kind_word dependence_kinds (kind_word k) ≡ Some k
 kind-read Flow = refl
 kind-read Anti = refl
 kind-read Output = refl
 
-test-read : (t : Test) → named test_word tests (test_word t) ≡ Some t
+test-read : (t : Test) → value_with_text test_word tests (test_word t) ≡ Some t
 test-read Trip = refl
 test-read Scalar = refl
 test-read Ziv = refl
@@ -42,7 +42,7 @@ test-read Range = refl
 test-read Miv = refl
 test-read Unknown = refl
 
-reason-read : (r : HoldReason) → named hold_word reasons (hold_word r) ≡ Some r
+reason-read : (r : HoldReason) → value_with_text hold_word hold_reasons (hold_word r) ≡ Some r
 reason-read Form = refl
 reason-read Triangle = refl
 reason-read Bounds = refl
@@ -68,13 +68,13 @@ test-lacks Unknown = (refl, (refl, (refl, (refl, (refl, (refl, (refl, tt)))))))
 
 -- ---- lists
 
-sign-lacks : (d : Dir) → Lacks 32 (sign_of d)
+sign-lacks : (d : Dir) → Lacks 32 (direction_sign d)
 sign-lacks Lt = (refl, tt)
 sign-lacks Eq = (refl, tt)
 sign-lacks Gt = (refl, tt)
 sign-lacks Any = (refl, tt)
 
-sign-between : (d : Dir) → IsReadBetween 44 sign_of sign d
+sign-between : (d : Dir) → IsReadBetween 44 direction_sign sign d
 sign-between Lt = record { lacks = (refl, tt); some = omega arith; back = refl }
 sign-between Eq = record { lacks = (refl, tt); some = omega arith; back = refl }
 sign-between Gt = record { lacks = (refl, tt); some = omega arith; back = refl }
@@ -101,28 +101,28 @@ tuple-lacks text (x ∷ xs) hs =
     (refl, lacks-append 32 (text x) (flat_map (λ y. codes "," ++ text y) xs ++ codes ")") hs.0 (more-lacks text xs hs.1))
 
 numbers-lack : (ns : List ℕ) → AllByRecursion IsSmall ns → IsWord (tuple_text decimal ns)
-numbers-lack ns hs = tuple-lacks decimal ns (each (λ n h. number-lacks 32 n (omega arith) h) ns hs)
+numbers-lack ns hs = tuple-lacks decimal ns (each (λ n h. number_read-lacks 32 n (omega arith) h) ns hs)
 
-numbers-read : (ns : List ℕ) → AllByRecursion IsSmall ns → tuple number (tuple_text decimal ns) ≡ ns
-numbers-read ns hs = tuple-read decimal number ns (each (λ n h. number-between 44 n (omega arith) h) ns hs)
+numbers-read : (ns : List ℕ) → AllByRecursion IsSmall ns → tuple number_read (tuple_text decimal ns) ≡ ns
+numbers-read ns hs = tuple-read decimal number_read ns (each (λ n h. number_read-between 44 n (omega arith) h) ns hs)
 
 integers-lack : (zs : List ℤ) → AllByRecursion IsSmallInteger zs → IsWord (tuple_text signed_decimal zs)
 integers-lack zs hs = tuple-lacks signed_decimal zs (each (λ z h. (signed-between 32 z (omega arith) h).lacks) zs hs)
 
-integers-read : (zs : List ℤ) → AllByRecursion IsSmallInteger zs → tuple signed_number (tuple_text signed_decimal zs) ≡ zs
-integers-read zs hs = tuple-read signed_decimal signed_number zs (each (λ z h. signed-between 44 z (omega arith) h) zs hs)
+integers-read : (zs : List ℤ) → AllByRecursion IsSmallInteger zs → tuple signed_number_read (tuple_text signed_decimal zs) ≡ zs
+integers-read zs hs = tuple-read signed_decimal signed_number_read zs (each (λ z h. signed-between 44 z (omega arith) h) zs hs)
 
-signs-lack : (ds : List Dir) → IsWord (tuple_text sign_of ds)
-signs-lack ds = tuple-lacks sign_of ds (whatever sign-lacks ds)
+signs-lack : (ds : List Dir) → IsWord (tuple_text direction_sign ds)
+signs-lack ds = tuple-lacks direction_sign ds (whatever sign-lacks ds)
 
-signs-read : (ds : List Dir) → tuple sign (tuple_text sign_of ds) ≡ ds
-signs-read ds = tuple-read sign_of sign ds (whatever sign-between ds)
+signs-read : (ds : List Dir) → tuple sign (tuple_text direction_sign ds) ≡ ds
+signs-read ds = tuple-read direction_sign sign ds (whatever sign-between ds)
 
 -- ---- pairs of iterations
 
 opened : (zs : List ℤ) (b : List ℕ) → meeting (tuple_text signed_decimal zs ++ 32 ∷ b) ≡ Some (record {
-  first = tuple signed_number (word (tuple_text signed_decimal zs ++ 32 ∷ b));
-  second = tuple signed_number (rest (tuple_text signed_decimal zs ++ 32 ∷ b));
+  first = tuple signed_number_read (word (tuple_text signed_decimal zs ++ 32 ∷ b));
+  second = tuple signed_number_read (rest (tuple_text signed_decimal zs ++ 32 ∷ b));
 })
 opened [] b = refl
 opened (z ∷ zs) b = refl
@@ -133,11 +133,11 @@ meeting-read (Some m) h =
     let a = tuple_text signed_decimal m.first in
     let b = tuple_text signed_decimal m.second in
     opened m.first b
-    ∙ ap (λ u. Some (record { first = tuple signed_number u; second = tuple signed_number (rest (a ++ 32 ∷ b)) }))
+    ∙ ap (λ u. Some (record { first = tuple signed_number_read u; second = tuple signed_number_read (rest (a ++ 32 ∷ b)) }))
     (until-then 32 a b (integers-lack m.first h.first))
-    ∙ ap (λ u. Some (record { first = tuple signed_number a; second = tuple signed_number u }))
-    (behind-then 32 a b (integers-lack m.first h.first))
-    ∙ ap (λ u. Some (record { first = u; second = tuple signed_number b })) (integers-read m.first h.first)
+    ∙ ap (λ u. Some (record { first = tuple signed_number_read a; second = tuple signed_number_read u }))
+    (rest_behind-then 32 a b (integers-lack m.first h.first))
+    ∙ ap (λ u. Some (record { first = u; second = tuple signed_number_read b })) (integers-read m.first h.first)
     ∙ ap (λ u. Some (record { first = m.first; second = u })) (integers-read m.second h.second)
 
 -- ---- dependences
@@ -170,30 +170,30 @@ five-read p q k a s m h =
     let t3 = a ++ (32 ∷ t4) in
     let t2 = k ++ (32 ∷ t3) in
     let t1 = q ++ (32 ∷ t2) in
-    let r1 : rest (five p q k a s m) ≡ t1 = behind-then 32 p t1 h.first in
-    let r2 : rest (rest (five p q k a s m)) ≡ t2 = ap rest r1 ∙ behind-then 32 q t2 h.second in
-    let r3 : rest (rest (rest (five p q k a s m))) ≡ t3 = ap rest r2 ∙ behind-then 32 k t3 h.third in
-    let r4 : rest (rest (rest (rest (five p q k a s m)))) ≡ t4 = ap rest r3 ∙ behind-then 32 a t4 h.fourth in
+    let r1 : rest (five p q k a s m) ≡ t1 = rest_behind-then 32 p t1 h.first in
+    let r2 : rest (rest (five p q k a s m)) ≡ t2 = ap rest r1 ∙ rest_behind-then 32 q t2 h.second in
+    let r3 : rest (rest (rest (five p q k a s m))) ≡ t3 = ap rest r2 ∙ rest_behind-then 32 k t3 h.third in
+    let r4 : rest (rest (rest (rest (five p q k a s m)))) ≡ t4 = ap rest r3 ∙ rest_behind-then 32 a t4 h.fourth in
     record {
       first = until-then 32 p t1 h.first;
       second = ap word r1 ∙ until-then 32 q t2 h.second;
       third = ap word r2 ∙ until-then 32 k t3 h.third;
       fourth = ap word r3 ∙ until-then 32 a t4 h.fourth;
       fifth = ap word r4 ∙ until-then 32 s m h.fifth;
-      last = ap rest r4 ∙ behind-then 32 s m h.fifth;
+      last = ap rest r4 ∙ rest_behind-then 32 s m h.fifth;
     }
 
 -- a dependence's text, with more behind it
 abbrev with_more : Dependence → List ℕ → List ℕ
-with_more d m = five (place_text d.from) (place_text d.to) (kind_word d.kind) d.array (tuple_text sign_of d.directions) m
+with_more d m = five (place_text d.from) (place_text d.to) (kind_word d.kind) d.array (tuple_text direction_sign d.directions) m
 
 flat-dependence : (d : Dependence) (m : List ℕ) → dependence_text d ++ (32 ∷ m) ≡ with_more d m
-flat-dependence d m = flat (place_text d.from) (place_text d.to) (kind_word d.kind) d.array (tuple_text sign_of d.directions) m
+flat-dependence d m = flat (place_text d.from) (place_text d.to) (kind_word d.kind) d.array (tuple_text direction_sign d.directions) m
 
 fields : (d : Dependence) (m : List ℕ) → IsListableDependence d
-    → AreFive (with_more d m) (place_text d.from) (place_text d.to) (kind_word d.kind) d.array (tuple_text sign_of d.directions) m
+    → AreFive (with_more d m) (place_text d.from) (place_text d.to) (kind_word d.kind) d.array (tuple_text direction_sign d.directions) m
 fields d m h =
-    five-read (place_text d.from) (place_text d.to) (kind_word d.kind) d.array (tuple_text sign_of d.directions) m (record {
+    five-read (place_text d.from) (place_text d.to) (kind_word d.kind) d.array (tuple_text direction_sign d.directions) m (record {
       first = place-lacks d.from h.from;
       second = place-lacks d.to h.to;
       third = kind-lacks d.kind;
@@ -212,25 +212,25 @@ dependence-read d m h =
     ∙ ap (λ q. dependence_with (place_text d.from) q d.kind (word (rest (rest (rest t)))) (word (rest (rest (rest (rest t)))))) f.second
     ∙ ap (λ a. dependence_with (place_text d.from) (place_text d.to) d.kind a (word (rest (rest (rest (rest t)))))) f.fourth
     ∙ ap (λ s. dependence_with (place_text d.from) (place_text d.to) d.kind d.array s) f.fifth
-    ∙ ap (λ p. record { from = p; to = place (place_text d.to); kind = d.kind; array = d.array; directions = tuple sign (tuple_text sign_of d.directions) })
+    ∙ ap (λ p. record { from = p; to = place (place_text d.to); kind = d.kind; array = d.array; directions = tuple sign (tuple_text direction_sign d.directions) })
     (place-read d.from h.from)
-    ∙ ap (λ q. record { from = d.from; to = q; kind = d.kind; array = d.array; directions = tuple sign (tuple_text sign_of d.directions) })
+    ∙ ap (λ q. record { from = d.from; to = q; kind = d.kind; array = d.array; directions = tuple sign (tuple_text direction_sign d.directions) })
     (place-read d.to h.to)
     ∙ ap (λ s. record { from = d.from; to = d.to; kind = d.kind; array = d.array; directions = s }) (signs-read d.directions)
 
 kind-in : (d : Dependence) (m : List ℕ) → IsListableDependence d → kind_in (with_more d m) ≡ Some d.kind
-kind-in d m h = ap (named kind_word kinds) (fields d m h).third ∙ kind-read d.kind
+kind-in d m h = ap (value_with_text kind_word dependence_kinds) (fields d m h).third ∙ kind-read d.kind
 
 -- ---- entries
 
 nest-read : (n line : ℕ) → IsSmall n → IsSmall line → nest_in (decimal n ++ (codes " LINE " ++ decimal line)) ≡ Some (NestEntry n line)
 nest-read n line h k =
     let t = codes "LINE " ++ decimal line in
-    let w = number-lacks 32 n (omega arith) h in
-    ap (λ u. Some (NestEntry (number u) (number (rest (rest (decimal n ++ 32 ∷ t)))))) (until-then 32 (decimal n) t w)
-    ∙ ap (λ i. Some (NestEntry i (number (rest (rest (decimal n ++ 32 ∷ t)))))) (number-read n h)
-    ∙ ap (λ u. Some (NestEntry n (number (rest u)))) (behind-then 32 (decimal n) t w)
-    ∙ ap (λ i. Some (NestEntry n i)) (number-read line k)
+    let w = number_read-lacks 32 n (omega arith) h in
+    ap (λ u. Some (NestEntry (number_read u) (number_read (rest (rest (decimal n ++ 32 ∷ t)))))) (until-then 32 (decimal n) t w)
+    ∙ ap (λ i. Some (NestEntry i (number_read (rest (rest (decimal n ++ 32 ∷ t)))))) (number_read-is n h)
+    ∙ ap (λ u. Some (NestEntry n (number_read (rest u)))) (rest_behind-then 32 (decimal n) t w)
+    ∙ ap (λ i. Some (NestEntry n i)) (number_read-is line k)
 
 loop-end : (trip : List ℕ) (outer : ℕ) → trip ++ (codes " IN " ++ decimal outer) ≡ (trip ++ codes " IN") ++ (32 ∷ decimal outer)
 loop-end trip outer = sym (append_assoc trip (codes " IN") (32 ∷ decimal outer))
@@ -242,23 +242,23 @@ loop-read n x trip outer h w k =
     let t2 = codes "TRIP " ++ u in
     let t1 = x ++ (32 ∷ t2) in
     let t = decimal n ++ (32 ∷ t1) in
-    let v = number-lacks 32 n (omega arith) h in
-    let o = number-lacks 32 outer (omega arith) k in
-    let r1 : rest t ≡ t1 = behind-then 32 (decimal n) t1 v in
-    let r2 : rest (rest t) ≡ t2 = ap rest r1 ∙ behind-then 32 x t2 w in
+    let v = number_read-lacks 32 n (omega arith) h in
+    let o = number_read-lacks 32 outer (omega arith) k in
+    let r1 : rest t ≡ t1 = rest_behind-then 32 (decimal n) t1 v in
+    let r2 : rest (rest t) ≡ t2 = ap rest r1 ∙ rest_behind-then 32 x t2 w in
     let r3 : rest (rest (rest t)) ≡ u = ap rest r2 in
     let b : before_last (before_last (rest (rest (rest t)))) ≡ trip =
     ap (λ e. before_last (before_last e)) (r3 ∙ loop-end trip outer)
     ∙ ap before_last (before-last (trip ++ codes " IN") (decimal outer) o)
     ∙ before-last trip (codes "IN") (refl, (refl, tt)) in
-    let l : number (last_word (rest (rest (rest t)))) ≡ outer =
-    ap (λ e. number (last_word e)) (r3 ∙ loop-end trip outer)
-    ∙ ap number (last-word (trip ++ codes " IN") (decimal outer) o) ∙ number-read outer k in
-    let m : number (word t) ≡ n = ap number (until-then 32 (decimal n) t1 v) ∙ number-read n h in
+    let l : number_read (last_word (rest (rest (rest t)))) ≡ outer =
+    ap (λ e. number_read (last_word e)) (r3 ∙ loop-end trip outer)
+    ∙ ap number_read (last-word (trip ++ codes " IN") (decimal outer) o) ∙ number_read-is outer k in
+    let m : number_read (word t) ≡ n = ap number_read (until-then 32 (decimal n) t1 v) ∙ number_read-is n h in
     let y : word (rest t) ≡ x = ap word r1 ∙ until-then 32 x t2 w in
-    ap (λ i. Some (LoopEntry i (word (rest t)) (before_last (before_last (rest (rest (rest t))))) (number (last_word (rest (rest (rest t))))))) m
-    ∙ ap (λ z. Some (LoopEntry n z (before_last (before_last (rest (rest (rest t))))) (number (last_word (rest (rest (rest t))))))) y
-    ∙ ap (λ z. Some (LoopEntry n x z (number (last_word (rest (rest (rest t))))))) b
+    ap (λ i. Some (LoopEntry i (word (rest t)) (before_last (before_last (rest (rest (rest t))))) (number_read (last_word (rest (rest (rest t))))))) m
+    ∙ ap (λ z. Some (LoopEntry n z (before_last (before_last (rest (rest (rest t))))) (number_read (last_word (rest (rest (rest t))))))) y
+    ∙ ap (λ z. Some (LoopEntry n x z (number_read (last_word (rest (rest (rest t))))))) b
     ∙ ap (λ i. Some (LoopEntry n x trip i)) l
 
 statement-entry-read : (s : ℕ) (loops : List ℕ) (text : List ℕ) → IsSmall s → AllByRecursion IsSmall loops
@@ -267,13 +267,13 @@ statement-entry-read s loops text h hs =
     let t1 = tuple_text decimal loops ++ (32 ∷ text) in
     let t = statement_name s ++ (32 ∷ t1) in
     let v = statement-lacks 32 s (omega arith) h in
-    let r1 : rest t ≡ t1 = behind-then 32 (statement_name s) t1 v in
-    let m : statement_number (word t) ≡ s = ap statement_number (until-then 32 (statement_name s) t1 v) ∙ statement-read s h in
-    let n : tuple number (word (rest t)) ≡ loops =
-    ap (λ u. tuple number (word u)) r1 ∙ ap (tuple number) (until-then 32 (tuple_text decimal loops) text (numbers-lack loops hs))
+    let r1 : rest t ≡ t1 = rest_behind-then 32 (statement_name s) t1 v in
+    let m : statement_number_read (word t) ≡ s = ap statement_number_read (until-then 32 (statement_name s) t1 v) ∙ statement-read s h in
+    let n : tuple number_read (word (rest t)) ≡ loops =
+    ap (λ u. tuple number_read (word u)) r1 ∙ ap (tuple number_read) (until-then 32 (tuple_text decimal loops) text (numbers-lack loops hs))
     ∙ numbers-read loops hs in
-    let z : rest (rest t) ≡ text = ap rest r1 ∙ behind-then 32 (tuple_text decimal loops) text (numbers-lack loops hs) in
-    ap (λ i. Some (StatementEntry i (tuple number (word (rest t))) (rest (rest t)))) m
+    let z : rest (rest t) ≡ text = ap rest r1 ∙ rest_behind-then 32 (tuple_text decimal loops) text (numbers-lack loops hs) in
+    ap (λ i. Some (StatementEntry i (tuple number_read (word (rest t))) (rest (rest t)))) m
     ∙ ap (λ ns. Some (StatementEntry s ns (rest (rest t)))) n
     ∙ ap (λ u. Some (StatementEntry s loops u)) z
 
@@ -282,8 +282,8 @@ drop-read : (d : Dependence) (test : Test) → IsListableDependence d
 drop-read d test h =
     let t = with_more d (test_word test) in
     ap drop_in (flat-dependence d (test_word test))
-    ∙ ap (λ k. drop_with t k (named test_word tests (behind_dependence t))) (kind-in d (test_word test) h)
-    ∙ ap (λ u. drop_with t (Some d.kind) (named test_word tests u)) (fields d (test_word test) h).last
+    ∙ ap (λ k. drop_with t k (value_with_text test_word tests (behind_dependence t))) (kind-in d (test_word test) h)
+    ∙ ap (λ u. drop_with t (Some d.kind) (value_with_text test_word tests u)) (fields d (test_word test) h).last
     ∙ ap (drop_with t (Some d.kind)) (test-read test)
     ∙ ap (λ e. Some (DropEntry e test)) (dependence-read d (test_word test) h)
 
@@ -295,17 +295,17 @@ edge-read d k test pair h small p =
     let m = level_text k ++ (32 ∷ m1) in
     let t = with_more d m in
     let b = (fields d m h).last in
-    let r1 : rest (behind_dependence t) ≡ m1 = ap rest b ∙ behind-then 32 (level_text k) m1 (level-lacks k small) in
-    let v : level (word (behind_dependence t)) ≡ k =
-    ap (λ u. level (word u)) b ∙ ap level (until-then 32 (level_text k) m1 (level-lacks k small)) ∙ level-read k small in
-    let w : named test_word tests (word (rest (behind_dependence t))) ≡ Some test =
-    ap (λ u. named test_word tests (word u)) r1 ∙ ap (named test_word tests) (until-then 32 (test_word test) m2 (test-lacks test)) ∙ test-read test in
+    let r1 : rest (behind_dependence t) ≡ m1 = ap rest b ∙ rest_behind-then 32 (level_text k) m1 (level_read-lacks k small) in
+    let v : level_read (word (behind_dependence t)) ≡ k =
+    ap (λ u. level_read (word u)) b ∙ ap level_read (until-then 32 (level_text k) m1 (level_read-lacks k small)) ∙ level_read-is k small in
+    let w : value_with_text test_word tests (word (rest (behind_dependence t))) ≡ Some test =
+    ap (λ u. value_with_text test_word tests (word u)) r1 ∙ ap (value_with_text test_word tests) (until-then 32 (test_word test) m2 (test-lacks test)) ∙ test-read test in
     let z : meeting (rest (rest (behind_dependence t))) ≡ pair =
-    ap (λ u. meeting (rest u)) r1 ∙ ap meeting (behind-then 32 (test_word test) m2 (test-lacks test)) ∙ meeting-read pair p in
+    ap (λ u. meeting (rest u)) r1 ∙ ap meeting (rest_behind-then 32 (test_word test) m2 (test-lacks test)) ∙ meeting-read pair p in
     ap edge_in (flat-dependence d m)
-    ∙ ap (λ o. edge_with t o (named test_word tests (word (rest (behind_dependence t))))) (kind-in d m h)
-    ∙ ap (edge_with t (Some d.kind)) w
-    ∙ ap (λ e. Some (EdgeEntry e (level (word (behind_dependence t))) test (meeting (rest (rest (behind_dependence t)))))) (dependence-read d m h)
+    ∙ ap (λ o. edge_read t o (value_with_text test_word tests (word (rest (behind_dependence t))))) (kind-in d m h)
+    ∙ ap (edge_read t (Some d.kind)) w
+    ∙ ap (λ e. Some (EdgeEntry e (level_read (word (behind_dependence t))) test (meeting (rest (rest (behind_dependence t)))))) (dependence-read d m h)
     ∙ ap (λ i. Some (EdgeEntry d i test (meeting (rest (rest (behind_dependence t)))))) v
     ∙ ap (λ o. Some (EdgeEntry d k test o)) z
 
@@ -315,41 +315,41 @@ hold-read h k =
     let t1 = decimal h.level ++ (32 ∷ hold_word h.reason) in
     let t = statement_name h.stmt ++ (32 ∷ t1) in
     let v = statement-lacks 32 h.stmt (omega arith) k.statement in
-    let l = number-lacks 32 h.level (omega arith) k.level in
-    let r1 : rest t ≡ t1 = behind-then 32 (statement_name h.stmt) t1 v in
-    let m : statement_number (word t) ≡ h.stmt = ap statement_number (until-then 32 (statement_name h.stmt) t1 v) ∙ statement-read h.stmt k.statement in
-    let n : number (word (rest t)) ≡ h.level =
-    ap (λ u. number (word u)) r1 ∙ ap number (until-then 32 (decimal h.level) (hold_word h.reason) l) ∙ number-read h.level k.level in
-    let z : named hold_word reasons (rest (rest t)) ≡ Some h.reason =
-    ap (λ u. named hold_word reasons (rest u)) r1
-    ∙ ap (named hold_word reasons) (behind-then 32 (decimal h.level) (hold_word h.reason) l) ∙ reason-read h.reason in
-    ap (hold_with t) z
-    ∙ ap (λ i. Some (HoldEntry (record { stmt = i; level = number (word (rest t)); reason = h.reason }))) m
+    let l = number_read-lacks 32 h.level (omega arith) k.level in
+    let r1 : rest t ≡ t1 = rest_behind-then 32 (statement_name h.stmt) t1 v in
+    let m : statement_number_read (word t) ≡ h.stmt = ap statement_number_read (until-then 32 (statement_name h.stmt) t1 v) ∙ statement-read h.stmt k.statement in
+    let n : number_read (word (rest t)) ≡ h.level =
+    ap (λ u. number_read (word u)) r1 ∙ ap number_read (until-then 32 (decimal h.level) (hold_word h.reason) l) ∙ number_read-is h.level k.level in
+    let z : value_with_text hold_word hold_reasons (rest (rest t)) ≡ Some h.reason =
+    ap (λ u. value_with_text hold_word hold_reasons (rest u)) r1
+    ∙ ap (value_with_text hold_word hold_reasons) (rest_behind-then 32 (decimal h.level) (hold_word h.reason) l) ∙ reason-read h.reason in
+    ap (hold_read t) z
+    ∙ ap (λ i. Some (HoldEntry (record { stmt = i; level = number_read (word (rest t)); reason = h.reason }))) m
     ∙ ap (λ i. Some (HoldEntry (record { stmt = h.stmt; level = i; reason = h.reason }))) n
 
 cycle-read : (k : ℕ) (ss : List ℕ) → IsSmall k → AllByRecursion IsSmall ss → cycle_in (decimal k ++ walk_text ss) ≡ Some (CycleEntry k ss)
 cycle-read k [] h hs =
-    let v = number-lacks 32 k (omega arith) h in
+    let v = number_read-lacks 32 k (omega arith) h in
     ap cycle_in (append-nil (decimal k))
-    ∙ ap (λ u. Some (CycleEntry (number u) (walk_in (rest (decimal k))))) (until-all 32 (decimal k) v)
-    ∙ ap (λ i. Some (CycleEntry i (walk_in (rest (decimal k))))) (number-read k h)
-    ∙ ap (λ u. Some (CycleEntry k (walk_in u))) (behind-all 32 (decimal k) v)
+    ∙ ap (λ u. Some (CycleEntry (number_read u) (walk_in (rest (decimal k))))) (until-all 32 (decimal k) v)
+    ∙ ap (λ i. Some (CycleEntry i (walk_in (rest (decimal k))))) (number_read-is k h)
+    ∙ ap (λ u. Some (CycleEntry k (walk_in u))) (rest_behind-all 32 (decimal k) v)
 cycle-read k (s ∷ ss) h hs =
-    let v = number-lacks 32 k (omega arith) h in
+    let v = number_read-lacks 32 k (omega arith) h in
     let t1 = statement_name s ++ flat_map (λ y. 32 ∷ statement_name y) ss in
-    ap (λ u. Some (CycleEntry (number u) (walk_in (rest (decimal k ++ 32 ∷ t1))))) (until-then 32 (decimal k) t1 v)
-    ∙ ap (λ i. Some (CycleEntry i (walk_in (rest (decimal k ++ 32 ∷ t1))))) (number-read k h)
-    ∙ ap (λ u. Some (CycleEntry k (walk_in u))) (behind-then 32 (decimal k) t1 v)
+    ap (λ u. Some (CycleEntry (number_read u) (walk_in (rest (decimal k ++ 32 ∷ t1))))) (until-then 32 (decimal k) t1 v)
+    ∙ ap (λ i. Some (CycleEntry i (walk_in (rest (decimal k ++ 32 ∷ t1))))) (number_read-is k h)
+    ∙ ap (λ u. Some (CycleEntry k (walk_in u))) (rest_behind-then 32 (decimal k) t1 v)
     ∙ ap (λ us. Some (CycleEntry k us))
-    (split-list 32 statement_name statement_number s ss (statement-between 32 s (omega arith) hs.0)
+    (split-list 32 statement_name statement_number_read s ss (statement-between 32 s (omega arith) hs.0)
     (each (λ i small. statement-between 32 i (omega arith) small) ss hs.1))
 
 keep-read : (line : ℕ) (reason : List ℕ) → IsSmall line → keep_in (decimal line ++ (32 ∷ reason)) ≡ Some (KeepEntry line reason)
 keep-read line reason h =
-    let v = number-lacks 32 line (omega arith) h in
-    ap (λ u. Some (KeepEntry (number u) (rest (decimal line ++ 32 ∷ reason)))) (until-then 32 (decimal line) reason v)
-    ∙ ap (λ i. Some (KeepEntry i (rest (decimal line ++ 32 ∷ reason)))) (number-read line h)
-    ∙ ap (λ u. Some (KeepEntry line u)) (behind-then 32 (decimal line) reason v)
+    let v = number_read-lacks 32 line (omega arith) h in
+    ap (λ u. Some (KeepEntry (number_read u) (rest (decimal line ++ 32 ∷ reason)))) (until-then 32 (decimal line) reason v)
+    ∙ ap (λ i. Some (KeepEntry i (rest (decimal line ++ 32 ∷ reason)))) (number_read-is line h)
+    ∙ ap (λ u. Some (KeepEntry line u)) (rest_behind-then 32 (decimal line) reason v)
 
 pub entry-is-read : EntryIsRead
 unfolding entry_text

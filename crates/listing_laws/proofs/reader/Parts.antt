@@ -6,7 +6,7 @@ use Rattle.std.proofs.lemmas.List.{append-nil, length-append, reverse-append}
 use Rattle.std.specs.List.{AllByRecursion, flat_map}
 use Rattle.listing.specs.graphs.Lines.{tuple_text}
 use Rattle.listing_laws.specs.reader.Listable.{Lacks, IsWord}
-use Rattle.listing_laws.specs.reader.Reader.{until, behind, last_word, before_last, onto, split, or_nothing, inner, tuple}
+use Rattle.listing_laws.specs.reader.Reader.{until, rest_behind, last_word, before_last, onto, split, or_nothing, inner, tuple}
 
 pub same : (c : ℕ) → (c == c) ≡ true
 same c = grind (arith, nat_tests)
@@ -19,13 +19,13 @@ pub until-all : (c : ℕ) (w : List ℕ) → Lacks c w → until c w ≡ w
 until-all c [] h = refl
 until-all c (x ∷ w) h = ap (λ b. if b then [] else x ∷ until c w) h.0 ∙ ap (λ u. x ∷ u) (until-all c w h.1)
 
-pub behind-then : (c : ℕ) (w t : List ℕ) → Lacks c w → behind c (w ++ c ∷ t) ≡ t
-behind-then c [] t h = ap (λ b. if b then t else behind c t) (same c)
-behind-then c (x ∷ w) t h = ap (λ b. if b then w ++ c ∷ t else behind c (w ++ c ∷ t)) h.0 ∙ behind-then c w t h.1
+pub rest_behind-then : (c : ℕ) (w t : List ℕ) → Lacks c w → rest_behind c (w ++ c ∷ t) ≡ t
+rest_behind-then c [] t h = ap (λ b. if b then t else rest_behind c t) (same c)
+rest_behind-then c (x ∷ w) t h = ap (λ b. if b then w ++ c ∷ t else rest_behind c (w ++ c ∷ t)) h.0 ∙ rest_behind-then c w t h.1
 
-pub behind-all : (c : ℕ) (w : List ℕ) → Lacks c w → behind c w ≡ []
-behind-all c [] h = refl
-behind-all c (x ∷ w) h = ap (λ b. if b then w else behind c w) h.0 ∙ behind-all c w h.1
+pub rest_behind-all : (c : ℕ) (w : List ℕ) → Lacks c w → rest_behind c w ≡ []
+rest_behind-all c [] h = refl
+rest_behind-all c (x ∷ w) h = ap (λ b. if b then w else rest_behind c w) h.0 ∙ rest_behind-all c w h.1
 
 pub split-then : (c : ℕ) (w t : List ℕ) → Lacks c w → split c (w ++ c ∷ t) ≡ w ∷ split c t
 split-then c [] t h = ap (λ b. if b then [] ∷ split c t else onto c (split c t)) (same c)
@@ -63,8 +63,8 @@ last-word a w h =
 
 pub before-last : (a w : List ℕ) → IsWord w → before_last (a ++ 32 ∷ w) ≡ a
 before-last a w h =
-    ap (λ u. reverse (behind 32 u)) (turned a w)
-    ∙ ap reverse (behind-then 32 (reverse w) (reverse a) (lacks-reverse 32 w h)) ∙ reverse-twice a
+    ap (λ u. reverse (rest_behind 32 u)) (turned a w)
+    ∙ ap reverse (rest_behind-then 32 (reverse w) (reverse a) (lacks-reverse 32 w h)) ∙ reverse-twice a
 
 -- ---- lists
 

@@ -3,30 +3,30 @@ use Rattle.std.proofs.Common.{◌≡◌, ℕ, zero, suc, ◌==◌, true, false, 
 use Rattle.std.proofs.lemmas.List.{append-nil, take-append-drop}
 use Rattle.std.specs.List.{AllByRecursion}
 use Rattle.listing.specs.graphs.Lines.{Entry, NestEntry, LoopEntry, StatementEntry, EdgeEntry, DropEntry, HoldEntry, CycleEntry, KeepEntry, entry_text}
-use Rattle.listing.specs.graphs.Listing.{pieces, lines_from, lines_of_entry, lines_of_entries}
+use Rattle.listing.specs.graphs.Listing.{line_pieces, lines_from, lines_of_entry, lines_of_entries}
 use Rattle.listing_laws.specs.reader.Laws.{ListingIsRead}
 use Rattle.listing_laws.specs.reader.Listable.{IsListable}
 use Rattle.listing_laws.specs.reader.Reader.{more_of, texts_of, read_entry}
 use Rattle.listing_laws.proofs.reader.Entries.{entry-is-read}
 
-more-further : (n : ℕ) (t : List ℕ) (rest : List (List ℕ)) → more_of (pieces (codes "!G + ") n t ++ rest) ≡ t ++ more_of rest
+more-further : (n : ℕ) (t : List ℕ) (rest : List (List ℕ)) → more_of (line_pieces (codes "!G + ") n t ++ rest) ≡ t ++ more_of rest
 more-further zero t rest = refl
 more-further (suc n) t rest =
     ap (λ u. take 120 t ++ u) (more-further n (drop 120 t) rest) ∙ sym (append_assoc (take 120 t) (drop 120 t) (more_of rest))
     ∙ ap (λ u. u ++ more_of rest) (take-append-drop 120 t)
 
-texts-further : (n : ℕ) (t : List ℕ) (rest : List (List ℕ)) → texts_of (pieces (codes "!G + ") n t ++ rest) ≡ texts_of rest
+texts-further : (n : ℕ) (t : List ℕ) (rest : List (List ℕ)) → texts_of (line_pieces (codes "!G + ") n t ++ rest) ≡ texts_of rest
 texts-further zero t rest = refl
 texts-further (suc n) t rest = texts-further n (drop 120 t) rest
 
 -- a text that begins with another sign
 first-text : (c : ℕ) (u : List ℕ) (n : ℕ) (rest : List (List ℕ)) → (c == 43) ≡ false → more_of rest ≡ []
-    → texts_of (pieces (codes "!G ") n (c ∷ u) ++ rest) ≡ (c ∷ u) ∷ texts_of rest
+    → texts_of (line_pieces (codes "!G ") n (c ∷ u) ++ rest) ≡ (c ∷ u) ∷ texts_of rest
 first-text c u zero rest h k =
     ap (λ b. if (b && true) then texts_of rest else ((c ∷ u) ++ more_of rest) ∷ texts_of rest) h
     ∙ ap (λ m. ((c ∷ u) ++ m) ∷ texts_of rest) k ∙ ap (λ t. t ∷ texts_of rest) (append-nil (c ∷ u))
 first-text c u (suc n) rest h k =
-    let others = pieces (codes "!G + ") n (drop 120 (c ∷ u)) ++ rest in
+    let others = line_pieces (codes "!G + ") n (drop 120 (c ∷ u)) ++ rest in
     ap (λ b. if (b && true) then texts_of others else (take 120 (c ∷ u) ++ more_of others) ∷ texts_of others) h
     ∙ ap (λ m. (take 120 (c ∷ u) ++ m) ∷ texts_of others) (more-further n (drop 120 (c ∷ u)) rest ∙ ap (λ m. drop 120 (c ∷ u) ++ m) k)
     ∙ ap (λ m. (take 120 (c ∷ u) ++ m) ∷ texts_of others) (append-nil (drop 120 (c ∷ u)))
@@ -34,10 +34,10 @@ first-text c u (suc n) rest h k =
     ∙ ap (λ ts. (c ∷ u) ∷ ts) (texts-further n (drop 120 (c ∷ u)) rest)
 
 first-adds-nothing : (c : ℕ) (u : List ℕ) (n : ℕ) (rest : List (List ℕ)) → (c == 43) ≡ false
-    → more_of (pieces (codes "!G ") n (c ∷ u) ++ rest) ≡ []
+    → more_of (line_pieces (codes "!G ") n (c ∷ u) ++ rest) ≡ []
 first-adds-nothing c u zero rest h = ap (λ b. if (b && true) then drop 2 (c ∷ u) ++ more_of rest else []) h
 first-adds-nothing c u (suc n) rest h =
-    ap (λ b. if (b && true) then drop 2 (take 120 (c ∷ u)) ++ more_of (pieces (codes "!G + ") n (drop 120 (c ∷ u)) ++ rest) else []) h
+    ap (λ b. if (b && true) then drop 2 (take 120 (c ∷ u)) ++ more_of (line_pieces (codes "!G + ") n (drop 120 (c ∷ u)) ++ rest) else []) h
 
 -- ---- entries begin with a letter
 

@@ -10,15 +10,15 @@ use Rattle.closed_walks.specs.Cycles.{AreCycles, StandIn}
 use Rattle.closed_walks.specs.Walks.{IsClosedWalk}
 use Rattle.components.proofs.ListLaws.{Each-In, Pairwise-filter}
 use Rattle.components.proofs.Unique.{order_is_unique}
-use Rattle.components.specs.Emission.{statements_of}
-use Rattle.components.specs.Lists.{Distinct, In}
+use Rattle.components.specs.Emission.{statements_of_classes}
+use Rattle.components.specs.Lists.{Distinct, IsMember}
 use Rattle.components.specs.Reachability.{SamePairs}
 use Rattle.dependence_graph.specs.declared.graphs.Cycle.{Cycle}
 use Rattle.dependence_graph.specs.declared.graphs.Edge.{Edge}
 use Rattle.dependence_graph.specs.declared.graphs.Hold.{Hold}
 use Rattle.emission.proofs.EmissionCauses.Causes.{stand_among_numbers}
 use Rattle.emission.proofs.EmissionMarks.Lists.{from_distinct, range_once}
-use Rattle.emission.specs.emission_pieces.Cycles.{AreCyclesAmong, AreCyclesIn, cycle_at, stands_among, stands_in, statements_among, steps_of}
+use Rattle.emission.specs.emission_pieces.Cycles.{AreCyclesAmong, AreCyclesIn, cycle_at, stands_among, stands_in_piece, statements_among, steps_of}
 use Rattle.emission.specs.emission_pieces.Emission.{AreEmittedFor, IsEmittedFor}
 use Rattle.emission.specs.emission_pieces.Levels.{AreComponents, ArePairsAt}
 use Rattle.emission.specs.emission_pieces.Nests.{loops_at}
@@ -34,33 +34,33 @@ HasWalk pairs s = (over : List ℕ) × IsClosedWalk pairs s over
 
 -- of distinct numbers, those from which a closed walk leads
 one_start : (pairs : List (ℕ × ℕ)) (ns xs ys : List ℕ) → Distinct ns → StandIn xs ns → StandIn ys ns
-    → ((s : ℕ) → In s ns → HasWalk pairs s → In s xs) → ((s : ℕ) → In s ns → HasWalk pairs s → In s ys)
-    → ((s : ℕ) → In s xs → HasWalk pairs s) → ((s : ℕ) → In s ys → HasWalk pairs s) → xs ≡ ys
+    → ((s : ℕ) → IsMember s ns → HasWalk pairs s → IsMember s xs) → ((s : ℕ) → IsMember s ns → HasWalk pairs s → IsMember s ys)
+    → ((s : ℕ) → IsMember s xs → HasWalk pairs s) → ((s : ℕ) → IsMember s ys → HasWalk pairs s) → xs ≡ ys
 one_start pairs [] xs ys d a b f g v w = a ∙ sym b
 one_start pairs (n ∷ ns) xs ys d a b f g v w = by a b (one_start pairs ns)
   where
-    no : In n ns → ⊥
+    no : IsMember n ns → ⊥
     no i = Each-In (λ y. ¬ (n ≡ y)) ns d.0 n i refl
 
     -- behind n
-    left : (us rest : List ℕ) → us ≡ n ∷ rest → ((s : ℕ) → In s (n ∷ ns) → HasWalk pairs s → In s us)
-        → (s : ℕ) → In s ns → HasWalk pairs s → In s rest
-    left us rest e h s i k = to (subst (In s) e (h s (inr i) k))
+    left : (us rest : List ℕ) → us ≡ n ∷ rest → ((s : ℕ) → IsMember s (n ∷ ns) → HasWalk pairs s → IsMember s us)
+        → (s : ℕ) → IsMember s ns → HasWalk pairs s → IsMember s rest
+    left us rest e h s i k = to (subst (IsMember s) e (h s (inr i) k))
       where
-        to : (s ≡ n) ⊎ In s rest → In s rest
-        to (inl same) = absurd (no (subst (λ r. In r ns) same i))
+        to : (s ≡ n) ⊎ IsMember s rest → IsMember s rest
+        to (inl same) = absurd (no (subst (λ r. IsMember r ns) same i))
         to (inr j) = j
 
-    first : (us rest : List ℕ) → us ≡ n ∷ rest → In n us
-    first us rest e = subst (In n) (sym e) (inl refl)
+    first : (us rest : List ℕ) → us ≡ n ∷ rest → IsMember n us
+    first us rest e = subst (IsMember n) (sym e) (inl refl)
 
-    more : (us rest : List ℕ) → us ≡ n ∷ rest → (s : ℕ) → In s rest → In s us
-    more us rest e s i = subst (In s) (sym e) (inr i)
+    more : (us rest : List ℕ) → us ≡ n ∷ rest → (s : ℕ) → IsMember s rest → IsMember s us
+    more us rest e s i = subst (IsMember s) (sym e) (inr i)
 
     by : StandIn xs (n ∷ ns) → StandIn ys (n ∷ ns)
         → ((us vs : List ℕ) → Distinct ns → StandIn us ns → StandIn vs ns
-        → ((s : ℕ) → In s ns → HasWalk pairs s → In s us) → ((s : ℕ) → In s ns → HasWalk pairs s → In s vs)
-        → ((s : ℕ) → In s us → HasWalk pairs s) → ((s : ℕ) → In s vs → HasWalk pairs s) → us ≡ vs)
+        → ((s : ℕ) → IsMember s ns → HasWalk pairs s → IsMember s us) → ((s : ℕ) → IsMember s ns → HasWalk pairs s → IsMember s vs)
+        → ((s : ℕ) → IsMember s us → HasWalk pairs s) → ((s : ℕ) → IsMember s vs → HasWalk pairs s) → us ≡ vs)
         → xs ≡ ys
     by (inl h) (inl k) again = again xs ys d.1 h k (λ s i. f s (inr i)) (λ s i. g s (inr i)) v w
     by (inl h) (inr k) again = absurd (no (stand_among_numbers xs ns h n (f n (inl refl) (w n (first ys k.0 k.1)))))
@@ -73,16 +73,16 @@ one_start pairs (n ∷ ns) xs ys d a b f g v w = by a b (one_start pairs ns)
         ∙ sym k.1)
 
 -- each start has its walk
-each_walk : (pairs : List (ℕ × ℕ)) (starts : List ℕ) (us : List (List ℕ)) → walks.AreCyclesOf pairs starts us
-    → (s : ℕ) → In s starts → HasWalk pairs s
+each_walk : (pairs : List (ℕ × ℕ)) (starts : List ℕ) (us : List (List ℕ)) → walks.AreLeastWalksOf pairs starts us
+    → (s : ℕ) → IsMember s starts → HasWalk pairs s
 each_walk pairs [] us h s i = absurd i
 each_walk pairs (r ∷ starts) [] h s i = absurd h
 each_walk pairs (r ∷ starts) ([] ∷ us) h s i = absurd h.0
 each_walk pairs (r ∷ starts) ((a ∷ over) ∷ us) h s (inl e) = (over, subst (λ q. IsClosedWalk pairs q over) (sym e) h.0.1.closed)
 each_walk pairs (r ∷ starts) ((a ∷ over) ∷ us) h s (inr i) = each_walk pairs starts us h.1 s i
 
-one_each : (pairs : List (ℕ × ℕ)) (starts : List ℕ) (us vs : List (List ℕ)) → walks.AreCyclesOf pairs starts us
-    → walks.AreCyclesOf pairs starts vs → us ≡ vs
+one_each : (pairs : List (ℕ × ℕ)) (starts : List ℕ) (us vs : List (List ℕ)) → walks.AreLeastWalksOf pairs starts us
+    → walks.AreLeastWalksOf pairs starts vs → us ≡ vs
 one_each pairs [] [] [] h k = refl
 one_each pairs [] [] (v ∷ vs) h k = absurd k
 one_each pairs [] (u ∷ us) vs h k = absurd h
@@ -100,7 +100,7 @@ one_walks : (pairs : List (ℕ × ℕ)) (ns : List ℕ) (us vs : List (List ℕ)
 one_walks pairs ns us vs d h k =
     let same : h.starts ≡ k.starts = one_start pairs ns h.starts k.starts d h.among k.among (λ s i w. h.all s w.0 i w.1)
     (λ s i w. k.all s w.0 i w.1) (each_walk pairs h.starts us h.each) (each_walk pairs k.starts vs k.each) in
-    one_each pairs k.starts us vs (subst (λ ss. walks.AreCyclesOf pairs ss us) same h.each) k.each
+    one_each pairs k.starts us vs (subst (λ ss. walks.AreLeastWalksOf pairs ss us) same h.each) k.each
 
 -- ---- pieces
 
@@ -124,12 +124,12 @@ module _ (n : Nest) (edges : List Edge) (holds : List Hold) where
   one_classes : (k : ℕ) (part : List ℕ) (cs ds : List (List ℕ)) → AreComponents edges k part cs → AreComponents edges k part ds → cs ≡ ds
   one_classes k part cs ds h g =
       h.statements
-      ∙ (ap (statements_of part)
+      ∙ (ap (statements_of_classes part)
       (order_is_unique h.pairs g.pairs (same_pairs k part h.pairs g.pairs h.paired g.paired) (length part) h.places g.places h.order g.order)
       ∙ sym g.statements)
 
-  one_of : (s r : ℕ) (c : List ℕ) → c ≡ s ∷ [] → In r c → r ≡ s
-  one_of s r c e i = to (subst (In r) e i)
+  one_of : (s r : ℕ) (c : List ℕ) → c ≡ s ∷ [] → IsMember r c → r ≡ s
+  one_of s r c e i = to (subst (IsMember r) e i)
     where
       to : (r ≡ s) ⊎ ⊥ → r ≡ s
       to (inl same) = same
@@ -147,19 +147,19 @@ module _ (n : Nest) (edges : List Edge) (holds : List Hold) where
 
   mutual
     alike : (k : ℕ) (c : List ℕ) (p q : Piece) → 1 ≤ k → IsEmittedFor n edges holds k c p → IsEmittedFor n edges holds k c q → IsAlike p q
-    alike k c (Kept s) (Kept r) some h g = one_of r s c g.0 (subst (In s) (sym h.0) (inl refl))
+    alike k c (Kept s) (Kept r) some h g = one_of r s c g.0 (subst (IsMember s) (sym h.0) (inl refl))
     alike k c (Kept s) (Formed r) some h g =
-        let same : r ≡ s = one_of s r c h.0 (subst (In r) (sym g.0) (inl refl)) in
+        let same : r ≡ s = one_of s r c h.0 (subst (IsMember r) (sym g.0) (inl refl)) in
         let few : length (loops_at n s) < k = h.1 in
         let most : k ≤ length (loops_at n s) = subst (λ q. k ≤ length (loops_at n q)) same g.1 in absurd (omega (arith, few, most))
     alike k c (Kept s) (Turning m qs) some h g =
         let few : length (loops_at n s) < k = h.1 in
         let most = has_loop k s g.0.statement m some (one_of s g.0.statement c h.0 g.0.among) g.0.loop in absurd (omega (arith, few, most))
     alike k c (Formed s) (Kept r) some h g =
-        let same : s ≡ r = one_of r s c g.0 (subst (In s) (sym h.0) (inl refl)) in
+        let same : s ≡ r = one_of r s c g.0 (subst (IsMember s) (sym h.0) (inl refl)) in
         let few : length (loops_at n r) < k = g.1 in
         let most : k ≤ length (loops_at n r) = subst (λ q. k ≤ length (loops_at n q)) same h.1 in absurd (omega (arith, few, most))
-    alike k c (Formed s) (Formed r) some h g = one_of r s c g.0 (subst (In s) (sym h.0) (inl refl))
+    alike k c (Formed s) (Formed r) some h g = one_of r s c g.0 (subst (IsMember s) (sym h.0) (inl refl))
     alike k c (Formed s) (Turning m qs) some h g = absurd (both_ways _ h.2 (g.1 s h.0))
     alike k c (Turning l ps) (Kept r) some h g =
         let few : length (loops_at n r) < k = g.1 in
@@ -181,7 +181,7 @@ module _ (n : Nest) (edges : List Edge) (holds : List Hold) where
 -- ---- cycles
 
 mutual
-  same_in : (s : ℕ) (p q : Piece) → IsAlike p q → stands_in s p ≡ stands_in s q
+  same_in : (s : ℕ) (p q : Piece) → IsAlike p q → stands_in_piece s p ≡ stands_in_piece s q
   same_in s (Kept t) (Kept r) e = ap (λ x. x == s) e
   same_in s (Kept t) (Formed r) e = absurd e
   same_in s (Kept t) (Turning m qs) e = absurd e

@@ -9,7 +9,7 @@ use Rattle.dependence_graph.specs.declared.graphs.Hold.{Hold}
 use Rattle.listing.specs.graphs.Lines.{Entry, HoldEntry}
 use Rattle.listing.specs.graphs.Listing.{answer_entry, cycle_entry, drop_entry, edge_entry, hold_entries, loop_entries, loop_entries_in}
 use Rattle.listing.specs.graphs.Listing.{loop_entries_under, loop_entry, statement_entries, statement_entry}
-use Rattle.listing.specs.graphs.Order.{Answered, Found, RuledOut, before, comes_before, in_order, not_before}
+use Rattle.listing.specs.graphs.Order.{Answered, Found, RuledOut, before, comes_before_edge, entries_in_order, not_before}
 use Rattle.listing_laws.proofs.notes.Printable.{joined}
 use Rattle.nest.specs.Bodies.{Standing}
 use Rattle.nest.specs.Plain.{Branches, Choice, Jump, Label, Loop, Part, Parts, Run, Turns, branch, no_branches, no_parts, part}
@@ -29,7 +29,7 @@ split P (x ∷ xs) ys h = let more = split P xs ys h.1 in ((h.0, more.0), more.1
 -- an edge comes between these drops
 pub parted : (e : Edge) (ds : List Dropped) → before e ds ++ not_before e ds ≡ ds
 parted e [] = refl
-parted e (d ∷ ds) = by (comes_before d e) (parted e ds)
+parted e (d ∷ ds) = by (comes_before_edge d e) (parted e ds)
   where
     by : (b : Bool) → before e ds ++ not_before e ds ≡ ds
         → cond b (d ∷ before e ds) [] ++ cond b (not_before e ds) (d ∷ ds) ≡ d ∷ ds
@@ -88,11 +88,11 @@ module _ (P : Entry → Type 0) where
     with_drops (d ∷ ds) rest h k = (h.0, with_drops ds rest h.1 k)
 
     pub of_answers : (es : List Edge) (ds : List Dropped) → AllByRecursion HasEntry ds
-        → AllByRecursion P (map (answer_entry ts) (in_order es ds))
+        → AllByRecursion P (map (answer_entry ts) (entries_in_order es ds))
     of_answers [] ds h = of_drops ds h
     of_answers (e ∷ es) ds h =
         let c = cut HasEntry e ds h in
-        with_drops (before e ds) (Found e ∷ in_order es (not_before e ds)) c.0 (one e, of_answers es (not_before e ds) c.1)
+        with_drops (before e ds) (Found e ∷ entries_in_order es (not_before e ds)) c.0 (one e, of_answers es (not_before e ds) c.1)
 
 -- ---- what is picked of them
 

@@ -15,8 +15,8 @@ use Rattle.listing_laws.proofs.told_nests.Each.{Gives, each_of, none, of_answers
 use Rattle.listing_laws.proofs.told_nests.Reading.{IsToldDrop, IsToldEdge, IsWithoutPair, drops_read, edges_read, every_drop, every_edge}
 use Rattle.listing_laws.specs.told_nests.Graphs.{drops_told, edges_told, graph_told, statements_told}
 use Rattle.listing_laws.specs.told_nests.Laws.{GraphIsTold}
-use Rattle.listing_laws.specs.told_nests.Nests.{candidate_of}
-use Rattle.listing_laws.specs.told_nests.Parts.{IsPart, begins}
+use Rattle.listing_laws.specs.told_nests.Nests.{candidate_told}
+use Rattle.listing_laws.specs.told_nests.Parts.{IsEntryPart, begins_part}
 use Rattle.meaning_laws.proofs.profiles.Lists.{all_weaker}
 use Rattle.nest.specs.Bodies.{Standing, nest_statements}
 use Rattle.nest.specs.Plain.{Nest}
@@ -32,7 +32,7 @@ numbered s (t ∷ ts) = ap suc (numbered (suc s) ts)
 
 -- what an entry tells that isn't so for no nest: a drop of what has a pair
 abbrev pub IsSound : Nest → Entry → Type 0
-IsSound n (DropEntry d w) = (v : List Dir) → StandsFor d.directions v → HasPair n (candidate_of d v) → ⊥
+IsSound n (DropEntry d w) = (v : List Dir) → StandsFor d.directions v → HasPair n (candidate_told d v) → ⊥
 IsSound n e = Unit {0}
 
 module _ (n : Nest) (number : ℕ) (g : Graph) (hs : List Hold) (cs : List Cycle) where
@@ -103,15 +103,15 @@ module _ (n : Nest) (number : ℕ) (g : Graph) (hs : List Hold) (cs : List Cycle
       joined P loops (statements ++ (arcs ++ last)) a (joined P statements (arcs ++ last) b (joined P arcs last c d))
 
   -- they are one part
-  pub are_part : IsPart (entries_of n number g hs cs)
+  pub are_part : IsEntryPart (entries_of n number g hs cs)
   are_part = (
     refl,
-    each_behind (λ e. begins e ≡ false) (of_loops (λ e. begins e ≡ false) (λ outer l. refl) 0 n.body)
-        (of_statements (λ e. begins e ≡ false) (λ s t. refl) 1 ts)
-        (of_answers (λ e. begins e ≡ false) ts (λ e. refl) g.edges g.dropped
-        (each_of (λ (d : Dropped). begins (drop_entry d) ≡ false) (λ d. refl) g.dropped))
-        (joined (λ e. begins e ≡ false) (hold_entries hs) (map cycle_entry cs)
-        (of_holds (λ e. begins e ≡ false) (λ h. refl) hs) (of_cycles (λ e. begins e ≡ false) (λ c. refl) cs)),
+    each_behind (λ e. begins_part e ≡ false) (of_loops (λ e. begins_part e ≡ false) (λ outer l. refl) 0 n.body)
+        (of_statements (λ e. begins_part e ≡ false) (λ s t. refl) 1 ts)
+        (of_answers (λ e. begins_part e ≡ false) ts (λ e. refl) g.edges g.dropped
+        (each_of (λ (d : Dropped). begins_part (drop_entry d) ≡ false) (λ d. refl) g.dropped))
+        (joined (λ e. begins_part e ≡ false) (hold_entries hs) (map cycle_entry cs)
+        (of_holds (λ e. begins_part e ≡ false) (λ h. refl) hs) (of_cycles (λ e. begins_part e ≡ false) (λ c. refl) cs)),
   )
 
   module _ (is : IsGraphOf n g) where

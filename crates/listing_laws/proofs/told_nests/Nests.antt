@@ -15,7 +15,7 @@ use Rattle.listing_laws.proofs.told_nests.Graphs.{IsSound, are_part, are_sound, 
 use Rattle.listing_laws.specs.told_nests.Graphs.{graph_told}
 use Rattle.listing_laws.specs.told_nests.Laws.{LinesTellNests, NestsAreTold}
 use Rattle.listing_laws.specs.told_nests.Nests.{ToldNest, by_entries, nests_told, parts_told}
-use Rattle.listing_laws.specs.told_nests.Parts.{IsPart}
+use Rattle.listing_laws.specs.told_nests.Parts.{IsEntryPart}
 use Rattle.meaning_laws.proofs.profiles.Lists.{all_at}
 use Rattle.nest.specs.Plain.{Nest}
 
@@ -38,16 +38,16 @@ module _ (n m : Nest) (g : Graph) (es : List Entry) (is : IsGraphOf m g) (h : Ha
     sound = subst (AllByRecursion (IsSound m)) (sym h.entries_are) (are_sound m n.number g (all_holds m) h.cycles is);
   }
 
-  one_part : IsPart es
-  one_part = subst IsPart (sym h.entries_are) (are_part m n.number g (all_holds m) h.cycles)
+  one_part : IsEntryPart es
+  one_part = subst IsEntryPart (sym h.entries_are) (are_part m n.number g (all_holds m) h.cycles)
 
 -- ---- one after the other
 
-part : (counts : Counts) (f : Found) (es : List Entry) → HasEntries counts f es → IsPart es
+part : (counts : Counts) (f : Found) (es : List Entry) → HasEntries counts f es → IsEntryPart es
 part counts (InNest n) es h = one_part n h.0 h.2.0 es h.2.1 h.2.2
-part counts (Kept line r) es h = subst IsPart (sym h) (refl, tt)
+part counts (Kept line r) es h = subst IsEntryPart (sym h) (refl, tt)
 
-parts : (counts : Counts) (fs : List Found) (es : List Entry) (h : HaveEntries counts fs es) → AllByRecursion IsPart (parts_told counts fs es h)
+parts : (counts : Counts) (fs : List Found) (es : List Entry) (h : HaveEntries counts fs es) → AllByRecursion IsEntryPart (parts_told counts fs es h)
 parts counts [] es h = tt
 parts counts (f ∷ fs) es h = (part counts f h.0 h.3, parts (counts_behind counts f h.0 h.3) fs h.1 h.4)
 

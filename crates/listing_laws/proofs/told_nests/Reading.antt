@@ -5,16 +5,16 @@ use Rattle.std.specs.Prelude.{All, ℤ, pos}
 use Rattle.std.proofs.lemmas.List.Elements.{All-head, All-tail}
 use Rattle.dependence_graph.specs.declared.graphs.Dropped.{Dropped}
 use Rattle.dependence_graph.specs.declared.graphs.Edge.{Edge}
-use Rattle.dependence_graph.specs.nest_graph.Arcs.{Answer, Assumed, Couple, Met, Never, Verdict, drop_of, drops_of, edge_of, edge_with}
+use Rattle.dependence_graph.specs.nest_graph.Arcs.{VectorVerdict, Assumed, Couple, Met, Never, Verdict, drop_of, drops_of, edge_of, edge_with}
 use Rattle.dependence_graph.specs.nest_graph.Arcs.{edges_of, in_places, in_point, with_some}
-use Rattle.dependence_graph.specs.nest_graph.Graph.{IsCouple, IsRight, all_drops, all_edges}
+use Rattle.dependence_graph.specs.nest_graph.Graph.{IsCouple, IsRightVerdict, all_drops, all_edges}
 use Rattle.dependence_graph.specs.nest_graph.Instances.{AreTurns, IsInstance}
 use Rattle.dependence_graph.specs.nest_graph.Pair.{HasPair}
 use Rattle.dependence_graph.specs.nest_graph.Tested.{Both, both}
 use Rattle.dependence_graph.specs.nest_graph.Vectors.{StandsFor}
 use Rattle.listing.specs.graphs.Lines.{Entry}
 use Rattle.listing.specs.graphs.Listing.{answer_entry, depth_of, drop_entry, edge_entry}
-use Rattle.listing.specs.graphs.Order.{Answered, Found, RuledOut, before, in_order, not_before}
+use Rattle.listing.specs.graphs.Order.{Answered, Found, RuledOut, before, entries_in_order, not_before}
 use Rattle.listing_laws.proofs.notes.Printable.{joined}
 use Rattle.listing_laws.proofs.told_nests.Each.{cut, parted}
 use Rattle.listing_laws.specs.told_nests.Graphs.{drops_told, edges_told}
@@ -104,10 +104,10 @@ module _ (n : Nest) where
     abbrev of' : Both
     of' = both n c.from c.to is.refs
 
-    abbrev IsRightAnswer : Answer → Type 0
-    IsRightAnswer a = IsRight n c of' a.0 a.1
+    abbrev IsRightAnswer : VectorVerdict → Type 0
+    IsRightAnswer a = IsRightVerdict n c of' a.0 a.1
 
-    edge : (d : List Dir) (v : Verdict) (e : Edge) → IsRight n c of' d v → edge_of c d v ≡ Some e → IsToldEdge e
+    edge : (d : List Dir) (v : Verdict) (e : Edge) → IsRightVerdict n c of' d v → edge_of c d v ≡ Some e → IsToldEdge e
     edge d (Never w) e k g = let no : ⊥ = cc in absurd no
     edge d (Assumed w) e k g = let same : edge_with c d w None ≡ e = cc in subst IsToldEdge same (told_assumed c d w)
     edge d (Met x y w) e k g =
@@ -116,7 +116,7 @@ module _ (n : Nest) where
         (told_met c d w x y (iteration n k.pair.values c.from.stmt x k.pair.first_instance)
         (iteration n k.pair.values c.to.stmt y k.pair.second_instance))
 
-    drop : (d : List Dir) (v : Verdict) (e : Dropped) → IsRight n c of' d v → drop_of c d v ≡ Some e → IsToldDrop e × IsWithoutPair n e
+    drop : (d : List Dir) (v : Verdict) (e : Dropped) → IsRightVerdict n c of' d v → drop_of c d v ≡ Some e → IsToldDrop e × IsWithoutPair n e
     drop d (Met x y w) e k g = let no : ⊥ = cc in absurd no
     drop d (Assumed w) e k g = let no : ⊥ = cc in absurd no
     drop d (Never w) e k g =
@@ -124,13 +124,13 @@ module _ (n : Nest) where
         subst (λ (x : Dropped). IsToldDrop x × IsWithoutPair n x) same
         (told_drop c d w, λ v stands pair. k.without_pair v (subst (λ (u : List Dir). StandsFor u v) (directions d) stands) pair)
 
-    edges : (answers : List Answer) → All IsRightAnswer answers → AllByRecursion IsToldEdge (edges_of c answers)
+    edges : (answers : List VectorVerdict) → All IsRightAnswer answers → AllByRecursion IsToldEdge (edges_of c answers)
     edges [] k = tt
     edges (a ∷ more) k =
         with_one IsToldEdge (edge_of c a.0 a.1) (edges_of c more) (λ e g. edge a.0 a.1 e (All-head IsRightAnswer a more k) g)
         (edges more (All-tail IsRightAnswer a more k))
 
-    drops : (answers : List Answer) → All IsRightAnswer answers → AllByRecursion (λ d. IsToldDrop d × IsWithoutPair n d) (drops_of c answers)
+    drops : (answers : List VectorVerdict) → All IsRightAnswer answers → AllByRecursion (λ d. IsToldDrop d × IsWithoutPair n d) (drops_of c answers)
     drops [] k = tt
     drops (a ∷ more) k =
         with_one (λ d. IsToldDrop d × IsWithoutPair n d) (drop_of c a.0 a.1) (drops_of c more) (λ e g. drop a.0 a.1 e (All-head IsRightAnswer a more k) g)
@@ -163,11 +163,11 @@ module _ (n : Nest) where
   drops_alone [] = refl
   drops_alone (d ∷ ds) = drops_alone ds
 
-  pub edges_read : (es : List Edge) (ds : List Dropped) → AllByRecursion IsToldEdge es → flat_map edges_told (entries (in_order es ds)) ≡ es
+  pub edges_read : (es : List Edge) (ds : List Dropped) → AllByRecursion IsToldEdge es → flat_map edges_told (entries (entries_in_order es ds)) ≡ es
   edges_read [] ds h = drops_alone ds
   edges_read (e ∷ es) ds h =
-      no_drops (before e ds) (Found e ∷ in_order es (not_before e ds))
-      ∙ (ap (λ us. us ++ flat_map edges_told (entries (in_order es (not_before e ds)))) h.0
+      no_drops (before e ds) (Found e ∷ entries_in_order es (not_before e ds))
+      ∙ (ap (λ us. us ++ flat_map edges_told (entries (entries_in_order es (not_before e ds)))) h.0
       ∙ ap (λ us. e ∷ us) (edges_read es (not_before e ds) h.1))
 
   with_drops : (ds : List Dropped) (rest : List Answered) → AllByRecursion IsToldDrop ds
@@ -181,9 +181,9 @@ module _ (n : Nest) where
   drops_whole (d ∷ ds) h =
       ap (λ us. us ++ flat_map drops_told (entries (map RuledOut ds))) h.0 ∙ ap (λ us. d ∷ us) (drops_whole ds h.1)
 
-  pub drops_read : (es : List Edge) (ds : List Dropped) → AllByRecursion IsToldDrop ds → flat_map drops_told (entries (in_order es ds)) ≡ ds
+  pub drops_read : (es : List Edge) (ds : List Dropped) → AllByRecursion IsToldDrop ds → flat_map drops_told (entries (entries_in_order es ds)) ≡ ds
   drops_read [] ds h = drops_whole ds h
   drops_read (e ∷ es) ds h =
       let c = cut IsToldDrop e ds h in
-      with_drops (before e ds) (Found e ∷ in_order es (not_before e ds)) c.0
+      with_drops (before e ds) (Found e ∷ entries_in_order es (not_before e ds)) c.0
       ∙ (ap (λ us. before e ds ++ us) (drops_read es (not_before e ds) c.1) ∙ parted e ds)

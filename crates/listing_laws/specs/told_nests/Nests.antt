@@ -44,25 +44,25 @@ nests_told counts (InNest n ∷ fs) entries h =
 nests_told counts (Kept line r ∷ fs) entries h = nests_told counts fs h.1 h.4
 
 module _ (p : Program) (lines : List (List ℕ)) (l : Lists p lines) where
-  abbrev pub parts_of : List (List Entry)
-  parts_of = parts_told no_counts (found_in p) l.listing.entries l.listing.are
+  abbrev pub parts_listed : List (List Entry)
+  parts_listed = parts_told no_counts (found_in p) l.listing.entries l.listing.are
 
-  abbrev pub nests_of : List ToldNest
-  nests_of = nests_told no_counts (found_in p) l.listing.entries l.listing.are
+  abbrev pub nests_listed : List ToldNest
+  nests_listed = nests_told no_counts (found_in p) l.listing.entries l.listing.are
 
 -- ---- what they tell
 
 -- the two references of a dependence, in this vector
-abbrev pub candidate_of : Dependence → List Dir → Candidate
-candidate_of d v = record { from = d.from; to = d.to; kind = d.kind; vector = v }
+abbrev pub candidate_told : Dependence → List Dir → Candidate
+candidate_told d v = record { from = d.from; to = d.to; kind = d.kind; vector = v }
 
 -- Cut before each NEST and KEEP entry, the entries are those of the nests and kept loops. Those of a nest tell a graph
 -- of it, and its holds. No candidate for which a DROP entry stands has a pair of iterations within the bounds
 pub record Tells (p : Program) (lines : List (List ℕ)) (l : Lists p lines) : Type 0 where
-  pub cut : AreCutInto l.listing.entries (parts_of p lines l)
-  pub graphs : (t : ToldNest) → Contains (nests_of p lines l) t → IsGraphOf t.last (graph_told t.entries)
-  pub holds : (t : ToldNest) → Contains (nests_of p lines l) t → listed_holds t.entries ≡ all_holds t.last
+  pub cut : AreCutInto l.listing.entries (parts_listed p lines l)
+  pub graphs : (t : ToldNest) → Contains (nests_listed p lines l) t → IsGraphOf t.last (graph_told t.entries)
+  pub holds : (t : ToldNest) → Contains (nests_listed p lines l) t → listed_holds t.entries ≡ all_holds t.last
   pub dropped :
       (t : ToldNest) (d : Dependence) (w : Test) (v : List Dir)
-      → Contains (nests_of p lines l) t → Contains t.entries (DropEntry d w) → StandsFor d.directions v
-      → HasPair t.last (candidate_of d v) → ⊥
+      → Contains (nests_listed p lines l) t → Contains t.entries (DropEntry d w) → StandsFor d.directions v
+      → HasPair t.last (candidate_told d v) → ⊥

@@ -4,21 +4,21 @@ use Rattle.std.specs.Prelude.{◌==◌}
 use Rattle.std.specs.Str.{bytes_eq}
 use Rattle.std.proofs.lemmas.Bool.{cond-true, cond-false, eqb-true}
 use Rattle.std.proofs.Math.Seq.{take-append_seam}
-use Rattle.meaning.specs.Deck.{whole_lines, onto_first, is_line, joined, lines_before, lines_after, has_line, source_of, input_of, has_data}
+use Rattle.meaning.specs.Deck.{whole_lines, onto_first, is_line, text_of_lines, lines_before, lines_after, has_line, source_of, input_of, has_data}
 use Rattle.meaning.specs.declared.decks.lines.DataLine.{DataLine}
 use Rattle.meaning.specs.decks.FirstLine.{IsFirstLine, characters}
 
-joined_first : (b : ℕ) (ls : List (List ℕ)) → joined (onto_first b ls) ≡ b ∷ joined ls
+joined_first : (b : ℕ) (ls : List (List ℕ)) → text_of_lines (onto_first b ls) ≡ b ∷ text_of_lines ls
 joined_first b [] = refl
 joined_first b (l ∷ ls) = refl
 
-joined_one : (b : ℕ) (text : List ℕ) (e : Bool) → (b == 10) ≡ e → joined (whole_lines text) ≡ text
-    → joined (cond e ((10 ∷ []) ∷ whole_lines text) (onto_first b (whole_lines text))) ≡ b ∷ text
+joined_one : (b : ℕ) (text : List ℕ) (e : Bool) → (b == 10) ≡ e → text_of_lines (whole_lines text) ≡ text
+    → text_of_lines (cond e ((10 ∷ []) ∷ whole_lines text) (onto_first b (whole_lines text))) ≡ b ∷ text
 joined_one b text true e rest = ap (λ t. 10 ∷ t) rest ∙ ap (λ c. c ∷ text) (sym (eqb-true b 10 e))
 joined_one b text false e rest = joined_first b (whole_lines text) ∙ ap (λ t. b ∷ t) rest
 
 -- the lines with their ends are the whole text
-pub joined_lines : (text : List ℕ) → joined (whole_lines text) ≡ text
+pub joined_lines : (text : List ℕ) → text_of_lines (whole_lines text) ≡ text
 joined_lines [] = refl
 joined_lines (b ∷ text) = joined_one b text (b == 10) refl (joined_lines text)
 
@@ -43,12 +43,12 @@ line_passed d deck rest line after p l e =
       text_is = p.text_is ∙ ap (λ t. p.front ++ t) l.text_is ∙ sym (append_assoc p.front l.whole after);
       source =
           p.source ∙ ap (λ t. p.front ++ t)
-          (ap (λ ls. joined (lines_before m ls)) l.whole_lines_are
-          ∙ ap joined (cond-false (is_line m l.whole) [] (l.whole ∷ lines_before m (whole_lines after)) other))
+          (ap (λ ls. text_of_lines (lines_before m ls)) l.whole_lines_are
+          ∙ ap text_of_lines (cond-false (is_line m l.whole) [] (l.whole ∷ lines_before m (whole_lines after)) other))
           ∙ sym (append_assoc p.front l.whole (source_of m after));
       input =
-          p.input ∙ ap (λ ls. joined (lines_after m ls)) l.whole_lines_are
-          ∙ ap joined (cond-false (is_line m l.whole) (whole_lines after) (lines_after m (whole_lines after)) other);
+          p.input ∙ ap (λ ls. text_of_lines (lines_after m ls)) l.whole_lines_are
+          ∙ ap text_of_lines (cond-false (is_line m l.whole) (whole_lines after) (lines_after m (whole_lines after)) other);
       there =
           p.there ∙ ap (has_line m) l.whole_lines_are ∙ cond-false (is_line m l.whole) true (has_line m (whole_lines after)) other;
     }
@@ -64,8 +64,8 @@ source_at_data d deck rest line after p l e =
     let sizes : length deck ≡ length p.front + length rest = ap length p.text_is ∙ length-append p.front rest in
     let cut : length deck - length rest ≡ length p.front = omega (arith, sizes) in
     let none : source_of m rest ≡ [] =
-    ap (λ ls. joined (lines_before m ls)) l.whole_lines_are
-    ∙ ap joined (cond-true (is_line m l.whole) [] (l.whole ∷ lines_before m (whole_lines after)) (l.is_data d ∙ e)) in
+    ap (λ ls. text_of_lines (lines_before m ls)) l.whole_lines_are
+    ∙ ap text_of_lines (cond-true (is_line m l.whole) [] (l.whole ∷ lines_before m (whole_lines after)) (l.is_data d ∙ e)) in
     ap (λ n. take n deck) cut ∙ ap (take (length p.front)) p.text_is ∙ take-append_seam p.front rest
     ∙ sym (p.source ∙ ap (λ t. p.front ++ t) none ∙ append-nil p.front)
 
@@ -73,8 +73,8 @@ pub input_at_data : (d : DataLine) (deck rest line after : List ℕ) → IsPasse
     → after ≡ input_of (characters d) deck
 input_at_data d deck rest line after p l e =
     let m : List ℕ = characters d in sym (
-    p.input ∙ ap (λ ls. joined (lines_after m ls)) l.whole_lines_are
-    ∙ ap joined (cond-true (is_line m l.whole) (whole_lines after) (lines_after m (whole_lines after)) (l.is_data d ∙ e))
+    p.input ∙ ap (λ ls. text_of_lines (lines_after m ls)) l.whole_lines_are
+    ∙ ap text_of_lines (cond-true (is_line m l.whole) (whole_lines after) (lines_after m (whole_lines after)) (l.is_data d ∙ e))
     ∙ joined_lines after)
 
 pub there_at_data : (d : DataLine) (deck rest line after : List ℕ) → IsPassed d deck rest → IsFirstLine rest line after → bytes_eq line (characters d) ≡ true

@@ -3,7 +3,7 @@ use Rattle.std.proofs.Common.{◌≡◌, ℕ, List, [], ◌∷◌, ◌++◌, map
 use Rattle.std.specs.Prelude.{flat_map}
 use Rattle.std.specs.List.{AllByRecursion}
 use Rattle.std.proofs.lemmas.Bool.{cond-true, cond-false}
-use Rattle.meaning.specs.Deck.{whole_lines, is_line, joined, lines_before, lines_after, has_line, source_of, input_of, has_data, data_line90}
+use Rattle.meaning.specs.Deck.{whole_lines, is_line, text_of_lines, lines_before, lines_after, has_line, source_of, input_of, has_data, data_line90}
 use Rattle.meaning.proofs.decks.Parts.{joined_lines}
 use Rattle.meaning.proofs.decks.WholeLines.{Lacks, with_line_feed, whole_first}
 
@@ -12,13 +12,13 @@ pub record IsSourceLine (line : List ℕ) : Type 0 where
   pub lacks : Lacks 10 line
   pub other : is_line data_line90 (with_line_feed line) ≡ false
 
-joined-append : (xs ys : List (List ℕ)) → joined (xs ++ ys) ≡ joined xs ++ joined ys
-joined-append [] ys = refl
-joined-append (x ∷ xs) ys = ap (λ t. x ++ t) (joined-append xs ys) ∙ sym (append_assoc x (joined xs) (joined ys))
+text_of_lines-append : (xs ys : List (List ℕ)) → text_of_lines (xs ++ ys) ≡ text_of_lines xs ++ text_of_lines ys
+text_of_lines-append [] ys = refl
+text_of_lines-append (x ∷ xs) ys = ap (λ t. x ++ t) (text_of_lines-append xs ys) ∙ sym (append_assoc x (text_of_lines xs) (text_of_lines ys))
 
-joined-fed : (ls : List (List ℕ)) → joined (map with_line_feed ls) ≡ flat_map with_line_feed ls
-joined-fed [] = refl
-joined-fed (l ∷ ls) = ap (λ t. with_line_feed l ++ t) (joined-fed ls)
+text_of_lines-fed : (ls : List (List ℕ)) → text_of_lines (map with_line_feed ls) ≡ flat_map with_line_feed ls
+text_of_lines-fed [] = refl
+text_of_lines-fed (l ∷ ls) = ap (λ t. with_line_feed l ++ t) (text_of_lines-fed ls)
 
 whole_behind : (ls : List (List ℕ)) (rest : List ℕ) → AllByRecursion IsSourceLine ls
     → whole_lines (flat_map with_line_feed ls ++ rest) ≡ map with_line_feed ls ++ whole_lines rest
@@ -43,12 +43,12 @@ after_behind (l ∷ ls) ws h =
 source_of-lines : (ls : List (List ℕ)) (rest : List ℕ) → AllByRecursion IsSourceLine ls
     → source_of data_line90 (flat_map with_line_feed ls ++ rest) ≡ flat_map with_line_feed ls ++ source_of data_line90 rest
 source_of-lines ls rest h =
-    ap (λ ws. joined (lines_before data_line90 ws)) (whole_behind ls rest h) ∙ ap joined (before_behind ls (whole_lines rest) h)
-    ∙ joined-append (map with_line_feed ls) (lines_before data_line90 (whole_lines rest)) ∙ ap (λ t. t ++ source_of data_line90 rest) (joined-fed ls)
+    ap (λ ws. text_of_lines (lines_before data_line90 ws)) (whole_behind ls rest h) ∙ ap text_of_lines (before_behind ls (whole_lines rest) h)
+    ∙ text_of_lines-append (map with_line_feed ls) (lines_before data_line90 (whole_lines rest)) ∙ ap (λ t. t ++ source_of data_line90 rest) (text_of_lines-fed ls)
 
 input_of-lines : (ls : List (List ℕ)) (rest : List ℕ) → AllByRecursion IsSourceLine ls
     → input_of data_line90 (flat_map with_line_feed ls ++ rest) ≡ input_of data_line90 rest
-input_of-lines ls rest h = ap (λ ws. joined (lines_after data_line90 ws)) (whole_behind ls rest h) ∙ ap joined (after_behind ls (whole_lines rest) h)
+input_of-lines ls rest h = ap (λ ws. text_of_lines (lines_after data_line90 ws)) (whole_behind ls rest h) ∙ ap text_of_lines (after_behind ls (whole_lines rest) h)
 
 data_lacks : Lacks 10 data_line90
 data_lacks = (λ e. omega (arith, e), (λ e. omega (arith, e), (λ e. omega (arith, e), (λ e. omega (arith, e), (λ e. omega (arith, e), tt)))))
@@ -68,12 +68,12 @@ pub source_before_data : (ls : List (List ℕ)) (input : List ℕ) → AllByRecu
     → source_of data_line90 (flat_map with_line_feed ls ++ (data_line90 ++ 10 ∷ input)) ≡ flat_map with_line_feed ls
 source_before_data ls input h =
     source_of-lines ls (data_line90 ++ 10 ∷ input) h
-    ∙ ap (λ ws. flat_map with_line_feed ls ++ joined (lines_before data_line90 ws)) (data_first input) ∙ append-nil (flat_map with_line_feed ls)
+    ∙ ap (λ ws. flat_map with_line_feed ls ++ text_of_lines (lines_before data_line90 ws)) (data_first input) ∙ append-nil (flat_map with_line_feed ls)
 
 pub input_after_data : (ls : List (List ℕ)) (input : List ℕ) → AllByRecursion IsSourceLine ls
     → input_of data_line90 (flat_map with_line_feed ls ++ (data_line90 ++ 10 ∷ input)) ≡ input
 input_after_data ls input h =
-    input_of-lines ls (data_line90 ++ 10 ∷ input) h ∙ ap (λ ws. joined (lines_after data_line90 ws)) (data_first input) ∙ joined_lines input
+    input_of-lines ls (data_line90 ++ 10 ∷ input) h ∙ ap (λ ws. text_of_lines (lines_after data_line90 ws)) (data_first input) ∙ joined_lines input
 
 -- ---- a deck without a data line has no input
 
@@ -88,4 +88,4 @@ none_after mark (w ∷ ws) e = by (is_line mark w) refl e (none_after mark ws)
         ∙ more (sym (cond-false (is_line mark w) true (has_line mark ws) q) ∙ f)
 
 pub no_input : (mark deck : List ℕ) → has_data mark deck ≡ false → input_of mark deck ≡ []
-no_input mark deck e = ap joined (none_after mark (whole_lines deck) e)
+no_input mark deck e = ap text_of_lines (none_after mark (whole_lines deck) e)

@@ -9,7 +9,7 @@ use Rattle.tree.specs.Steps.{◌>>=◌}
 use Rattle.tree.specs.declared.ops.Fault.{Fault}
 use Rattle.tree.specs.declared.ops.Value.{Value}
 use Rattle.meaning.specs.ArrayStatements.{axes_named}
-use Rattle.meaning.specs.ArrayValues.{Elements, place_of, value_at, settled, scalar, in_whole, conform, mapped, paired}
+use Rattle.meaning.specs.ArrayValues.{Elements, place_of, value_at_index, settled, scalar_array, in_whole, conform, mapped, paired}
 use Rattle.meaning.specs.Dialect.{Dialect}
 use Rattle.meaning.specs.Reads.{names_in, names_in_each, names_in_subscripts, names_in_subscript}
 use Rattle.meaning.specs.CellsRead.{read_by_one_way, cells_read, array_cells_read, cells_read_to_select}
@@ -17,7 +17,7 @@ use Rattle.meaning.specs.CellsRead.{cells_read_by_selector}
 use Rattle.meaning.specs.Sections.{Axis, Selector, Triplet, axes_selected, extents_of, cells_along}
 use Rattle.meaning.specs.Store.{Store, Cell, bounds_in}
 use Rattle.meaning.specs.Value.{value_of, array_of, arguments_of, selectors, selector, is_scalar, numbered, evaluated, selector_of, together}
-use Rattle.meaning.proofs.CellFrame.{first_part, second_part, value_of-same, array_of-same, scalar-same}
+use Rattle.meaning.proofs.CellFrame.{first_part, second_part, value_of-same, array_of-same, scalar_array-same}
 use Rattle.meaning_laws.specs.arrays.Elements.{nth_cell, found_at, element_of, cells_read_at, cells_read_at_by_each, ElementComesFromCellsRead}
 
 -- ---- arrays that are alike at a position
@@ -89,7 +89,7 @@ further_alike is ns (Ok g) (Ok g') more more' a b = by (conform ns g.extents) (c
 
 -- ---- the element of a name
 
-nth_same : (h k : Cell → Value) (cs : List Cell) (n : ℕ) → AllByRecursion (λ c. h c ≡ k c) (nth_cell cs n) → value_at (map h cs) n ≡ value_at (map k cs) n
+nth_same : (h k : Cell → Value) (cs : List Cell) (n : ℕ) → AllByRecursion (λ c. h c ≡ k c) (nth_cell cs n) → value_at_index (map h cs) n ≡ value_at_index (map k cs) n
 nth_same h k [] n m = refl
 nth_same h k (c ∷ cs) zero m = ap Ok m.0
 nth_same h k (c ∷ cs) (suc n) m = nth_same h k cs n m
@@ -116,7 +116,7 @@ named_alike is h k x ps (Ok zs) (Some bs) m = by (axes_selected ps bs zs) m
 
 evaluated_same : (P : Cell → Type 0) (b : Bool) (r r' : Result Value Fault) (g g' : Result (Elements Value) Fault) (cs ds : List Cell)
     → (AllByRecursion P cs → r ≡ r') → (AllByRecursion P ds → g ≡ g') → AllByRecursion P (read_by_one_way b cs ds) → evaluated b r g ≡ evaluated b r' g'
-evaluated_same P true r r' g g' cs ds e f m = ap (λ w. do x ← w; Ok (scalar x)) (e m)
+evaluated_same P true r r' g g' cs ds e f m = ap (λ w. do x ← w; Ok (scalar_array x)) (e m)
 evaluated_same P false r r' g g' cs ds e f m = ap (λ w. do x ← w; in_whole x) (f m)
 
 module _ (d : Dialect) (s t : Store) where
@@ -141,7 +141,7 @@ module _ (d : Dialect) (s t : Store) where
   selector_same : (p : Subscript) → Bounded (names_in_subscript p) → Held (cells_read_by_selector d p s) → selector d p s ≡ selector d p t
   selector_same (Only e) b m = ap (λ r. do v ← r; zs ← as_numbers v.values; Ok (selector_of v.extents zs))
       (evaluated_same (λ c. s.held c ≡ t.held c) (is_scalar e s.bounds) _ _ _ _ (cells_read d e s) (array_cells_read d e s) (value_of-same d s t e b) (array_of-same d s t e b) m
-      ∙ ap (λ q. evaluated q (value_of d e t) (array_of d e t)) (scalar-same d s t e b))
+      ∙ ap (λ q. evaluated q (value_of d e t) (array_of d e t)) (scalar_array-same d s t e b))
   selector_same (Section l u k) b m =
       let later = then_read (cells_read d l s) (cells_read d u s ++ cells_read d k s) m in
       let both = front (names_in l ++ names_in u) (names_in k) b in

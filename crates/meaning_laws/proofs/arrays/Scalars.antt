@@ -9,7 +9,7 @@ use Rattle.tree.specs.Steps.{◌>>=◌}
 use Rattle.tree.specs.declared.ops.Fault.{Fault}
 use Rattle.tree.specs.declared.ops.Value.{Value}
 use Rattle.tree.specs.declared.ops.Fault.TheVariants.{Bounds}
-use Rattle.meaning.specs.ArrayValues.{Array, Elements, settled, scalar, in_whole, conform, mapped, paired}
+use Rattle.meaning.specs.ArrayValues.{Array, Elements, settled, scalar_array, in_whole, conform, mapped, paired}
 use Rattle.meaning.specs.Dialect.{Dialect}
 use Rattle.meaning.specs.Sections.{Axis, Fixed, Selector, Index, axes_on, axes_selected, extents_of, cells_along, numbers_of}
 use Rattle.meaning.specs.Store.{Store, Cell, bounds_in, cell_in, cell_at, is_within, column_major}
@@ -24,8 +24,8 @@ pub record IsSingle {A : Type 0} (r : Result (Elements A) Fault) (v : A) : Type 
   pub extents : array.extents ≡ []
   pub element : (is : List ℕ) → array.at is ≡ Ok v
 
-settled_single : (v : Value) → IsSingle (Ok (settled (scalar v))) v
-settled_single v = record { array = settled (scalar v); known = refl; extents = refl; element = λ is. refl }
+settled_single : (v : Value) → IsSingle (Ok (settled (scalar_array v))) v
+settled_single v = record { array = settled (scalar_array v); known = refl; extents = refl; element = λ is. refl }
 
 both : (a b : Bool) → (a && b) ≡ true → (a ≡ true) × (b ≡ true)
 both true true e = (refl, refl)
@@ -138,15 +138,15 @@ reduction true r v e = e
 reduction false r v e = absurd cc
 
 reduced_single : (f : List ℤ → Result Value Fault) (r : Result (Elements Value) Fault) (v : Value) → (do g ← r; a ← in_whole g; zs ← as_numbers a.values; f zs) ≡ Ok v
-    → IsSingle (do g ← r; a ← in_whole g; zs ← as_numbers a.values; x ← f zs; Ok (settled (scalar x))) v
+    → IsSingle (do g ← r; a ← in_whole g; zs ← as_numbers a.values; x ← f zs; Ok (settled (scalar_array x))) v
 reduced_single f r v e =
     let g = bound r (λ g. do a ← in_whole g; zs ← as_numbers a.values; f zs) v e in
     let a = bound (in_whole g.0) (λ (a : Array). do zs ← as_numbers a.values; f zs) v g.2 in
     let zs = bound (as_numbers a.0.values) f v a.2 in
     subst (λ p. IsSingle p v)
-    (sym (ap (λ (p : Result (Elements Value) Fault). do g ← p; a ← in_whole g; zs ← as_numbers a.values; x ← f zs; Ok (settled (scalar x))) g.1
-    ∙ (ap (λ (p : Result Array Fault). do a ← p; zs ← as_numbers a.values; x ← f zs; Ok (settled (scalar x))) a.1
-    ∙ (ap (λ (p : Result (List ℤ) Fault). do zs ← p; x ← f zs; Ok (settled (scalar x))) zs.1 ∙ ap (λ (p : Result Value Fault). do x ← p; Ok (settled (scalar x))) zs.2))))
+    (sym (ap (λ (p : Result (Elements Value) Fault). do g ← p; a ← in_whole g; zs ← as_numbers a.values; x ← f zs; Ok (settled (scalar_array x))) g.1
+    ∙ (ap (λ (p : Result Array Fault). do a ← p; zs ← as_numbers a.values; x ← f zs; Ok (settled (scalar_array x))) a.1
+    ∙ (ap (λ (p : Result (List ℤ) Fault). do zs ← p; x ← f zs; Ok (settled (scalar_array x))) zs.1 ∙ ap (λ (p : Result Value Fault). do x ← p; Ok (settled (scalar_array x))) zs.2))))
     (settled_single v)
 
 -- ---- by structure

@@ -7,7 +7,7 @@ use Rattle.tree.specs.Plain.{Subscripts}
 use Rattle.tree.specs.Steps.{◌>>=◌}
 use Rattle.tree.specs.declared.ops.Fault.{Fault}
 use Rattle.tree.specs.declared.ops.Value.{Value}
-use Rattle.meaning.specs.ArrayValues.{Array, Elements, each, counted, positions, place_of, size, value_at, settled}
+use Rattle.meaning.specs.ArrayValues.{Array, Elements, each, counted, positions, place_of, size, value_at_index, settled}
 use Rattle.meaning.specs.Sections.{Axis, Fixed, Along, Selector, axes_selected, numbers_of, extents_of, cells_along}
 use Rattle.meaning.specs.Store.{Cell, column_major, bounds_in}
 use Rattle.meaning.specs.Value.{selectors}
@@ -103,16 +103,16 @@ values_known ns (Ok ws) vs e = ap Ok (ap values_in e)
 values_known ns (Err f) vs e = absurd cc
 
 -- values in the order of the positions
-pub value_there : (ns : List ℕ) (v : List ℕ → Value) (is : List ℕ) → Contains (positions ns) is → value_at (map v (positions ns)) (place_of ns is) ≡ Ok (v is)
+pub value_there : (ns : List ℕ) (v : List ℕ → Value) (is : List ℕ) → Contains (positions ns) is → value_at_index (map v (positions ns)) (place_of ns is) ≡ Ok (v is)
 value_there ns v is k =
     let vs = map v (positions ns) in
-    let all = values_known ns (each (λ js. value_at vs (place_of ns js)) (positions ns)) vs (settled-whole ns vs (length_map v (positions ns) ∙ number_of_positions ns)) in
-    one_of_each (λ js. value_at vs (place_of ns js)) v (positions ns) all is k
+    let all = values_known ns (each (λ js. value_at_index vs (place_of ns js)) (positions ns)) vs (settled-whole ns vs (length_map v (positions ns) ∙ number_of_positions ns)) in
+    one_of_each (λ js. value_at_index vs (place_of ns js)) v (positions ns) all is k
 
 held_there : (x : List ℕ) (axes : List Axis) (h : Cell → Value) (is : List ℕ) → Contains (positions (extents_of axes)) is
-    → value_at (map h (cells_along x axes)) (place_of (extents_of axes) is) ≡ Ok (h (cell_at_position x axes is))
+    → value_at_index (map h (cells_along x axes)) (place_of (extents_of axes) is) ≡ Ok (h (cell_at_position x axes is))
 held_there x axes h is k =
-    ap (λ vs. value_at vs (place_of (extents_of axes) is)) (ap (map h) (cells_by_position x axes) ∙ map_map h (cell_at_position x axes) (positions (extents_of axes)))
+    ap (λ vs. value_at_index vs (place_of (extents_of axes) is)) (ap (map h) (cells_by_position x axes) ∙ map_map h (cell_at_position x axes) (positions (extents_of axes)))
     ∙ value_there (extents_of axes) (λ js. h (cell_at_position x axes js)) is k
 
 -- the array of a name, when its axes are known

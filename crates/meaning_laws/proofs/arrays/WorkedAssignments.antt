@@ -9,6 +9,7 @@ use Rattle.tree.specs.declared.ops.Value.TheVariants.{Int}
 use Rattle.std.specs.Prelude.{true}
 use Rattle.meaning.specs.ArrayStatements.{axes_named, writes_of}
 use Rattle.meaning.specs.Dialect.{fortran90}
+use Rattle.tree.specs.declared.width.Width.TheVariants.{Plain}
 use Rattle.meaning.specs.Store.{Store}
 use Rattle.meaning.proofs.DeckWords.{n, at, part, to_part, cell}
 use Rattle.meaning_laws.specs.arrays.Assignments.{elements_assigned}
@@ -32,13 +33,13 @@ held_in s = map (λ z. s.held (cell "A" (z ∷ []))) (pos 1 ∷ pos 2 ∷ pos 3 
 
 abbrev held_at_once : Expression → Reference → Expression → Result (List Value) Fault
 held_at_once mask left right = do
-  ws ← writes_of fortran90 mask left right tens
+  ws ← writes_of (fortran90 Plain) mask left right tens
   Ok (held_in (puts ws tens))
 
 abbrev held_in_turn : Expression → Reference → Expression → Result (List Value) Fault
 held_in_turn mask left right = do
-  axes ← axes_named fortran90 left tens
-  s ← in_turn (elements_assigned fortran90 mask left right axes) tens
+  axes ← axes_named (fortran90 Plain) left tens
+  s ← in_turn (elements_assigned (fortran90 Plain) mask left right axes) tens
   Ok (held_in s)
 
 abbrev numbers : List ℕ → List Value
@@ -78,6 +79,6 @@ unfolding first_of
 masked_in_turn = refl
 
 -- the third element of A(2:4) + A(4) reads A(4) twice, and no other cell
-one_element_read : cells_read_at fortran90 (Binary Add (part "A" (span 2 4 ∷ [])) (at "A" (n 4 ∷ []))) (2 ∷ []) tens ≡ cell "A" (pos 4 ∷ []) ∷ cell "A" (pos 4 ∷ []) ∷ []
+one_element_read : cells_read_at (fortran90 Plain) (Binary Add (part "A" (span 2 4 ∷ [])) (at "A" (n 4 ∷ []))) (2 ∷ []) tens ≡ cell "A" (pos 4 ∷ []) ∷ cell "A" (pos 4 ∷ []) ∷ []
 unfolding first_of
 one_element_read = refl

@@ -10,6 +10,7 @@ use Rattle.meaning.specs.Agreement.{MomentsAgree}
 use Rattle.meaning.specs.Reads.{names_in_block}
 use Rattle.meaning.specs.Blocks.{outermost}
 use Rattle.meaning.specs.Dialect.{Dialect, fortran90}
+use Rattle.tree.specs.declared.width.Width.{Width}
 use Rattle.meaning.specs.Profile77.{IsProgram77}
 use Rattle.meaning.specs.Run.{State, run, opening_state}
 use Rattle.meaning.specs.Store.{Agree, names_of, nought, nought_like, opening_bounds, opening_value, opening_store}
@@ -87,6 +88,6 @@ module _ (p : Program) (es : List Declaration) (add : AddMadeNames p.declaration
 pub made_names_keep_run : MadeNamesKeepRun
 made_names_keep_run lang own limit p es input h add = made_names p es add lang own limit input h
 
-pub array_run_with_made_names : ArrayRunWithMadeNames
-array_run_with_made_names own p es input h add =
-    subst (λ (s : State). MomentsAgree p s (run fortran90 None (record p { declarations = es }) input)) (sym (sequential_run_is_array_run own p input h)) (made_names p es add fortran90 own None input h)
+pub array_run_with_made_names : (width : Width) → ArrayRunWithMadeNames width
+array_run_with_made_names width own p es input h add =
+    subst (λ (s : State). MomentsAgree p s (run (fortran90 width) None (record p { declarations = es }) input)) (sym (sequential_run_is_array_run width own p input h)) (made_names p es add (fortran90 width) own None input h)

@@ -23,6 +23,8 @@ use Rattle.meaning.proofs.ArrayLaws.{whole_name}
 use Rattle.meaning_laws.specs.dialects.OneRun.{SourceHasOneRun, SequentialRunIsArrayRun}
 use Rattle.meaning_laws.proofs.dialects.Values.{without_arrays, with_arrays, value_same, subscripts_same, AllFixed, all_fixed, scalar}
 use Rattle.meaning_laws.proofs.dialects.Acts.{Bounded, Same, Same-nothing, Same-then, Same-goes, Same-either, Same-evaluates, Same-repeated, Same-for_each, Same-writes, Same-stores, Same-begins_line, Same-skips_line, Same-takes_word, Same-counts_step, Same-checks_range}
+use Rattle.tree.specs.declared.width.Width.{Width}
+use Rattle.tree.specs.Widths.{bits_of}
 
 module _ (n : ℕ) (limit : Option ℕ) (ds : List Declaration) (fixed : AllFixed ds) where
   abbrev bs : List ℕ → Option (List (ℤ × ℤ))
@@ -203,5 +205,5 @@ pub source_has_one_run : SourceHasOneRun
 source_has_one_run lang other own limit p input e h =
     subst (λ n. run lang limit p input ≡ run (with_bits n other.arrays) limit p input) e (whatever_arrays lang.bits lang.arrays other.arrays own limit p input h)
 
-pub sequential_run_is_array_run : SequentialRunIsArrayRun
-sequential_run_is_array_run own p input h = one_run 31 own None p input h
+pub sequential_run_is_array_run : (width : Width) → SequentialRunIsArrayRun width
+sequential_run_is_array_run width own p input h = one_run (bits_of width) own None p input h

@@ -12,11 +12,11 @@ use Rattle.tree.specs.declared.ops.Value.{Value}
 use Rattle.tree.specs.declared.ops.Fault.{Fault}
 use Rattle.tree.specs.declared.ops.Fault.TheVariants.{Shape, Bounds, ZeroStep}
 use Rattle.meaning.specs.Dialect.{Dialect}
-use Rattle.meaning.specs.Store.{Store, bounds_of, bounds_in}
+use Rattle.meaning.specs.Store.{Store, stored_bounds, bounds_in}
 use Rattle.meaning.specs.Typed.{declared, rank_of_extent, number_of_arguments}
 use Rattle.meaning.specs.Typed90.{HasKind, AreArguments, AreSubscripts, IsSubscript, rank_of, rank_of_each, rank_of_subscripts, rank_of_subscript, rank_of_name}
-use Rattle.meaning.specs.ArrayValues.{Array, Elements, each, scalar, settled, in_whole, positions, size, conform, with_extent, swapped, reshaped}
-use Rattle.meaning.specs.Sections.{Selector, Index, Triplet, Vector, Axis, Fixed, Along, stands_in, all_stand_in, along, axis_on, axes_on, whole_axes, extents_of, triplet_numbers, not_negative}
+use Rattle.meaning.specs.ArrayValues.{Array, Elements, each, scalar_array, settled, in_whole, positions, size, conform, with_extent, swapped, reshaped}
+use Rattle.meaning.specs.Sections.{Selector, Index, Triplet, Vector, Axis, Fixed, Along, is_within_bounds, all_stand_in, along, axis_on, axes_on, whole_axes, extents_of, triplet_numbers, not_negative}
 use Rattle.meaning.specs.Value.{value_of, values_of, array_of, arguments_of, selector, selectors, selector_of, is_scalar, are_scalar, are_indices, is_index, is_bare, evaluated, numbered, under}
 use Rattle.meaning.specs.Holding.{HasBounds, HoldsProgram}
 use Rattle.meaning_laws.specs.profiles.Values.{ExtentsAreRank}
@@ -75,7 +75,7 @@ whole_rank n g h =
     (λ vs e. record { many = h; single = λ q. e ∙ ap (λ ns. length (positions ns)) q })
 
 evaluated_rank : (n : ℕ) (b : Bool) (r : Result Value Fault) (q : Result (Elements Value) Fault) → (b ≡ true → n ≡ 0) → Gives (λ (g : Elements Value). length g.extents ≡ n) q → Gives (HasRank n) (evaluated b r q)
-evaluated_rank n true r q h g = after (HasRank n) r (λ x. Ok (scalar x)) (λ x. record { many = sym (h refl); single = λ e. refl })
+evaluated_rank n true r q h g = after (HasRank n) r (λ x. Ok (scalar_array x)) (λ x. record { many = sym (h refl); single = λ e. refl })
 evaluated_rank n false r q h g = behind AnyFault (λ (a : Elements Value). length a.extents ≡ n) (HasRank n) q in_whole g (λ a e. whole_rank n a e)
 
 -- ---- what subscripts select
@@ -101,7 +101,7 @@ along_rank b zs = by (all_stand_in b zs)
     by false = tt
 
 axis_rank : (b : ℤ × ℤ) (z : Selector) → Gives (λ a. rank_of_axis a ≡ rank_of_selector z) (axis_on b z)
-axis_rank b (Index z) = by (stands_in b z)
+axis_rank b (Index z) = by (is_within_bounds b z)
   where
     by : (t : Bool) → Gives (λ a. rank_of_axis a ≡ 0) (cond t (Ok (Fixed z)) (Err Bounds))
     by true = refl
@@ -165,8 +165,8 @@ module _ (lang : Dialect) (p : Program) where
       by None q g b = absurd g
       by (Some d) q g b = f d.extent (ap (λ o. elim o [ None ↦ 0 | Some c ↦ rank_of_extent c.extent ]) q) b
 
-  name_rank : (x : List ℕ) (s : Store) (P : Declaration → Type 0) → HoldsProgram lang p s → IsSomeAnd (declared ds x) P → Gives (λ (bs : List (ℤ × ℤ)). length bs ≡ rank_of_name ds x) (bounds_of x s)
-  name_rank x s P h g = of_name x s P h g (λ e q b. subst (λ n. Gives (λ (bs : List (ℤ × ℤ)). length bs ≡ n) (bounds_of x s)) (sym q) (bounds_rank e (s.bounds x) b))
+  name_rank : (x : List ℕ) (s : Store) (P : Declaration → Type 0) → HoldsProgram lang p s → IsSomeAnd (declared ds x) P → Gives (λ (bs : List (ℤ × ℤ)). length bs ≡ rank_of_name ds x) (stored_bounds x s)
+  name_rank x s P h g = of_name x s P h g (λ e q b. subst (λ n. Gives (λ (bs : List (ℤ × ℤ)). length bs ≡ n) (stored_bounds x s)) (sym q) (bounds_rank e (s.bounds x) b))
 
   -- ---- what is a scalar has no dimensions
 
@@ -210,10 +210,10 @@ module _ (lang : Dialect) (p : Program) where
     array_rank (Number n) k s h g = refl
     array_rank (Logic b) k s h g = refl
     array_rank (Named x no_subscripts) k s h g =
-        behind AnyFault (λ (bs : List (ℤ × ℤ)). length bs ≡ rank_of_name ds x) (Ranked (rank_of_name ds x)) (bounds_of x s) _ (name_rank x s _ h g.0) (λ bs e. whole_many bs ∙ e)
+        behind AnyFault (λ (bs : List (ℤ × ℤ)). length bs ≡ rank_of_name ds x) (Ranked (rank_of_name ds x)) (stored_bounds x s) _ (name_rank x s _ h g.0) (λ bs e. whole_many bs ∙ e)
     array_rank (Named x (subscript r ps)) k s h g =
         behind AnyFault (λ zs. rank_of_selectors zs ≡ rank_of_subscripts ds (subscript r ps)) (Ranked (rank_of_subscripts ds (subscript r ps))) (selectors lang (subscript r ps) s) _ (selectors_rank (subscript r ps) s h g.1) (λ zs e.
-        after (Ranked (rank_of_subscripts ds (subscript r ps))) (bounds_of x s) _ (λ bs.
+        after (Ranked (rank_of_subscripts ds (subscript r ps))) (stored_bounds x s) _ (λ bs.
         behind AnyFault (λ (axes : List Axis). length (extents_of axes) ≡ rank_of_selectors zs) (Ranked (rank_of_subscripts ds (subscript r ps))) (axes_on bs zs) _ (axes_rank bs zs) (λ axes f. f ∙ e)))
     array_rank (Unary o a) k s h g = behind AnyFault (Ranked (rank_of ds a)) (Ranked (rank_of ds a)) (array_of lang a s) _ (array_rank a _ s h g.2) (λ q e. e)
     array_rank (Binary o a b) k s h g =

@@ -8,7 +8,7 @@ use Rattle.tree.specs.declared.ops.Kind.{Kind}
 use Rattle.tree.specs.declared.ops.Value.{Value}
 use Rattle.tree.specs.declared.ops.Fault.TheVariants.{Overflow}
 use Rattle.meaning.specs.Dialect.{Dialect}
-use Rattle.meaning.specs.Store.{Store, Cell, bounds_of}
+use Rattle.meaning.specs.Store.{Store, Cell, stored_bounds}
 use Rattle.meaning.specs.Typed.{declared, number_of_arguments}
 use Rattle.meaning.specs.Blocks.{Surroundings, outermost, within_loop, before_labels, labels_of}
 use Rattle.meaning.specs.ArrayValues.{Elements, each, positions, conform}
@@ -167,7 +167,7 @@ module _ (lang : Dialect) (p : Program) where
         by (Some d) bs l g = own d.extent bs (number_of_arguments es) g l
 
     deallocation : (x : List ℕ) → IsSomeAnd (declared ds x) (λ d. IsAllocatable d.extent) → IsDeallocated lang limit p AnyFault any_rest x
-    deallocation x h = record { suits = by (declared ds x) h; known = λ s q. any (bounds_of x s) }
+    deallocation x h = record { suits = by (declared ds x) h; known = λ s q. any (stored_bounds x s) }
       where
         own : (e : Extent) → IsAllocatable e → HasBounds e None
         own (Given bs) h = absurd h

@@ -20,13 +20,13 @@ use Rattle.tree.specs.declared.functions.Fun.{Fun}
 use Rattle.tree.specs.declared.functions.Red.{Red}
 use Rattle.tree.specs.declared.functions.Red.TheVariants.{Sum, MaxVal, MinVal}
 use Rattle.meaning.specs.Dialect.{Dialect}
-use Rattle.meaning.specs.Store.{Store, Cell, cell_at, cell_in, bounds_of, numbers_from}
+use Rattle.meaning.specs.Store.{Store, Cell, cell_at, cell_in, stored_bounds, numbers_from}
 use Rattle.tree.specs.OperatorTable.{result_kind_of}
 use Rattle.meaning.specs.Typed.{declared, rank_of_extent}
 use Rattle.meaning.specs.Typed90.{HasKind, AreScalars, AreLoops, IsIntegerScalar}
-use Rattle.meaning.specs.ArrayValues.{Array, Elements, each, scalar, settled, in_whole, value_at, place_of, positions, conform, reshaped}
+use Rattle.meaning.specs.ArrayValues.{Array, Elements, each, scalar_array, settled, in_whole, value_at_index, place_of, positions, conform, reshaped}
 use Rattle.meaning.specs.Sections.{axes_selected, not_negative}
-use Rattle.meaning.specs.Value.{value_of, values_of, array_of, arguments_of, subscript_values, selectors, with_arrays, evaluated, numbered, under, for_numbers, bound_to, joined, is_scalar}
+use Rattle.meaning.specs.Value.{value_of, values_of, array_of, arguments_of, subscript_values, selectors, with_arrays, evaluated, numbered, under, for_numbers, bound_to, joined_values, is_scalar}
 use Rattle.meaning.specs.Holding.{IsStorable, HoldsProgram}
 use Rattle.meaning_laws.specs.profiles.Values.{ValueHasKind, ElementsHaveKind}
 use Rattle.meaning_laws.proofs.profiles.Answering.{Answers, AnyFault, AnyValue, behind, value, each_answers}
@@ -129,7 +129,7 @@ AllAre k vs = AllByRecursion (IsKind k) vs
 abbrev ArrayIs : Kind → Array → Type 0
 ArrayIs k a = AllAre k a.values
 
-value_at_is : (k : Kind) (vs : List Value) (n : ℕ) → AllAre k vs → Gives (IsKind k) (value_at vs n)
+value_at_is : (k : Kind) (vs : List Value) (n : ℕ) → AllAre k vs → Gives (IsKind k) (value_at_index vs n)
 value_at_is k [] n h = tt
 value_at_is k (v ∷ vs) zero h = h.0
 value_at_is k (v ∷ vs) (suc n) h = value_at_is k vs n h.1
@@ -147,7 +147,7 @@ whole_is : (k : Kind) (g : Elements Value) → ElementsAre k g → Gives (ArrayI
 whole_is k g h = behind AnyFault (AllAre k) (ArrayIs k) (each g.at (positions g.extents)) (λ vs. Ok (record { extents = g.extents; values = vs })) (each_at k g (positions g.extents) h) (λ vs q. q)
 
 evaluated_is : (k : Kind) (b : Bool) (r : Result Value Fault) (q : Result (Elements Value) Fault) → Gives (IsKind k) r → Gives (ElementsAre k) q → Gives (ArrayIs k) (evaluated b r q)
-evaluated_is k true r q h g = behind AnyFault (IsKind k) (ArrayIs k) r (λ x. Ok (scalar x)) h (λ x p. (p, tt))
+evaluated_is k true r q h g = behind AnyFault (IsKind k) (ArrayIs k) r (λ x. Ok (scalar_array x)) h (λ x p. (p, tt))
 evaluated_is k false r q h g = behind AnyFault (ElementsAre k) (ArrayIs k) q in_whole g (λ x p. whole_is k x p)
 
 reshaped_is : (k : Kind) (ns : List ℕ) (a : Array) → ArrayIs k a → Gives (ElementsAre k) (reshaped ns a)
@@ -200,11 +200,11 @@ module _ (lang : Dialect) (p : Program) where
       by None i = absurd i
       by (Some d) i = record { kind = sym i.0; within = e }
 
-  joined_are : (k : Kind) (vss : List (List Value)) → AllByRecursion (AllAre k) vss → AllAre k (joined vss)
+  joined_are : (k : Kind) (vss : List (List Value)) → AllByRecursion (AllAre k) vss → AllAre k (joined_values vss)
   joined_are k [] h = tt
   joined_are k (vs ∷ vss) h = appended vs h.0 (joined_are k vss h.1)
     where
-      appended : (vs : List Value) → AllAre k vs → AllAre k (joined vss) → AllAre k (vs ++ joined vss)
+      appended : (vs : List Value) → AllAre k vs → AllAre k (joined_values vss) → AllAre k (vs ++ joined_values vss)
       appended [] a b = b
       appended (v ∷ vs) a b = (a.0, appended vs a.1 b)
 
@@ -219,7 +219,7 @@ module _ (lang : Dialect) (p : Program) where
   turns : (k : Kind) (x : List ℕ) (f : Store → Result (List Value) Fault) (s : Store) → IsIntegerScalar ds x → Holds s → ((t : Store) → Holds t → Gives (AllAre k) (f t))
       → (l u : ℤ) → Gives (AllAre k) (for_numbers lang.bits x l u f s)
   turns k x f s i h g l u =
-      behind AnyFault (AllByRecursion (AllAre k)) (AllAre k) (each (λ z. cond (fits lang.bits z) (f (bound_to x z s)) (Err Overflow)) (numbers_from l (not_negative (u -ℤ l +ℤ pos 1)))) (λ vss. Ok (joined vss))
+      behind AnyFault (AllByRecursion (AllAre k)) (AllAre k) (each (λ z. cond (fits lang.bits z) (f (bound_to x z s)) (Err Overflow)) (numbers_from l (not_negative (u -ℤ l +ℤ pos 1)))) (λ vss. Ok (joined_values vss))
       (each_answers AnyFault AnyValue (AllAre k) _ (numbers_from l (not_negative (u -ℤ l +ℤ pos 1))) (λ z q. one_turn k x f s i h g z) (all_any _))
       (λ vss q. joined_are k vss q)
     where
@@ -259,10 +259,10 @@ module _ (lang : Dialect) (p : Program) where
         behind AnyFault (IsKind k) (AllAre k) (value_of lang e s) _ (value_is e k s h g.0.0) (λ x q. behind AnyFault (AllAre k) (AllAre k) (values_of lang es s) _ (values_are es k s h g.1) (λ xs qs. (q, qs)))
 
     pub array_is : (e : Expression) (k : Kind) (s : Store) → Holds s → HasKind ds e k → Gives (ElementsAre k) (array_of lang e s)
-    array_is (Number n) k s h g = settled_is k (scalar (Int n)) (sym g.1, tt)
-    array_is (Logic b) k s h g = settled_is k (scalar (Truth b)) (sym g, tt)
+    array_is (Number n) k s h g = settled_is k (scalar_array (Int n)) (sym g.1, tt)
+    array_is (Logic b) k s h g = settled_is k (scalar_array (Truth b)) (sym g, tt)
     array_is (Named x ps) k s h g =
-        after (ElementsAre k) (selectors lang ps s) _ (λ zs. after (ElementsAre k) (bounds_of x s) _ (λ bs. after (ElementsAre k) (axes_selected ps bs zs) _ (λ axes.
+        after (ElementsAre k) (selectors lang ps s) _ (λ zs. after (ElementsAre k) (stored_bounds x s) _ (λ bs. after (ElementsAre k) (axes_selected ps bs zs) _ (λ axes.
         settled_is k _ (cells_held x k _ s h g.0 _))))
     array_is (Unary o a) k s h g =
         subst (λ j. Gives (ElementsAre j) (array_of lang (Unary o a) s)) (sym g.1)
@@ -287,7 +287,7 @@ module _ (lang : Dialect) (p : Program) where
     array_is (Reduce r a) k s h g =
         subst (λ j. Gives (ElementsAre j) (array_of lang (Reduce r a) s)) (sym g.2)
         (after (ElementsAre Integer) (array_of lang a s) _ (λ q. after (ElementsAre Integer) (in_whole q) _ (λ v. after (ElementsAre Integer) (as_numbers v.values) _ (λ zs.
-        behind AnyFault (IsKind Integer) (ElementsAre Integer) (reduced lang.bits r zs) _ (reduced_is lang.bits r zs) (λ x u. settled_is Integer (scalar x) (u, tt))))))
+        behind AnyFault (IsKind Integer) (ElementsAre Integer) (reduced lang.bits r zs) _ (reduced_is lang.bits r zs) (λ x u. settled_is Integer (scalar_array x) (u, tt))))))
 
 pub value_has_kind : ValueHasKind
 value_has_kind lang p e k s v h g q = value AnyFault (IsKind k) (value_of lang e s) v (value_is lang p e k s h g) q

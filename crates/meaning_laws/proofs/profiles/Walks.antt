@@ -8,7 +8,7 @@ use Rattle.tree.specs.declared.ops.Kind.{Kind}
 use Rattle.tree.specs.declared.ops.Value.{Value}
 use Rattle.tree.specs.declared.ops.Fault.{Fault}
 use Rattle.meaning.specs.Dialect.{Dialect}
-use Rattle.meaning.specs.Store.{Store, Cell, bounds_of}
+use Rattle.meaning.specs.Store.{Store, Cell, stored_bounds}
 use Rattle.meaning.specs.Texts.{output_text}
 use Rattle.meaning.specs.Typed.{declared}
 use Rattle.meaning.specs.Value.{value_of, truth_of, cell_named, item_cells, item_values, is_array, named, is_in_range}
@@ -70,7 +70,7 @@ module _ (lang : Dialect) (limit : Option ℕ) (p : Program) (F : Fault → Type
 
   pub record IsDeallocated (x : List ℕ) : Type 0 where
     pub suits : IfSome (declared p.declarations x) (λ (e : Declaration). HasBounds e.extent None)
-    pub known : Is AnyValue (bounds_of x)
+    pub known : Is AnyValue (stored_bounds x)
 
   abbrev mutual
     pub IsFine : Statement → Type 0

@@ -6,7 +6,7 @@ use Rattle.std.specs.List.{list_any}
 use Rattle.std.proofs.lemmas.List.Folds.{list_any-append}
 use Rattle.std.specs.Str.{bytes_eq}
 use Rattle.tree.specs.Plain.{Expression, Subscript, Reference, subscripts, expressions}
-use Rattle.tree.specs.View.{expression_of, subscript_of, reference_of, loop_of, loops, ConstructorLoop}
+use Rattle.tree.specs.View.{expression_of, subscript_of, reference_of, loop_of, constructor_loops, ConstructorLoop}
 use Rattle.tree.specs.declared.ops.Op.{Op}
 use Rattle.tree.specs.declared.functions.Fun.{Fun}
 use Rattle.tree.specs.declared.functions.Red.{Red}
@@ -37,9 +37,9 @@ each_subscript : (ps : List Subscript) (x : List ℕ) → is_among (names_in_sub
 each_subscript [] x = refl
 each_subscript (p ∷ ps) x = among_append (names_in_subscript p) (names_in_subscripts (subscripts ps)) x ∙ ap (λ b. is_among (names_in_subscript p) x || b) (each_subscript ps x)
 
-each_loop : (ls : List ConstructorLoop) (x : List ℕ) → is_among (names_in_loops (loops ls)) x ≡ list_any (λ l. is_among (names_in_loop l) x) ls
+each_loop : (ls : List ConstructorLoop) (x : List ℕ) → is_among (names_in_loops (constructor_loops ls)) x ≡ list_any (λ l. is_among (names_in_loop l) x) ls
 each_loop [] x = refl
-each_loop (l ∷ ls) x = among_append (names_in_loop l) (names_in_loops (loops ls)) x ∙ ap (λ b. is_among (names_in_loop l) x || b) (each_loop ls x)
+each_loop (l ∷ ls) x = among_append (names_in_loop l) (names_in_loops (constructor_loops ls)) x ∙ ap (λ b. is_among (names_in_loop l) x || b) (each_loop ls x)
 
 abbrev among_in : List ℕ → Expression → Bool
 among_in x e = is_among (names_in e) x
@@ -66,8 +66,8 @@ among-call f es x = ap (among_in x) (expression_of-call f es) ∙ each_expressio
 pub among-list : (es : Seq Expr) (ls : Seq Turn) (x : List ℕ) → is_among (names_in (expression_of (exprs.List es ls))) x
     ≡ (list_any (λ e. is_among (names_in e) x) (map expression_of es) || list_any (λ l. is_among (names_in_loop l) x) (map loop_of ls))
 among-list es ls x =
-    ap (among_in x) (expression_of-list es ls) ∙ among_append (names_in_each (expressions (map expression_of es))) (names_in_loops (loops (map loop_of ls))) x
-    ∙ ap (λ b. b || is_among (names_in_loops (loops (map loop_of ls))) x) (each_expression (map expression_of es) x)
+    ap (among_in x) (expression_of-list es ls) ∙ among_append (names_in_each (expressions (map expression_of es))) (names_in_loops (constructor_loops (map loop_of ls))) x
+    ∙ ap (λ b. b || is_among (names_in_loops (constructor_loops (map loop_of ls))) x) (each_expression (map expression_of es) x)
     ∙ ap (λ b. list_any (λ e. is_among (names_in e) x) (map expression_of es) || b) (each_loop (map loop_of ls) x)
 
 pub among-spread : (a : Box Expr Global) (d : ℕ) (n : Box Expr Global) (x : List ℕ)

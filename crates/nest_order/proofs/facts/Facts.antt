@@ -22,11 +22,11 @@ use Rattle.linear_forms.specs.Linear.{Form, number_at, form_of, HaveValues}
 use Rattle.linear_forms.proofs.Faultless.{linear_has_value}
 use Rattle.nest_order.specs.orders.Lists.{In, Each, Distinct}
 use Rattle.nest_order.specs.orders.Nests.{IsInstance}
-use Rattle.nest_order.specs.orders.Shapes.{Instance, Within, loops, statements}
+use Rattle.nest_order.specs.orders.Shapes.{Instance, Within, loops_of_shape, statements}
 use Rattle.nest_order.proofs.orders.Common.{statement_stands}
 use Rattle.nest_order.proofs.orders.Lists.{Each-In}
 use Rattle.nest_order.specs.runs.Guarded.{sequential, variable_cell, at_iterations}
-use Rattle.nest_order.specs.runs.Nests.{Nest, AreAt, LoopStands, effect_of, variables_round}
+use Rattle.nest_order.specs.runs.Nests.{RunNest, AreAt, LoopStands, effect_of, variables_round}
 use Rattle.nest_order.specs.runs.Stores.{Setting, HoldsNest}
 use Rattle.nest_order.specs.runs.Touched.{nth_of}
 use Rattle.nest_order.proofs.runs.Alone.{stands_loops, stands_once}
@@ -103,7 +103,7 @@ counted_is (pos m) k e h = e ∙ sym (ap (λ c. cond c m 0) (small m (let f : k 
     small m h = grind arith
 counted_is (negsuc m) k e h = e
 
-module _ (bits : ℕ) (n : Nest) (w : Setting) (facts : HasFacts bits n w) where
+module _ (bits : ℕ) (n : RunNest) (w : Setting) (facts : HasFacts bits n w) where
   abbrev turns : ℕ → List ℕ → ℕ
   turns = n.turns_of w.values
 
@@ -112,7 +112,7 @@ module _ (bits : ℕ) (n : Nest) (w : Setting) (facts : HasFacts bits n w) where
 
   -- ---- iterations of loops of the nest can be counted
 
-  pub small_iterations : (ls is before : List ℕ) → ((m : ℕ) → In m ls → In m (loops n.shape)) → Within turns before ls is → Each (λ i. i ≤ 2147483646) is
+  pub small_iterations : (ls is before : List ℕ) → ((m : ℕ) → In m ls → In m (loops_of_shape n.shape)) → Within turns before ls is → Each (λ i. i ≤ 2147483646) is
   small_iterations [] [] before known v = tt
   small_iterations [] (i ∷ is) before known v = absurd v
   small_iterations (l ∷ ls) [] before known v = absurd v
@@ -132,7 +132,7 @@ module _ (bits : ℕ) (n : Nest) (w : Setting) (facts : HasFacts bits n w) where
   abbrev there : List ℕ → List ℕ → Store → Store
   there ls is t = at_iterations (map n.variable_at ls) is t
 
-  program_there : (ls is : List ℕ) (t : Store) → ((m : ℕ) → In m ls → In m (loops n.shape)) → Each (λ i. i ≤ 2147483646) is → HoldsProgram (sequential bits) w.program t → HoldsProgram (sequential bits) w.program (there ls is t)
+  program_there : (ls is : List ℕ) (t : Store) → ((m : ℕ) → In m ls → In m (loops_of_shape n.shape)) → Each (λ i. i ≤ 2147483646) is → HoldsProgram (sequential bits) w.program t → HoldsProgram (sequential bits) w.program (there ls is t)
   program_there [] [] t known small h = h
   program_there [] (i ∷ is) t known small h = h
   program_there (l ∷ ls) [] t known small h = h
@@ -147,7 +147,7 @@ module _ (bits : ℕ) (n : Nest) (w : Setting) (facts : HasFacts bits n w) where
   untouched (l ∷ ls) [] t c free = refl
   untouched (l ∷ ls) (i ∷ is) t c free = untouched ls is (bound_to (n.variable_at l) (pos i) t) c (λ m j. free m (inr j)) ∙ sym (unread (var n l) c (Int (pos i)) t (free l (inl refl)))
 
-  at_there : (ls is before : List ℕ) (t : Store) → Distinct ls → ((m : ℕ) → In m ls → In m (loops n.shape)) → Within turns before ls is → AreAt n ls is (there ls is t)
+  at_there : (ls is before : List ℕ) (t : Store) → Distinct ls → ((m : ℕ) → In m ls → In m (loops_of_shape n.shape)) → Within turns before ls is → AreAt n ls is (there ls is t)
   at_there [] [] before t d known v = tt
   at_there [] (i ∷ is) before t d known v = absurd v
   at_there (l ∷ ls) [] before t d known v = absurd v
@@ -165,7 +165,7 @@ module _ (bits : ℕ) (n : Nest) (w : Setting) (facts : HasFacts bits n w) where
   loops_have (l ∷ ls) [] s b h = absurd h
   loops_have (l ∷ ls) (i ∷ is) s b h = (b l (inl refl), h.0, loops_have ls is s (λ m j. b m (inr j)) h.1)
 
-  places_have : (ls is : List ℕ) (s : Store) → ((m : ℕ) → In m ls → In m (loops n.shape)) → ((x : List ℕ) → s.bounds x ≡ w.bounds x) → ((k : ℕ) (x : List ℕ) → nth_of n.symbols k ≡ Some x → s.held (variable_cell x) ≡ Int (w.values k)) → AreAt n ls is s
+  places_have : (ls is : List ℕ) (s : Store) → ((m : ℕ) → In m ls → In m (loops_of_shape n.shape)) → ((x : List ℕ) → s.bounds x ≡ w.bounds x) → ((k : ℕ) (x : List ℕ) → nth_of n.symbols k ≡ Some x → s.held (variable_cell x) ≡ Int (w.values k)) → AreAt n ls is s
       → HaveValues (map n.variable_at ls ++ n.symbols) s (places_of w.values n.symbols is)
   places_have ls is s known b h at = have-append (map n.variable_at ls) n.symbols s (map pos is) (values_from w.values 0 n.symbols)
       (loops_have ls is s (λ m j. b (n.variable_at m) ∙ facts.variables m (known m j)) at)
@@ -177,7 +177,7 @@ module _ (bits : ℕ) (n : Nest) (w : Setting) (facts : HasFacts bits n w) where
 
   -- ---- of an instance
 
-  loops_known : (s : ℕ) → In s (statements n.shape) → Distinct (n.loops_of s) × ((m : ℕ) → In m (n.loops_of s) → In m (loops n.shape))
+  loops_known : (s : ℕ) → In s (statements n.shape) → Distinct (n.loops_of s) × ((m : ℕ) → In m (n.loops_of s) → In m (loops_of_shape n.shape))
   loops_known s i =
       let k = statement_stands n.shape s i in
       let e : k.0 ≡ n.loops_of s = sym (facts.text.nest.fits s k.0 k.1) in (
@@ -185,7 +185,7 @@ module _ (bits : ℕ) (n : Nest) (w : Setting) (facts : HasFacts bits n w) where
         λ m j. stands_loops n.shape s k.0 k.1 m (subst (In m) (sym e) j),
       )
 
-  symbol_free : (ls is : List ℕ) (t : Store) → ((m : ℕ) → In m ls → In m (loops n.shape)) → HoldsNest bits n w t → (k : ℕ) (x : List ℕ) → nth_of n.symbols k ≡ Some x → (there ls is t).held (variable_cell x) ≡ Int (w.values k)
+  symbol_free : (ls is : List ℕ) (t : Store) → ((m : ℕ) → In m ls → In m (loops_of_shape n.shape)) → HoldsNest bits n w t → (k : ℕ) (x : List ℕ) → nth_of n.symbols k ≡ Some x → (there ls is t).held (variable_cell x) ≡ Int (w.values k)
   symbol_free ls is t known h k x e = untouched ls is t (variable_cell x) (λ m j f. facts.text.others m x (known m j) (nth-In n.symbols k x e) (ap (λ (c : Cell). c.name) f)) ∙ h.symbols k x e
 
   typed : (x : Instance) (t : Store) (c : Cell) (v : Value) → IsIt x → HoldsNest bits n w t → effect_of n (sequential bits) x t ≡ Ok (Some (c, v)) → IfSome (declared w.program.declarations c.name) (λ (d : Declaration). kind_of v ≡ d.kind)
@@ -235,7 +235,7 @@ module _ (bits : ℕ) (n : Nest) (w : Setting) (facts : HasFacts bits n w) where
   trips : (round : List ℕ) (l : ℕ) (before : List ℕ) (t : Store) (z : ℤ) (k : ℕ) → LoopStands n.shape round l → Within turns [] round before → HoldsNest bits n w t → AreAt n round before t
       → number_of (sequential bits) (n.trip_at l) t ≡ Ok z → trip_count (pos 1) z (pos 1) ≡ Ok k → k ≡ turns l before
   trips round l before t z k lies v h at e count =
-      let known : (m : ℕ) → In m round → In m (loops n.shape) = λ m i. (outer_loop n.shape round l m facts.text.nest.single lies i).0 in
+      let known : (m : ℕ) → In m round → In m (loops_of_shape n.shape) = λ m i. (outer_loop n.shape round l m facts.text.nest.single lies i).0 in
       let small = small_iterations round before [] known v in
       let have = places_have round before t known h.bounds h.symbols at in
       let sized = places_sized before t small in

@@ -2,7 +2,7 @@
 use Rattle.std.proofs.Common.{◌≡◌, refl, sym, ap, ◌∙◌, subst, ◌⊎◌, inl, inr, ℕ, zero, suc, ◌<◌, ◌≤◌, ◌==◌, Bool, true, false, cond, List, [], ◌∷◌, ◌++◌, length, arith}
 use Rattle.nest_order.specs.orders.Lists.{Distinct, In, Pairwise}
 use Rattle.nest_order.specs.orders.Nests.{common}
-use Rattle.nest_order.specs.orders.Shapes.{Fits, FitsIn, Loop, SameUpTo, Shape, Shapes, Single, Stands, StandsIn, common_of, loops, loops_in, no_shapes, shape, statements, statements_in}
+use Rattle.nest_order.specs.orders.Shapes.{Fits, FitsIn, Loop, SameUpTo, Shape, Shapes, Single, Stands, StandsIn, common_of, loops_of_shape, loops_of_shapes, no_shapes, shape, statements, statements_in}
 use Rattle.nest_order.proofs.orders.Lists.{In-append}
 use Rattle.nest_order.proofs.orders.Once.{Pairwise-left, Pairwise-right, Pairwise-across}
 use Rattle.nest_order.proofs.orders.Keeping.{common_more, same_number, fits_body}
@@ -79,7 +79,7 @@ module _ (loops_of : ℕ → List ℕ) where
   abbrev Rising : List ℕ → Type 0
   Rising xs = Pairwise (λ s r. s < r) xs
 
-  cases : (t : Shape) (ts : Shapes) (round : List ℕ) → FitsIn loops_of round (shape t ts) → Distinct (loops t ++ loops_in ts) → Rising (statements t ++ statements_in ts) → (s q r : ℕ) → s < q → q < r
+  cases : (t : Shape) (ts : Shapes) (round : List ℕ) → FitsIn loops_of round (shape t ts) → Distinct (loops_of_shape t ++ loops_of_shapes ts) → Rising (statements t ++ statements_in ts) → (s q r : ℕ) → s < q → q < r
       → In s (statements t) ⊎ In s (statements_in ts) → In q (statements t) ⊎ In q (statements_in ts) → In r (statements t) ⊎ In r (statements_in ts)
       → (In s (statements t) → In q (statements t) → In r (statements t) → common loops_of s r ≤ common loops_of q r)
       → (In s (statements_in ts) → In q (statements_in ts) → In r (statements_in ts) → common loops_of s r ≤ common loops_of q r) → common loops_of s r ≤ common loops_of q r
@@ -102,17 +102,17 @@ module _ (loops_of : ℕ → List ℕ) where
   cases t ts round fits dl rising s q r a b (inr i) (inr j) (inl k) f g = absurd (let c : r < q = Pairwise-across (λ s r. s < r) (statements t) (statements_in ts) rising r q k j in omega arith)
 
   mutual
-    pub between : (t : Shape) (round : List ℕ) → Fits loops_of round t → Distinct (loops t) → Rising (statements t) → (s q r : ℕ)
+    pub between : (t : Shape) (round : List ℕ) → Fits loops_of round t → Distinct (loops_of_shape t) → Rising (statements t) → (s q r : ℕ)
         → In s (statements t) → In q (statements t) → In r (statements t) → s < q → q < r → common loops_of s r ≤ common loops_of q r
     between (Single k) round fits dl rising s q r (inl e) (inl f) c a b = absurd (omega arith)
     between (Single k) round fits dl rising s q r (inl e) (inr f) c a b = absurd f
     between (Single k) round fits dl rising s q r (inr e) f c a b = absurd e
     between (Loop l ts) round fits dl rising s q r i j k a b = between_in ts (round ++ l ∷ []) (fits_body loops_of [] (λ l is. 0) l ts round fits) dl.1 rising s q r i j k a b
 
-    pub between_in : (ts : Shapes) (round : List ℕ) → FitsIn loops_of round ts → Distinct (loops_in ts) → Rising (statements_in ts) → (s q r : ℕ)
+    pub between_in : (ts : Shapes) (round : List ℕ) → FitsIn loops_of round ts → Distinct (loops_of_shapes ts) → Rising (statements_in ts) → (s q r : ℕ)
         → In s (statements_in ts) → In q (statements_in ts) → In r (statements_in ts) → s < q → q < r → common loops_of s r ≤ common loops_of q r
     between_in no_shapes round fits dl rising s q r i j k a b = absurd i
     between_in (shape t ts) round fits dl rising s q r i j k a b =
         cases t ts round fits dl rising s q r a b (In-append s (statements t) (statements_in ts) i) (In-append q (statements t) (statements_in ts) j) (In-append r (statements t) (statements_in ts) k)
-        (λ i j k. between t round (λ s ls h. fits s ls (inl h)) (Pairwise-left (λ x y. ¬ (x ≡ y)) (loops t) (loops_in ts) dl) (Pairwise-left (λ s r. s < r) (statements t) (statements_in ts) rising) s q r i j k a b)
-        (λ i j k. between_in ts round (λ s ls h. fits s ls (inr h)) (Pairwise-right (λ x y. ¬ (x ≡ y)) (loops t) (loops_in ts) dl) (Pairwise-right (λ s r. s < r) (statements t) (statements_in ts) rising) s q r i j k a b)
+        (λ i j k. between t round (λ s ls h. fits s ls (inl h)) (Pairwise-left (λ x y. ¬ (x ≡ y)) (loops_of_shape t) (loops_of_shapes ts) dl) (Pairwise-left (λ s r. s < r) (statements t) (statements_in ts) rising) s q r i j k a b)
+        (λ i j k. between_in ts round (λ s ls h. fits s ls (inr h)) (Pairwise-right (λ x y. ¬ (x ≡ y)) (loops_of_shape t) (loops_of_shapes ts) dl) (Pairwise-right (λ s r. s < r) (statements t) (statements_in ts) rising) s q r i j k a b)

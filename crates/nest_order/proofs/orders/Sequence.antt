@@ -1,7 +1,7 @@
 -- The instances of a nest come in sequential order.
 use Rattle.std.proofs.Common.{◌≡◌, refl, sym, ap, ◌∙◌, subst, ◌⊎◌, inl, inr, ℕ, suc, ◌+◌, ◌-◌, ◌<◌, ◌≤◌, ◌==◌, Bool, true, false, cond, List, [], ◌∷◌, ◌++◌, map, length, arith, append-nil}
 use Rattle.nest_order.specs.orders.Lists.{Distinct, In, Pairwise}
-use Rattle.nest_order.specs.orders.Shapes.{Fits, FitsIn, Instance, LessAt, Loop, SameUpTo, Shape, Shapes, Single, Stands, StandsIn, common_of, instances, instances_in, loops, loops_in, no_shapes, shape, statements, statements_in, within_turn}
+use Rattle.nest_order.specs.orders.Shapes.{Fits, FitsIn, Instance, LessAt, Loop, SameUpTo, Shape, Shapes, Single, Stands, StandsIn, common_of, instances, instances_in, loops_of_shape, loops_of_shapes, no_shapes, shape, statements, statements_in, within_turn}
 use Rattle.nest_order.proofs.orders.Lists.{Pairwise-append, In-left, In-right}
 use Rattle.nest_order.proofs.orders.Membership.{In-map, Pairwise-turns, Pairwise-map, instance_stands, instance_stands_in}
 use Rattle.nest_order.proofs.orders.Once.{has_statement, has_statement_in, Pairwise-left, Pairwise-right, Pairwise-across}
@@ -40,25 +40,25 @@ common_right (x ∷ xs) (y ∷ ys) = by (x == y) (common_right xs ys)
 
 -- the outermost loop round a statement is one of the loops
 mutual
-  pub head_in_loops : (t : Shape) (s l : ℕ) (ls : List ℕ) → Stands t s (l ∷ ls) → In l (loops t)
+  pub head_in_loops : (t : Shape) (s l : ℕ) (ls : List ℕ) → Stands t s (l ∷ ls) → In l (loops_of_shape t)
   head_in_loops (Single r) s l ls h = absurd h
   head_in_loops (Loop m ts) s l ls h = inl (sym h.0)
 
-  pub head_in_loops_in : (ts : Shapes) (s l : ℕ) (ls : List ℕ) → StandsIn ts s (l ∷ ls) → In l (loops_in ts)
+  pub head_in_loops_in : (ts : Shapes) (s l : ℕ) (ls : List ℕ) → StandsIn ts s (l ∷ ls) → In l (loops_of_shapes ts)
   head_in_loops_in no_shapes s l ls h = absurd h
-  head_in_loops_in (shape t ts) s l ls (inl h) = In-left l (loops t) (loops_in ts) (head_in_loops t s l ls h)
-  head_in_loops_in (shape t ts) s l ls (inr h) = In-right l (loops t) (loops_in ts) (head_in_loops_in ts s l ls h)
+  head_in_loops_in (shape t ts) s l ls (inl h) = In-left l (loops_of_shape t) (loops_of_shapes ts) (head_in_loops t s l ls h)
+  head_in_loops_in (shape t ts) s l ls (inr h) = In-right l (loops_of_shape t) (loops_of_shapes ts) (head_in_loops_in ts s l ls h)
 
 module _ (loops_of : ℕ → List ℕ) where
   -- two statements that stand beside each other have no further loop in common
-  pub beside : (t : Shape) (ts : Shapes) (round : List ℕ) (s r : ℕ) (ls ms : List ℕ) → Distinct (loops t ++ loops_in ts) → FitsIn loops_of round (shape t ts)
+  pub beside : (t : Shape) (ts : Shapes) (round : List ℕ) (s r : ℕ) (ls ms : List ℕ) → Distinct (loops_of_shape t ++ loops_of_shapes ts) → FitsIn loops_of round (shape t ts)
       → Stands t s ls → StandsIn ts r ms → common_of (loops_of s) (loops_of r) ≤ length round
   beside t ts round s r ls ms d fits h g = subst (λ zs. common_of zs (loops_of r) ≤ length round) (sym (fits s ls (inl h))) (subst (λ zs. common_of (round ++ ls) zs ≤ length round) (sym (fits r ms (inr g))) (by ls ms h g))
     where
       by : (ls ms : List ℕ) → Stands t s ls → StandsIn ts r ms → common_of (round ++ ls) (round ++ ms) ≤ length round
       by [] ms h g = subst (λ zs. common_of zs (round ++ ms) ≤ length round) (sym (append-nil round)) (common_left round (round ++ ms))
       by (l ∷ ls) [] h g = subst (λ zs. common_of (round ++ l ∷ ls) zs ≤ length round) (sym (append-nil round)) (common_right (round ++ l ∷ ls) round)
-      by (l ∷ ls) (m ∷ ms) h g = common_no_more round l m ls ms (Pairwise-across (λ x y. ¬ (x ≡ y)) (loops t) (loops_in ts) d l m (head_in_loops t s l ls h) (head_in_loops_in ts r m ms g))
+      by (l ∷ ls) (m ∷ ms) h g = common_no_more round l m ls ms (Pairwise-across (λ x y. ¬ (x ≡ y)) (loops_of_shape t) (loops_of_shapes ts) d l m (head_in_loops t s l ls h) (head_in_loops_in ts r m ms g))
 
   -- sequential order once the first d loops are at fixed iterations
   abbrev pub PrecedesFrom : ℕ → Instance → Instance → Type 0
@@ -88,7 +88,7 @@ module _ (loops_of : ℕ → List ℕ) where
         inr (subst (λ k. SameUpTo k x.iterations y.iterations) e tt, less)
 
     mutual
-      pub sequence : (t : Shape) (d : ℕ) (round before : List ℕ) → d ≡ length round → Fits loops_of round t → Distinct (loops t) → Pairwise (λ s r. s < r) (statements t) → Pairwise (PrecedesFrom d) (instances trip t before)
+      pub sequence : (t : Shape) (d : ℕ) (round before : List ℕ) → d ≡ length round → Fits loops_of round t → Distinct (loops_of_shape t) → Pairwise (λ s r. s < r) (statements t) → Pairwise (PrecedesFrom d) (instances trip t before)
       sequence (Single s) d round before n fits dl rising = (tt, tt)
       sequence (Loop l ts) d round before n fits dl rising =
           Pairwise-turns (PrecedesFrom d) 1 (trip l before) (λ i. map (within_turn i) (instances_in trip ts (before ++ i ∷ [])))
@@ -101,11 +101,11 @@ module _ (loops_of : ℕ → List ℕ) where
           subst (PrecedesFrom d x) (sym p.is) (subst (λ z. PrecedesFrom d z (within_turn k p.it)) (sym o.is)
           (first_turn l ts d round before n fits j k o.it p.it less o.inside p.inside)))
 
-      pub sequence_in : (ts : Shapes) (d : ℕ) (round before : List ℕ) → d ≡ length round → FitsIn loops_of round ts → Distinct (loops_in ts) → Pairwise (λ s r. s < r) (statements_in ts) → Pairwise (PrecedesFrom d) (instances_in trip ts before)
+      pub sequence_in : (ts : Shapes) (d : ℕ) (round before : List ℕ) → d ≡ length round → FitsIn loops_of round ts → Distinct (loops_of_shapes ts) → Pairwise (λ s r. s < r) (statements_in ts) → Pairwise (PrecedesFrom d) (instances_in trip ts before)
       sequence_in no_shapes d round before n fits dl rising = tt
       sequence_in (shape t ts) d round before n fits dl rising = Pairwise-append (PrecedesFrom d) (instances trip t before) (instances_in trip ts before)
-          (sequence t d round before n (λ s ls h. fits s ls (inl h)) (Pairwise-left (λ x y. ¬ (x ≡ y)) (loops t) (loops_in ts) dl) (Pairwise-left (λ s r. s < r) (statements t) (statements_in ts) rising))
-          (sequence_in ts d round before n (λ s ls h. fits s ls (inr h)) (Pairwise-right (λ x y. ¬ (x ≡ y)) (loops t) (loops_in ts) dl) (Pairwise-right (λ s r. s < r) (statements t) (statements_in ts) rising))
+          (sequence t d round before n (λ s ls h. fits s ls (inl h)) (Pairwise-left (λ x y. ¬ (x ≡ y)) (loops_of_shape t) (loops_of_shapes ts) dl) (Pairwise-left (λ s r. s < r) (statements t) (statements_in ts) rising))
+          (sequence_in ts d round before n (λ s ls h. fits s ls (inr h)) (Pairwise-right (λ x y. ¬ (x ≡ y)) (loops_of_shape t) (loops_of_shapes ts) dl) (Pairwise-right (λ s r. s < r) (statements t) (statements_in ts) rising))
           (λ x y i j.
           let h = instance_stands trip t before x i in
           let g = instance_stands_in trip ts before y j in

@@ -15,8 +15,8 @@ use Rattle.meaning.proofs.CellFrame.{first_part, second_part}
 use Rattle.nest_order.specs.orders.Lists.{In}
 use Rattle.nest_order.specs.orders.Shapes.{statements}
 use Rattle.nest_order.proofs.orders.Membership.{map-In}
-use Rattle.nest_order.specs.runs.Guarded.{Guarded, assigned_if, at_iterations, effect, guard_holds, names_of, names_of_guard, sequential}
-use Rattle.nest_order.specs.runs.Nests.{AreAt, Near, Nest, is_variable, variables_round}
+use Rattle.nest_order.specs.runs.Guarded.{GuardedAssignment, assigned_if, at_iterations, effect, guard_holds, names_of, names_of_guard, sequential}
+use Rattle.nest_order.specs.runs.Nests.{AreAt, Near, RunNest, is_nest_variable, variables_round}
 use Rattle.nest_order.specs.runs.Stores.{IsNestText}
 use Rattle.nest_order.proofs.runs.Results.{each_of}
 use Rattle.nest_order.proofs.runs.Variables.{var, variable_from, bounds_there, held_there, held_both, cell_name}
@@ -89,7 +89,7 @@ module _ (bits : ℕ) (s t : Store) where
   assigned_alike false r e h a k = refl
   assigned_alike true r e h a k = ap₂ (λ p q. do v ← p; d ← q; cond (is_in_range bits v) (Ok (Some (d, v))) (Err Overflow)) (value_alike e h) (cell_alike r a k)
 
-  pub effect_alike : (g : Guarded) → AreAlike (names_of g) → effect (sequential bits) g s ≡ effect (sequential bits) g t
+  pub effect_alike : (g : GuardedAssignment) → AreAlike (names_of g) → effect (sequential bits) g s ≡ effect (sequential bits) g t
   effect_alike g h =
       let rest = second_part Alike (names_of_guard g.guard) (names_in g.right ++ (g.left.name ∷ names_in_subscripts g.left.subscripts)) h in
       let left = second_part Alike (names_in g.right) (g.left.name ∷ names_in_subscripts g.left.subscripts) rest in
@@ -99,12 +99,12 @@ module _ (bits : ℕ) (s t : Store) where
 
 -- ---- an instance in two stores
 
-module _ (bits : ℕ) (n : Nest) (text : IsNestText n) where
+module _ (bits : ℕ) (n : RunNest) (text : IsNestText n) where
   -- a cell of a name in a statement is a variable of the statement's loops, or no loop's variable
   own_or_other : (s : ℕ) → In s (statements n.shape) → (t u : Store) → Near n t u → (x : List ℕ) → In x (names_of (n.statement_at s)) → (c : Cell) → c.name ≡ x → (t.held c ≡ u.held c) ⊎ In c (map (var n) (n.loops_of s))
-  own_or_other s i t u near x j c e = by (is_variable n c) refl
+  own_or_other s i t u near x j c e = by (is_nest_variable n c) refl
     where
-      by : (b : Bool) → is_variable n c ≡ b → (t.held c ≡ u.held c) ⊎ In c (map (var n) (n.loops_of s))
+      by : (b : Bool) → is_nest_variable n c ≡ b → (t.held c ≡ u.held c) ⊎ In c (map (var n) (n.loops_of s))
       by true f =
           let v = variable_from n c f in
           let name : x ≡ n.variable_at v.0 = sym e ∙ ap (λ (d : Cell). d.name) v.2 in

@@ -10,7 +10,7 @@ use Rattle.meaning_laws.specs.arrays.Instances as arrays
 use Rattle.nest_order.specs.orders.Graphs.{Arc, Place}
 use Rattle.nest_order.specs.orders.Lists.{In, Pairwise, Distinct}
 use Rattle.nest_order.specs.orders.Nests.{IsInstance, Precedes, common}
-use Rattle.nest_order.specs.orders.Shapes.{Shape, Single, Loop, Shapes, no_shapes, shape, statements, loops, loops_in, Stands, StandsIn, Instance, instances, Within, Fits, LessAt, SameUpTo, common_of}
+use Rattle.nest_order.specs.orders.Shapes.{Shape, Single, Loop, Shapes, no_shapes, shape, statements, loops_of_shape, loops_of_shapes, Stands, StandsIn, Instance, instances, Within, Fits, LessAt, SameUpTo, common_of}
 use Rattle.nest_order.proofs.orders.Common.{statement_stands}
 use Rattle.nest_order.proofs.orders.Covering.{meets_by_arc}
 use Rattle.nest_order.proofs.orders.Lists.{Each-In, Each-from, In-left, In-right}
@@ -20,7 +20,7 @@ use Rattle.nest_order.proofs.orders.Sequence.{PrecedesFrom, sequence}
 use Rattle.nest_order.specs.runs.Alone.{HasNoOwnEdge, InnerInstancesAreApart, chain, inner_instances, inside}
 use Rattle.nest_order.specs.runs.Blocks.{written}
 use Rattle.nest_order.specs.runs.Guarded.{effect, sequential}
-use Rattle.nest_order.specs.runs.Nests.{Nest, effect_of, reads_of}
+use Rattle.nest_order.specs.runs.Nests.{RunNest, effect_of, reads_of}
 use Rattle.nest_order.specs.runs.Stores.{HoldsNest, IsNestIn, Setting}
 use Rattle.nest_order.specs.runs.Touched.{AreEdgesOf, MayMeet, Touches, references_of}
 use Rattle.nest_order.specs.runs.Laws.{as_instance}
@@ -73,9 +73,9 @@ module _ (s : ℕ) where
       by (inl g) more = let a = more g in (a.0, ap₂ (λ k ks. k ∷ ks) (sym h.0) a.1)
       by (inr g) more = absurd g
 
-  chain_loops : (ls : List ℕ) → loops (chain ls s) ≡ ls
+  chain_loops : (ls : List ℕ) → loops_of_shape (chain ls s) ≡ ls
   chain_loops [] = refl
-  chain_loops (l ∷ ls) = ap (λ ks. l ∷ ks) (append-nil (loops (chain ls s)) ∙ chain_loops ls)
+  chain_loops (l ∷ ls) = ap (λ ks. l ∷ ks) (append-nil (loops_of_shape (chain ls s)) ∙ chain_loops ls)
 
   chain_statements : (ls : List ℕ) → statements (chain ls s) ≡ s ∷ []
   chain_statements [] = refl
@@ -83,34 +83,34 @@ module _ (s : ℕ) where
 
 -- no loop stands twice round a statement
 mutual
-  pub stands_loops : (t : Shape) (s : ℕ) (ls : List ℕ) → Stands t s ls → (m : ℕ) → In m ls → In m (loops t)
+  pub stands_loops : (t : Shape) (s : ℕ) (ls : List ℕ) → Stands t s ls → (m : ℕ) → In m ls → In m (loops_of_shape t)
   stands_loops (Single r) s [] h m i = absurd i
   stands_loops (Single r) s (l ∷ ls) h m i = absurd h
   stands_loops (Loop k ts) s [] h m i = absurd h
   stands_loops (Loop k ts) s (l ∷ ls) h m (inl e) = inl (e ∙ sym h.0)
   stands_loops (Loop k ts) s (l ∷ ls) h m (inr i) = inr (stands_loops_in ts s ls h.1 m i)
 
-  stands_loops_in : (ts : Shapes) (s : ℕ) (ls : List ℕ) → StandsIn ts s ls → (m : ℕ) → In m ls → In m (loops_in ts)
+  stands_loops_in : (ts : Shapes) (s : ℕ) (ls : List ℕ) → StandsIn ts s ls → (m : ℕ) → In m ls → In m (loops_of_shapes ts)
   stands_loops_in no_shapes s ls h m i = absurd h
-  stands_loops_in (shape t ts) s ls (inl h) m i = In-left m (loops t) (loops_in ts) (stands_loops t s ls h m i)
-  stands_loops_in (shape t ts) s ls (inr h) m i = In-right m (loops t) (loops_in ts) (stands_loops_in ts s ls h m i)
+  stands_loops_in (shape t ts) s ls (inl h) m i = In-left m (loops_of_shape t) (loops_of_shapes ts) (stands_loops t s ls h m i)
+  stands_loops_in (shape t ts) s ls (inr h) m i = In-right m (loops_of_shape t) (loops_of_shapes ts) (stands_loops_in ts s ls h m i)
 
 mutual
-  pub stands_once : (t : Shape) (s : ℕ) (ls : List ℕ) → Stands t s ls → Distinct (loops t) → Distinct ls
+  pub stands_once : (t : Shape) (s : ℕ) (ls : List ℕ) → Stands t s ls → Distinct (loops_of_shape t) → Distinct ls
   stands_once (Single r) s [] h d = tt
   stands_once (Single r) s (l ∷ ls) h d = absurd h
   stands_once (Loop k ts) s [] h d = absurd h
   stands_once (Loop k ts) s (l ∷ ls) h d = (
-    Each-from (λ m. ¬ (l ≡ m)) ls (λ m i e. Each-In (λ m. ¬ (k ≡ m)) (loops_in ts) d.0 m (stands_loops_in ts s ls h.1 m i) (h.0 ∙ e)),
+    Each-from (λ m. ¬ (l ≡ m)) ls (λ m i e. Each-In (λ m. ¬ (k ≡ m)) (loops_of_shapes ts) d.0 m (stands_loops_in ts s ls h.1 m i) (h.0 ∙ e)),
     stands_once_in ts s ls h.1 d.1,
   )
 
-  stands_once_in : (ts : Shapes) (s : ℕ) (ls : List ℕ) → StandsIn ts s ls → Distinct (loops_in ts) → Distinct ls
+  stands_once_in : (ts : Shapes) (s : ℕ) (ls : List ℕ) → StandsIn ts s ls → Distinct (loops_of_shapes ts) → Distinct ls
   stands_once_in no_shapes s ls h d = absurd h
-  stands_once_in (shape t ts) s ls (inl h) d = stands_once t s ls h (Pairwise-left (λ x y. ¬ (x ≡ y)) (loops t) (loops_in ts) d)
-  stands_once_in (shape t ts) s ls (inr h) d = stands_once_in ts s ls h (Pairwise-right (λ x y. ¬ (x ≡ y)) (loops t) (loops_in ts) d)
+  stands_once_in (shape t ts) s ls (inl h) d = stands_once t s ls h (Pairwise-left (λ x y. ¬ (x ≡ y)) (loops_of_shape t) (loops_of_shapes ts) d)
+  stands_once_in (shape t ts) s ls (inr h) d = stands_once_in ts s ls h (Pairwise-right (λ x y. ¬ (x ≡ y)) (loops_of_shape t) (loops_of_shapes ts) d)
 
-module _ (bits : ℕ) (n : Nest) (w : Setting) (ok : IsNestIn bits n w) where
+module _ (bits : ℕ) (n : RunNest) (w : Setting) (ok : IsNestIn bits n w) where
   abbrev turns : ℕ → List ℕ → ℕ
   turns = n.turns_of w.values
 

@@ -14,10 +14,10 @@ use Rattle.nest_order.specs.orders.Nests.{IsInstance}
 use Rattle.nest_order.specs.orders.Orders.{and_then, runs}
 use Rattle.nest_order.specs.orders.Shapes.{Instance, statements}
 use Rattle.nest_order.proofs.orders.Lists.{In-append}
-use Rattle.nest_order.specs.runs.Guarded.{Guarded, assigned_if, at_iterations, effect, sequential}
-use Rattle.nest_order.specs.runs.Nests.{Nest, acts, effect_of, variables_round}
+use Rattle.nest_order.specs.runs.Guarded.{GuardedAssignment, assigned_if, at_iterations, effect, sequential}
+use Rattle.nest_order.specs.runs.Nests.{RunNest, acts, effect_of, variables_round}
 use Rattle.nest_order.specs.runs.Stores.{Setting, HoldsNest, IsNestIn}
-use Rattle.nest_order.specs.runs.Touched.{MayName, IsPlain, EachIsPlain, ArePlain, IsPlainSubscript, references_in, references_in_each, references_in_subscripts, references_in_subscript, references_read}
+use Rattle.nest_order.specs.runs.Touched.{MayName, IsPlain, EachIsPlain, ArePlain, IsPlainSubscript, touched_in, references_in_each, touched_in_subscripts, touched_in_subscript, references_read}
 use Rattle.nest_order.proofs.runs.Holding.{instance_inside}
 use Rattle.nest_order.proofs.runs.Results.{both_ok, ok_same}
 use Rattle.nest_order.proofs.runs.Touching.{named_may}
@@ -44,18 +44,18 @@ module _ (bits : ℕ) (t : Store) where
   first_one q rs f g r (inr i) = g r i
 
   mutual
-    pub named_by : (e : Expression) (v : Value) → value_of (sequential bits) e t ≡ Ok v → EachNamesOne (references_in e)
+    pub named_by : (e : Expression) (v : Value) → value_of (sequential bits) e t ≡ Ok v → EachNamesOne (touched_in e)
     named_by (Number m) v h = λ r i. absurd i
     named_by (Logic b) v h = λ r i. absurd i
     named_by (Named x ps) v h =
         let is = both_ok (subscript_values (sequential bits) ps t) (λ is. do c ← cell_at x is t; Ok (t.held c)) v h in
         let c = both_ok (cell_at x is.0 t) (λ c. Ok (t.held c)) v is.2 in
-        first_one (record { name = x; subscripts = ps }) (references_in_subscripts ps) (c.0, ap (λ (r : Result (List ℤ) Fault). do is ← r; cell_at x is t) is.1 ∙ c.1) (named_by_subscripts ps is.0 is.1)
+        first_one (record { name = x; subscripts = ps }) (touched_in_subscripts ps) (c.0, ap (λ (r : Result (List ℤ) Fault). do is ← r; cell_at x is t) is.1 ∙ c.1) (named_by_subscripts ps is.0 is.1)
     named_by (Unary o a) v h = let w = both_ok (value_of (sequential bits) a t) (λ w. apply o w w) v h in named_by a w.0 w.1
     named_by (Binary o a b) v h =
         let w = both_ok (value_of (sequential bits) a t) (λ w. do z ← value_of (sequential bits) b t; apply o w z) v h in
         let z = both_ok (value_of (sequential bits) b t) (λ z. apply o w.0 z) v w.2 in
-        either_one (references_in a) (references_in b) (named_by a w.0 w.1) (named_by b z.0 z.1)
+        either_one (touched_in a) (touched_in b) (named_by a w.0 w.1) (named_by b z.0 z.1)
     named_by (Apply f es) v h = let vs = both_ok (values_of (sequential bits) es t) (λ vs. call f vs) v h in named_by_each es vs.0 vs.1
     named_by (Constructor es ls) v h = λ r i. absurd i
     named_by (Spread a j e) v h = λ r i. absurd i
@@ -68,21 +68,21 @@ module _ (bits : ℕ) (t : Store) where
     named_by_each (expression e es) vs h =
         let w = both_ok (value_of (sequential bits) e t) (λ w. do ws ← values_of (sequential bits) es t; Ok (w ∷ ws)) vs h in
         let ws = both_ok (values_of (sequential bits) es t) (λ ws. Ok (w.0 ∷ ws)) vs w.2 in
-        either_one (references_in e) (references_in_each es) (named_by e w.0 w.1) (named_by_each es ws.0 ws.1)
+        either_one (touched_in e) (references_in_each es) (named_by e w.0 w.1) (named_by_each es ws.0 ws.1)
 
-    pub named_by_subscripts : (ps : Subscripts) (is : List ℤ) → subscript_values (sequential bits) ps t ≡ Ok is → EachNamesOne (references_in_subscripts ps)
+    pub named_by_subscripts : (ps : Subscripts) (is : List ℤ) → subscript_values (sequential bits) ps t ≡ Ok is → EachNamesOne (touched_in_subscripts ps)
     named_by_subscripts no_subscripts is h = λ r i. absurd i
     named_by_subscripts (subscript q ps) is h =
         let i = both_ok (subscript_value (sequential bits) q t) (λ i. do js ← subscript_values (sequential bits) ps t; Ok (i ∷ js)) is h in
         let js = both_ok (subscript_values (sequential bits) ps t) (λ js. Ok (i.0 ∷ js)) is i.2 in
-        either_one (references_in_subscript q) (references_in_subscripts ps) (named_by_subscript q i.0 i.1) (named_by_subscripts ps js.0 js.1)
+        either_one (touched_in_subscript q) (touched_in_subscripts ps) (named_by_subscript q i.0 i.1) (named_by_subscripts ps js.0 js.1)
 
-    named_by_subscript : (q : Subscript) (i : ℤ) → subscript_value (sequential bits) q t ≡ Ok i → EachNamesOne (references_in_subscript q)
+    named_by_subscript : (q : Subscript) (i : ℤ) → subscript_value (sequential bits) q t ≡ Ok i → EachNamesOne (touched_in_subscript q)
     named_by_subscript (Only e) i h = let w = both_ok (value_of (sequential bits) e t) (λ w. as_number w) i h in named_by e w.0 w.1
     named_by_subscript (Section a b c) i h = λ r j. absurd j
 
   -- of an assignment that is done
-  assigned_names : (g : Guarded) (o : Option (Cell × Value)) → g.guard ≡ None → effect (sequential bits) g t ≡ Ok o → EachNamesOne (g.left ∷ references_read g)
+  assigned_names : (g : GuardedAssignment) (o : Option (Cell × Value)) → g.guard ≡ None → effect (sequential bits) g t ≡ Ok o → EachNamesOne (g.left ∷ references_read g)
   assigned_names g o e h = by g.guard e h
     where
       by : (q : Option Expression) → q ≡ None → effect (sequential bits) (record { guard = q; left = g.left; right = g.right }) t ≡ Ok o → EachNamesOne (g.left ∷ references_read (record { guard = q; left = g.left; right = g.right }))
@@ -91,10 +91,10 @@ module _ (bits : ℕ) (t : Store) where
           let v = both_ok (value_of (sequential bits) g.right t) (λ v. do c ← cell_named (sequential bits) g.left t; cond (is_in_range bits v) (Ok (Some (c, v))) (Err Overflow)) o h in
           let c = both_ok (cell_named (sequential bits) g.left t) (λ c. cond (is_in_range bits v.0) (Ok (Some (c, v.0))) (Err Overflow)) o v.2 in
           let is = both_ok (subscript_values (sequential bits) g.left.subscripts t) (λ is. cell_at g.left.name is t) c.0 c.1 in
-          first_one g.left (references_in_subscripts g.left.subscripts ++ references_in g.right) (c.0, c.1)
-          (either_one (references_in_subscripts g.left.subscripts) (references_in g.right) (named_by_subscripts g.left.subscripts is.0 is.1) (named_by g.right v.0 v.1))
+          first_one g.left (touched_in_subscripts g.left.subscripts ++ touched_in g.right) (c.0, c.1)
+          (either_one (touched_in_subscripts g.left.subscripts) (touched_in g.right) (named_by_subscripts g.left.subscripts is.0 is.1) (named_by g.right v.0 v.1))
 
-module _ (bits : ℕ) (n : Nest) (w : Setting) (ok : IsNestIn bits n w) where
+module _ (bits : ℕ) (n : RunNest) (w : Setting) (ok : IsNestIn bits n w) where
   abbrev IsIt : Instance → Type 0
   IsIt = IsInstance n.loops_of (n.turns_of w.values) n.shape
 

@@ -15,7 +15,7 @@ use Rattle.nest_order.specs.runs.Alone.{inside}
 use Rattle.nest_order.specs.runs.Blocks.{Layout, nest_block, nest_statement}
 use Rattle.nest_order.specs.runs.Forms.{AreCounted, AreCountedIn, IsCounted}
 use Rattle.nest_order.specs.runs.Guarded.{sequential, variable_cell}
-use Rattle.nest_order.specs.runs.Nests.{AreAt, LoopStands, LoopStandsIn, Near, Nest}
+use Rattle.nest_order.specs.runs.Nests.{AreAt, LoopStands, LoopStandsIn, Near, RunNest}
 use Rattle.nest_order.specs.runs.Stores.{IsNestIn, Setting}
 use Rattle.nest_order.proofs.runs.Results.{each_of}
 use Rattle.nest_order.proofs.runs.Variables.{var, variable_is, AreAt-put, Near-variable, Within-more, AreAt-more, put_there, scalar_place}
@@ -49,7 +49,7 @@ mutual
   statement_of_loop_in (shape t ts) filled ls l (inl h) = let a = statement_of_loop t filled.0 ls l h in (a.0, a.1, inl a.2)
   statement_of_loop_in (shape t ts) filled ls l (inr h) = let a = statement_of_loop_in ts filled.1 ls l h in (a.0, a.1, inr a.2)
 
-module _ (bits : ℕ) (n : Nest) (w : Setting) (ok : IsNestIn bits n w) where
+module _ (bits : ℕ) (n : RunNest) (w : Setting) (ok : IsNestIn bits n w) where
   abbrev turns : ℕ → List ℕ → ℕ
   turns = trip bits n w ok
 

@@ -17,7 +17,7 @@ use Rattle.meaning.proofs.CellFrame.{value_of-same, cell_named-same}
 use Rattle.meaning.proofs.Exchanges.{unread}
 use Rattle.nest_order.specs.orders.Lists.{In}
 use Rattle.nest_order.proofs.orders.Lists.{In-left, In-right}
-use Rattle.nest_order.specs.runs.Guarded.{Guarded, assigned_if, at_iterations, effect, guard_holds, read_by_guard, reads, variable_cell}
+use Rattle.nest_order.specs.runs.Guarded.{GuardedAssignment, assigned_if, at_iterations, effect, guard_holds, read_by_guard, reads, variable_cell}
 use Rattle.nest_order.proofs.runs.Results.{each_of}
 
 -- the same bounds of all names, and the same values of all cells but those that may have changed
@@ -57,7 +57,7 @@ module _ (lang : Dialect) (s t : Store) (bounds : (x : List ℕ) → s.bounds x 
       (value_of-same lang s t e (same_bounds (names_in e)) (same_held (cells_read lang e s) h))
       (cell_named-same lang s t r (bounds r.name) (same_bounds (names_in_subscripts r.subscripts)) (same_held (cells_read_by lang r.subscripts s) k))
 
-  pub effect-same : (g : Guarded) → SameHeld (reads lang g s) → effect lang g s ≡ effect lang g t
+  pub effect-same : (g : GuardedAssignment) → SameHeld (reads lang g s) → effect lang g s ≡ effect lang g t
   effect-same g h =
       let a = read_by_guard lang g.guard s in
       let b = cells_read lang g.right s in

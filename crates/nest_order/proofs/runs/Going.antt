@@ -13,7 +13,7 @@ use Rattle.meaning.specs.Value.{value_of, truth_of, number_of, cell_named, is_ar
 use Rattle.meaning.specs.Run.{State, Going, Act, does, does_all, nothing, either, repeated, while_going, evaluates, counts_step, stores, checks_range, turn}
 use Rattle.meaning_laws.specs.arrays.Instances.{after}
 use Rattle.nest_order.specs.runs.Blocks.{guarded_statement}
-use Rattle.nest_order.specs.runs.Guarded.{Guarded, assigned_if, dialect, effect, sequential, variable_cell}
+use Rattle.nest_order.specs.runs.Guarded.{GuardedAssignment, assigned_if, dialect, effect, sequential, variable_cell}
 use Rattle.nest_order.proofs.runs.Results.{ok_same, both_ok}
 use Rattle.nest_order.proofs.runs.Dialects.{value_kept, truth_kept, cell_kept, no_array}
 
@@ -66,7 +66,7 @@ module _ (bits : ℕ) (arrays : Bool) where
           record { way = ap (λ (t : State). t.way) a; store = ap (λ (t : State). t.store) a ∙ ap (λ o. after o s.store) is }
       on x d v c false range h = cc
 
-  pub guarded_went : (line : ℕ) (m : Option Mark) (g : Guarded) (s : State) (w : Option (Cell × Value)) → s.way ≡ Going → effect (sequential bits) g s.store ≡ Ok w
+  pub guarded_went : (line : ℕ) (m : Option Mark) (g : GuardedAssignment) (s : State) (w : Option (Cell × Value)) → s.way ≡ Going → effect (sequential bits) g s.store ≡ Ok w
       → Went s (does (dialect bits arrays) None (guarded_statement line m g) s) w
   guarded_went line m g s w way e = by g.guard e
     where

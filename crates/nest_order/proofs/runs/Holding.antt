@@ -17,9 +17,9 @@ use Rattle.meaning.specs.Value.{value_of, cell_named, subscript_values, is_in_ra
 use Rattle.meaning.proofs.Exchanges.{same_cell-same, unread}
 use Rattle.nest_order.specs.orders.Lists.{In}
 use Rattle.nest_order.specs.orders.Nests.{IsInstance}
-use Rattle.nest_order.specs.orders.Shapes.{Instance, loops}
-use Rattle.nest_order.specs.runs.Guarded.{Guarded, assigned_if, at_iterations, effect, guard_holds, sequential, variable_cell}
-use Rattle.nest_order.specs.runs.Nests.{Nest, effect_of, variables_round}
+use Rattle.nest_order.specs.orders.Shapes.{Instance, loops_of_shape}
+use Rattle.nest_order.specs.runs.Guarded.{GuardedAssignment, assigned_if, at_iterations, effect, guard_holds, sequential, variable_cell}
+use Rattle.nest_order.specs.runs.Nests.{RunNest, effect_of, variables_round}
 use Rattle.nest_order.specs.runs.Stores.{HoldsNest, IsNestIn, Setting}
 use Rattle.nest_order.specs.runs.Touched.{nth_of}
 use Rattle.nest_order.proofs.runs.Results.{ok_same, both_ok}
@@ -74,7 +74,7 @@ assigned_stored bits left right s c v e =
         record { gives = f ∙ ap Ok value; place = g ∙ ap Ok cell; range = ap (is_in_range bits) (sym value) ∙ r }
     on x d f g false r h = cc
 
-pub effect_stored : (bits : ℕ) (g : Guarded) (s : Store) (c : Cell) (v : Value) → effect (sequential bits) g s ≡ Ok (Some (c, v)) → Stored bits g.left g.right s c v
+pub effect_stored : (bits : ℕ) (g : GuardedAssignment) (s : Store) (c : Cell) (v : Value) → effect (sequential bits) g s ≡ Ok (Some (c, v)) → Stored bits g.left g.right s c v
 effect_stored bits g s c v e =
     let a = both_ok (guard_holds (sequential bits) g.guard s) (λ b. assigned_if (sequential bits) b g.left g.right s) (Some (c, v)) e in
     by a.0 a.2
@@ -90,7 +90,7 @@ named_cell bits r s c e =
 
 -- ---- writes
 
-module _ (bits : ℕ) (n : Nest) (w : Setting) (ok : IsNestIn bits n w) where
+module _ (bits : ℕ) (n : RunNest) (w : Setting) (ok : IsNestIn bits n w) where
   put_inside : (c : Cell) (v : Value) (s : Store) → HoldsNest bits n w s → IfSome (declared w.program.declarations c.name) (λ (d : Declaration). kind_of v ≡ d.kind) → is_in_range bits v ≡ true
       → ((x : List ℕ) → In x n.symbols → ¬ (c.name ≡ x)) → HoldsNest bits n w (put c v s)
   put_inside c v s h kind range other = record {
@@ -100,7 +100,7 @@ module _ (bits : ℕ) (n : Nest) (w : Setting) (ok : IsNestIn bits n w) where
   }
 
   -- a loop variable gets a number
-  pub variable_inside : (l : ℕ) → In l (loops n.shape) → (z : ℤ) (s : Store) → is_in_range bits (Int z) ≡ true → HoldsNest bits n w s → HoldsNest bits n w (put (var n l) (Int z) s)
+  pub variable_inside : (l : ℕ) → In l (loops_of_shape n.shape) → (z : ℤ) (s : Store) → is_in_range bits (Int z) ≡ true → HoldsNest bits n w s → HoldsNest bits n w (put (var n l) (Int z) s)
   variable_inside l i z s range h = put_inside (var n l) (Int z) s h
       (some_map (declared w.program.declarations (n.variable_at l)) (λ (d : Declaration). d.kind ≡ Integer) (λ (d : Declaration). kind_of (Int z) ≡ d.kind) (λ d e. sym e) (ok.integer l i))
       range (λ x j. ok.text.others l x i j)
@@ -115,7 +115,7 @@ module _ (bits : ℕ) (n : Nest) (w : Setting) (ok : IsNestIn bits n w) where
 
   -- which isn't a loop's variable
   pub written_elsewhere : (x : Instance) → IsInstance n.loops_of (n.turns_of w.values) n.shape x → (s : Store) (c : Cell) (v : Value) → effect_of n (sequential bits) x s ≡ Ok (Some (c, v))
-      → (l : ℕ) → In l (loops n.shape) → ¬ (c ≡ var n l)
+      → (l : ℕ) → In l (loops_of_shape n.shape) → ¬ (c ≡ var n l)
   written_elsewhere x is s c v e l i f =
       let st = effect_stored bits (n.statement_at x.statement) (at_iterations (variables_round n x.statement) x.iterations s) c v e in
       let name = named_cell bits (n.statement_at x.statement).left (at_iterations (variables_round n x.statement) x.iterations s) c st.place in

@@ -14,7 +14,7 @@ use Rattle.nest_order.specs.orders.Lists.{In}
 use Rattle.nest_order.specs.orders.Orders.{and_then, runs}
 use Rattle.nest_order.specs.orders.Shapes.{Instance}
 use Rattle.nest_order.specs.runs.Guarded.{at_iterations, variable_cell}
-use Rattle.nest_order.specs.runs.Nests.{Nest, acts, effect_of, reads_of, variables_round}
+use Rattle.nest_order.specs.runs.Nests.{RunNest, acts, effect_of, reads_of, variables_round}
 use Rattle.nest_order.specs.runs.Laws.{as_instance, InstancesComeFromReads}
 use Rattle.nest_order.proofs.runs.Framing.{effect-same}
 use Rattle.nest_order.proofs.runs.Variables.{bounds_there}
@@ -24,7 +24,7 @@ all_in P [] h x i = absurd i
 all_in P (y ∷ xs) h x (inl e) = subst P (sym e) h.0
 all_in P (y ∷ xs) h x (inr i) = all_in P xs h.1 x i
 
-module _ (n : Nest) (lang : Dialect) where
+module _ (n : RunNest) (lang : Dialect) where
   held_at : (xs : List (List ℕ)) (is : List ℕ) (s t : Store) (c : Cell) → s.held c ≡ t.held c → (at_iterations xs is s).held c ≡ (at_iterations xs is t).held c
   held_at [] [] s t c e = e
   held_at [] (i ∷ is) s t c e = e

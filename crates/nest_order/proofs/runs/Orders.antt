@@ -11,7 +11,7 @@ use Rattle.nest_order.proofs.orders.Covering.{complete_covers}
 use Rattle.nest_order.proofs.orders.Theorems.{any_order}
 use Rattle.nest_order.specs.runs.Alone.{inside}
 use Rattle.nest_order.specs.runs.Guarded.{sequential}
-use Rattle.nest_order.specs.runs.Nests.{Nest, acts, effect_of}
+use Rattle.nest_order.specs.runs.Nests.{RunNest, acts, effect_of}
 use Rattle.nest_order.specs.runs.Stores.{HoldsNest, IsNestIn, Setting}
 use Rattle.nest_order.specs.runs.Touched.{AreEdgesOf, MayMeet, Touches, references_of}
 use Rattle.nest_order.specs.runs.Laws.{InstancesMayPass, AnyOrderGivesStore}
@@ -20,7 +20,7 @@ use Rattle.nest_order.proofs.runs.Holding.{instance_inside}
 use Rattle.nest_order.proofs.runs.Passing.{Conflict, invariant, may_pass}
 use Rattle.nest_order.proofs.runs.Touching.{ReadBy, WrittenBy, reading, writing}
 
-module _ (bits : ℕ) (n : Nest) (w : Setting) (ok : IsNestIn bits n w) where
+module _ (bits : ℕ) (n : RunNest) (w : Setting) (ok : IsNestIn bits n w) where
   abbrev IsIt : Instance → Type 0
   IsIt = IsInstance n.loops_of (n.turns_of w.values) n.shape
 

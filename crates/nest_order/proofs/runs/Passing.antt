@@ -11,7 +11,7 @@ use Rattle.nest_order.specs.orders.Lists.{In}
 use Rattle.nest_order.specs.orders.Orders.{and_then, runs, MayPass, Invariant}
 use Rattle.nest_order.specs.orders.Shapes.{Instance}
 use Rattle.nest_order.specs.runs.Guarded.{at_iterations}
-use Rattle.nest_order.specs.runs.Nests.{Nest, acts, effect_of, reads_of, variables_round}
+use Rattle.nest_order.specs.runs.Nests.{RunNest, acts, effect_of, reads_of, variables_round}
 use Rattle.nest_order.proofs.runs.Framing.{But-put, But-iterations, effect-same}
 
 abbrev Write : Type 0
@@ -21,7 +21,7 @@ Write = Option (Cell × Value)
 abbrev pub Conflict : (Instance → Cell → Type 0) → (Instance → Cell → Type 0) → Instance → Instance → Type 0
 Conflict Reads Writes x y = (c : Cell) × ((Writes x c × (Reads y c ⊎ Writes y c)) ⊎ (Reads x c × Writes y c))
 
-module _ (lang : Dialect) (n : Nest) where
+module _ (lang : Dialect) (n : RunNest) where
   abbrev act : Instance → Store → Result Store Fault
   act = acts n lang
 

@@ -8,13 +8,13 @@ use Rattle.tree.specs.declared.ops.Fault.TheVariants.{Overflow}
 use Rattle.tree.specs.declared.stmts.Mark.{Mark}
 use Rattle.nest_order.specs.orders.Shapes.{Shape, Single, Loop, Shapes, no_shapes, shape}
 use Rattle.meaning.specs.Dialect.{Dialect}
-use Rattle.meaning.specs.Store.{Store, Cell, put, cell_at, allocated, with_bounds, bounds_of}
+use Rattle.meaning.specs.Store.{Store, Cell, put, cell_at, allocated, with_bounds, stored_bounds}
 use Rattle.meaning.specs.Value.{value_of, truth_of, number_of, cell_named, is_array, named, is_in_range, increment_of}
 use Rattle.meaning.specs.ArrayStatements.{writes_of, allocated_bounds}
 use Rattle.meaning.specs.Run.{State, Way, Going, Jumping, Stopped, Failed, Cut, Act, does, does_all, chooses, on_way, answered, goes, either, then, nothing, repeated, for_each, while_going, evaluates, counts_step, stores, stores_element, checks_range, assigns, array_assigns, sets_variable, increases, turn, loops, is_allowed, arrives, allocates, deallocates}
 use Rattle.nest_order.specs.runs.Blocks.{Layout, guarded_statement, loop_of, or_statement, written, written_in}
-use Rattle.nest_order.specs.runs.Guarded.{Guarded}
-use Rattle.nest_order.specs.runs.Nests.{Nest}
+use Rattle.nest_order.specs.runs.Guarded.{GuardedAssignment}
+use Rattle.nest_order.specs.runs.Nests.{RunNest}
 use Rattle.nest_order.specs.runs.Quiet.{AreQuiet, AreQuietArms, IsQuiet, NestsAreQuiet, QuietStatementsKeepLines, SameLines}
 
 abbrev Quiet : Act → Type 0
@@ -117,7 +117,7 @@ module _ (lang : Dialect) (limit : Option ℕ) where
     statement_quiet (Read line is) h = absurd h
     statement_quiet (Print line is) h = absurd h
     statement_quiet (Allocate line x es) h = either_quiet lang.arrays _ nothing (counted_quiet _ (evaluates_quiet line (allocated_bounds lang x es) _ (λ bs. allocates_quiet x bs))) same_lines
-    statement_quiet (Deallocate line x) h = either_quiet lang.arrays _ nothing (counted_quiet _ (evaluates_quiet line (bounds_of x) _ (λ b. deallocates_quiet x))) same_lines
+    statement_quiet (Deallocate line x) h = either_quiet lang.arrays _ nothing (counted_quiet _ (evaluates_quiet line (stored_bounds x) _ (λ b. deallocates_quiet x))) same_lines
 
     arms_quiet : (arms : Arms) (line : ℕ) (other : Act) → AreQuietArms arms → Quiet other → Quiet (chooses lang limit line arms other)
     arms_quiet no_arms line other h k = k
@@ -132,14 +132,14 @@ quiet_statements_keep_lines lang limit cs s h = block_quiet lang limit cs h s
 
 -- ---- nests
 
-guarded_quiet : (line : ℕ) (m : Option Mark) (g : Guarded) → IsQuiet (guarded_statement line m g)
+guarded_quiet : (line : ℕ) (m : Option Mark) (g : GuardedAssignment) → IsQuiet (guarded_statement line m g)
 guarded_quiet line m g = by g.guard
   where
     by : (o : Option Expression) → IsQuiet (guarded_statement line m (record { guard = o; left = g.left; right = g.right }))
     by None = tt
     by (Some e) = (((tt, tt), tt), tt)
 
-module _ (n : Nest) (y : Layout) (form : List ℕ → Shape → Option Statement) (forms : (outer : List ℕ) (t : Shape) (c : Statement) → form outer t ≡ Some c → IsQuiet c) where
+module _ (n : RunNest) (y : Layout) (form : List ℕ → Shape → Option Statement) (forms : (outer : List ℕ) (t : Shape) (c : Statement) → form outer t ≡ Some c → IsQuiet c) where
   either_form : (round : List ℕ) (t : Shape) (c : Statement) (o : Option Statement) → form round t ≡ o → IsQuiet c → IsQuiet (or_statement o c)
   either_form round t c None e h = h
   either_form round t c (Some b) e h = forms round t b e

@@ -15,13 +15,13 @@ use Rattle.meaning_laws.specs.arrays.Instances.{after}
 use Rattle.nest_order.specs.orders.Lists.{In}
 use Rattle.nest_order.specs.orders.Nests.{IsInstance}
 use Rattle.nest_order.specs.orders.Orders.{and_then, runs}
-use Rattle.nest_order.specs.orders.Shapes.{Shape, Single, Loop, Shapes, no_shapes, shape, statements, loops, Stands, StandsIn, Instance, within_turn, turns, instances, instances_in, Within}
+use Rattle.nest_order.specs.orders.Shapes.{Shape, Single, Loop, Shapes, no_shapes, shape, statements, loops_of_shape, Stands, StandsIn, Instance, within_turn, turns, instances, instances_in, Within}
 use Rattle.nest_order.specs.runs.Laws.{RunIsInstances}
 use Rattle.nest_order.proofs.orders.Once.{stands_in_statements}
 use Rattle.nest_order.specs.runs.Blocks.{Layout, guarded_statement, nest_block, nest_statement, statement_of}
 use Rattle.nest_order.specs.runs.Forms.{acts_at}
-use Rattle.nest_order.specs.runs.Guarded.{Guarded, assigned_if, at_iterations, effect, sequential}
-use Rattle.nest_order.specs.runs.Nests.{AreAt, LoopStands, LoopStandsIn, Near, Nest, acts, effect_of, variables_round}
+use Rattle.nest_order.specs.runs.Guarded.{GuardedAssignment, assigned_if, at_iterations, effect, sequential}
+use Rattle.nest_order.specs.runs.Nests.{AreAt, LoopStands, LoopStandsIn, Near, RunNest, acts, effect_of, variables_round}
 use Rattle.nest_order.specs.runs.Stores.{HoldsNest, IsNestIn, Setting}
 use Rattle.nest_order.proofs.runs.Results.{runs-append, runs-map}
 use Rattle.nest_order.proofs.runs.Variables.{var, variable_is, AreAt-more, AreAt-last, AreAt-put, Near-same, Near-put, Near-variable, Within-more, put_there, scalar_place}
@@ -32,7 +32,7 @@ use Rattle.nest_order.proofs.runs.Holding.{variable_inside, instance_inside, wri
 
 -- ---- a guarded assignment
 
-pub record Effected (bits : ℕ) (g : Guarded) (s t : State) : Type 0 where
+pub record Effected (bits : ℕ) (g : GuardedAssignment) (s t : State) : Type 0 where
   pub write : Option (Cell × Value)
   pub from : s.way ≡ Going
   pub effect : effect (sequential bits) g s.store ≡ Ok write
@@ -42,7 +42,7 @@ whole_effect : (bits : ℕ) (r : Rattle.tree.specs.Plain.Reference) (e : Express
     → assigned_if (sequential bits) true r e s ≡ Ok (Some (c, v))
 whole_effect bits r e s c v f g h = rw (f, g, h) refl
 
-pub effected : (bits line : ℕ) (m : Option Mark) (g : Guarded) (s : State) → (does (sequential bits) None (guarded_statement line m g) s).way ≡ Going → Effected bits g s (does (sequential bits) None (guarded_statement line m g) s)
+pub effected : (bits line : ℕ) (m : Option Mark) (g : GuardedAssignment) (s : State) → (does (sequential bits) None (guarded_statement line m g) s).way ≡ Going → Effected bits g s (does (sequential bits) None (guarded_statement line m g) s)
 effected bits line m g s w = by g.guard w
   where
     by : (o : Option Expression) → (does (sequential bits) None (guarded_statement line m (record { guard = o; left = g.left; right = g.right })) s).way ≡ Going
@@ -81,7 +81,7 @@ number_is z k m e f = by (sym f ∙ ap as_number e)
     by : ◌≡◌ {A = Result ℤ Fault} (Ok m) (Ok k) → m ≡ k
     by e = cc
 
-module _ (bits : ℕ) (n : Nest) (w : Setting) (ok : IsNestIn bits n w) where
+module _ (bits : ℕ) (n : RunNest) (w : Setting) (ok : IsNestIn bits n w) where
   abbrev pub trip : ℕ → List ℕ → ℕ
   trip = n.turns_of w.values
 
@@ -116,10 +116,10 @@ module _ (bits : ℕ) (n : Nest) (w : Setting) (ok : IsNestIn bits n w) where
   lies_rest t ts round h = record { statements_there = λ s ls k. h.statements_there s ls (inr k); loops_there = λ ls l k. h.loops_there ls l (inr k) }
 
   -- of a loop of the nest
-  pub there : (round : List ℕ) (l : ℕ) → LoopStands n.shape round l → In l (loops n.shape)
+  pub there : (round : List ℕ) (l : ℕ) → LoopStands n.shape round l → In l (loops_of_shape n.shape)
   there round l h = loop_in n.shape round l h
 
-  pub rounds : (round : List ℕ) (l : ℕ) → LoopStands n.shape round l → (m : ℕ) → In m round → In m (loops n.shape)
+  pub rounds : (round : List ℕ) (l : ℕ) → LoopStands n.shape round l → (m : ℕ) → In m round → In m (loops_of_shape n.shape)
   rounds round l h m i = (outer_loop n.shape round l m ok.text.nest.single h i).0
 
   -- its variable isn't that of a loop round it
@@ -133,7 +133,7 @@ module _ (bits : ℕ) (n : Nest) (w : Setting) (ok : IsNestIn bits n w) where
   loop_of_lying l ts round h = subst (λ zs. LoopStands n.shape zs l) (append-nil round) (h.loops_there [] l refl)
 
   -- what the loops of a statement are at holds after an instance's write
-  pub at_after : (round before : List ℕ) (x : Instance) → IsInstance n.loops_of trip n.shape x → (s : Store) (c : Cell) (v : Value) → ((m : ℕ) → In m round → In m (loops n.shape))
+  pub at_after : (round before : List ℕ) (x : Instance) → IsInstance n.loops_of trip n.shape x → (s : Store) (c : Cell) (v : Value) → ((m : ℕ) → In m round → In m (loops_of_shape n.shape))
       → effect_of n (sequential bits) x s ≡ Ok (Some (c, v)) → AreAt n round before s → AreAt n round before (put c v s)
   at_after round before x is s c v known e h = AreAt-put n round before c v s
       (λ i. (let o = Rattle.nest_order.proofs.orders.Membership.In-map (var n) c round i in written_elsewhere bits n w ok x is s c v e o.it (known o.it o.inside) o.is)) h
@@ -152,7 +152,7 @@ module _ (bits : ℕ) (n : Nest) (w : Setting) (ok : IsNestIn bits n w) where
 
   -- the loops round a place are loops of the nest, within their trips
   pub record Placed (round before : List ℕ) : Type 0 where
-    pub known : (m : ℕ) → In m round → In m (loops n.shape)
+    pub known : (m : ℕ) → In m round → In m (loops_of_shape n.shape)
     pub within : Within trip [] round before
 
   leaf : (y : Layout) (s : ℕ) (round before : List ℕ) → In s (statements n.shape) → n.loops_of s ≡ round → Placed round before
@@ -267,9 +267,9 @@ module _ (bits : ℕ) (n : Nest) (w : Setting) (ok : IsNestIn bits n w) where
     within = Within-more trip [] round before l i placed.within a b;
   }
     where
-      by : (m : ℕ) → In m round ⊎ In m (l ∷ []) → In m (loops n.shape)
+      by : (m : ℕ) → In m round ⊎ In m (l ∷ []) → In m (loops_of_shape n.shape)
       by m (inl j) = placed.known m j
-      by m (inr (inl e)) = subst (λ z. In z (loops n.shape)) (sym e) (there round l lies)
+      by m (inr (inl e)) = subst (λ z. In z (loops_of_shape n.shape)) (sym e) (there round l lies)
       by m (inr (inr j)) = absurd j
 
   -- a loop that is come to

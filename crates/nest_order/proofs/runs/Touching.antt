@@ -11,13 +11,13 @@ use Rattle.meaning.specs.Store.{Store, Cell, cell_at}
 use Rattle.meaning.specs.Value.{value_of, subscript_value, subscript_values, cell_named}
 use Rattle.nest_order.specs.orders.Lists.{In}
 use Rattle.nest_order.specs.orders.Nests.{IsInstance}
-use Rattle.nest_order.specs.orders.Shapes.{Instance, loops}
+use Rattle.nest_order.specs.orders.Shapes.{Instance, loops_of_shape}
 use Rattle.nest_order.proofs.orders.Lists.{In-left, In-right, In-append}
 use Rattle.nest_order.specs.runs.Alone.{inside}
-use Rattle.nest_order.specs.runs.Guarded.{Guarded, at_iterations, read_by_guard, reads, sequential, variable_cell}
-use Rattle.nest_order.specs.runs.Nests.{Nest, effect_of, is_variable, reads_of, variable_of, variables_round}
+use Rattle.nest_order.specs.runs.Guarded.{GuardedAssignment, at_iterations, read_by_guard, reads, sequential, variable_cell}
+use Rattle.nest_order.specs.runs.Nests.{RunNest, effect_of, is_nest_variable, reads_of, variable_of, variables_round}
 use Rattle.nest_order.specs.runs.Stores.{HoldsNest, IsNestIn, Setting}
-use Rattle.nest_order.specs.runs.Touched.{ArePlain, EachIsPlain, IsPlain, IsPlainAssignment, IsPlainGuard, IsPlainSubscript, MayHave, MayHaveEach, MayName, Touches, has_no_subscripts, is_loop_variable, nth_of, references_in, references_in_each, references_in_guard, references_in_subscript, references_in_subscripts, references_of, references_read}
+use Rattle.nest_order.specs.runs.Touched.{ArePlain, EachIsPlain, IsPlain, IsPlainAssignment, IsPlainGuard, IsPlainSubscript, MayHave, MayHaveEach, MayName, Touches, has_no_subscripts, is_loop_variable, nth_of, touched_in, references_in_each, touched_in_guard, touched_in_subscript, touched_in_subscripts, references_of, references_read}
 use Rattle.nest_order.proofs.runs.Results.{both_ok, ok_same}
 use Rattle.nest_order.proofs.runs.Variables.{cell_name}
 use Rattle.nest_order.proofs.runs.Holding.{effect_stored}
@@ -40,7 +40,7 @@ kept_by test (y ∷ xs) x (inr i) t = by (test y) (kept_by test xs x i t)
     by true j = inr j
     by false j = j
 
-module _ (bits : ℕ) (n : Nest) (v : ℕ → ℤ) (s : ℕ) (is : List ℕ) (t : Store)
+module _ (bits : ℕ) (n : RunNest) (v : ℕ → ℤ) (s : ℕ) (is : List ℕ) (t : Store)
     (linear : (e : Expression) (f : (ℕ → ℤ) → List ℕ → ℤ) (z : ℤ) → n.linear s e ≡ Some f → value_of (sequential bits) e t ≡ Ok (Int z) → z ≡ f v is) where
   one_may : (e : Expression) (z : ℤ) → subscript_value (sequential bits) (Only e) t ≡ Ok z → MayHave n v is (n.linear s e) z
   one_may e z h = let a = both_ok (value_of (sequential bits) e t) as_number z h in on a.0 a.1 a.2
@@ -90,18 +90,18 @@ module _ (bits : ℕ) (n : Nest) (v : ℕ → ℤ) (s : ℕ) (is : List ℕ) (t 
   cell_found (Ok d) r c e (inl f) = named_may r c (e ∙ ap Ok (sym f))
   cell_found (Ok d) r c e (inr i) = absurd i
 
-  here : (x : List ℕ) (ps : Subscripts) (c : Cell) → In c (cells_read_by (sequential bits) ps t) ⊎ In c (found (cell_named (sequential bits) (record { name = x; subscripts = ps }) t)) → (In c (cells_read_by (sequential bits) ps t) → Found (references_in_subscripts ps) c)
-      → Found (record { name = x; subscripts = ps } ∷ references_in_subscripts ps) c
+  here : (x : List ℕ) (ps : Subscripts) (c : Cell) → In c (cells_read_by (sequential bits) ps t) ⊎ In c (found (cell_named (sequential bits) (record { name = x; subscripts = ps }) t)) → (In c (cells_read_by (sequential bits) ps t) → Found (touched_in_subscripts ps) c)
+      → Found (record { name = x; subscripts = ps } ∷ touched_in_subscripts ps) c
   here x ps c (inl j) f = let h = f j in (h.0, inr h.1, h.2)
   here x ps c (inr j) f = (record { name = x; subscripts = ps }, inl refl, cell_found (cell_named (sequential bits) (record { name = x; subscripts = ps }) t) (record { name = x; subscripts = ps }) c refl j)
 
   mutual
-    read_found : (e : Expression) (c : Cell) → IsPlain e → In c (cells_read (sequential bits) e t) → Found (references_in e) c
+    read_found : (e : Expression) (c : Cell) → IsPlain e → In c (cells_read (sequential bits) e t) → Found (touched_in e) c
     read_found (Number k) c p i = absurd i
     read_found (Logic b) c p i = absurd i
     read_found (Element x ps) c p i = here x ps c (In-append c (cells_read_by (sequential bits) ps t) (found (cell_named (sequential bits) (record { name = x; subscripts = ps }) t)) i) (λ j. read_found_by ps c p j)
     read_found (Unary o a) c p i = read_found a c p i
-    read_found (Binary o a b) c p i = either_found (cells_read (sequential bits) a t) (cells_read (sequential bits) b t) c (references_in a) (references_in b) i (λ j. read_found a c p.0 j) (λ j. read_found b c p.1 j)
+    read_found (Binary o a b) c p i = either_found (cells_read (sequential bits) a t) (cells_read (sequential bits) b t) c (touched_in a) (touched_in b) i (λ j. read_found a c p.0 j) (λ j. read_found b c p.1 j)
     read_found (Apply f es) c p i = read_found_each es c p i
     read_found (Constructor es ls) c p i = absurd p
     read_found (Spread a k e) c p i = absurd p
@@ -111,32 +111,32 @@ module _ (bits : ℕ) (n : Nest) (v : ℕ → ℤ) (s : ℕ) (is : List ℕ) (t 
 
     read_found_each : (es : Expressions) (c : Cell) → EachIsPlain es → In c (cells_read_by_each (sequential bits) es t) → Found (references_in_each es) c
     read_found_each no_expressions c p i = absurd i
-    read_found_each (expression e es) c p i = either_found (cells_read (sequential bits) e t) (cells_read_by_each (sequential bits) es t) c (references_in e) (references_in_each es) i (λ j. read_found e c p.0 j) (λ j. read_found_each es c p.1 j)
+    read_found_each (expression e es) c p i = either_found (cells_read (sequential bits) e t) (cells_read_by_each (sequential bits) es t) c (touched_in e) (references_in_each es) i (λ j. read_found e c p.0 j) (λ j. read_found_each es c p.1 j)
 
-    read_found_by : (ps : Subscripts) (c : Cell) → ArePlain ps → In c (cells_read_by (sequential bits) ps t) → Found (references_in_subscripts ps) c
+    read_found_by : (ps : Subscripts) (c : Cell) → ArePlain ps → In c (cells_read_by (sequential bits) ps t) → Found (touched_in_subscripts ps) c
     read_found_by no_subscripts c p i = absurd i
-    read_found_by (subscript p ps) c h i = either_found (cells_read_by_subscript (sequential bits) p t) (cells_read_by (sequential bits) ps t) c (references_in_subscript p) (references_in_subscripts ps) i (λ j. read_found_in p c h.0 j) (λ j. read_found_by ps c h.1 j)
+    read_found_by (subscript p ps) c h i = either_found (cells_read_by_subscript (sequential bits) p t) (cells_read_by (sequential bits) ps t) c (touched_in_subscript p) (touched_in_subscripts ps) i (λ j. read_found_in p c h.0 j) (λ j. read_found_by ps c h.1 j)
 
-    read_found_in : (p : Subscript) (c : Cell) → IsPlainSubscript p → In c (cells_read_by_subscript (sequential bits) p t) → Found (references_in_subscript p) c
+    read_found_in : (p : Subscript) (c : Cell) → IsPlainSubscript p → In c (cells_read_by_subscript (sequential bits) p t) → Found (touched_in_subscript p) c
     read_found_in (Only e) c p i = read_found e c p i
     read_found_in (Section a b d) c p i = absurd p
 
-  guard_found : (o : Option Expression) (c : Cell) → IsPlainGuard o → In c (read_by_guard (sequential bits) o t) → Found (references_in_guard o) c
+  guard_found : (o : Option Expression) (c : Cell) → IsPlainGuard o → In c (read_by_guard (sequential bits) o t) → Found (touched_in_guard o) c
   guard_found None c p i = absurd i
   guard_found (Some e) c p i = read_found e c p i
 
-  sides_found : (g : Guarded) (c : Cell) → IsPlainAssignment g → In c (cells_read (sequential bits) g.right t) ⊎ In c (cells_read_by (sequential bits) g.left.subscripts t) → Found (references_in_subscripts g.left.subscripts ++ references_in g.right) c
-  sides_found g c p (inl i) = found_right (references_in_subscripts g.left.subscripts) (references_in g.right) c (read_found g.right c p.1 i)
-  sides_found g c p (inr i) = found_left (references_in_subscripts g.left.subscripts) (references_in g.right) c (read_found_by g.left.subscripts c p.2 i)
+  sides_found : (g : GuardedAssignment) (c : Cell) → IsPlainAssignment g → In c (cells_read (sequential bits) g.right t) ⊎ In c (cells_read_by (sequential bits) g.left.subscripts t) → Found (touched_in_subscripts g.left.subscripts ++ touched_in g.right) c
+  sides_found g c p (inl i) = found_right (touched_in_subscripts g.left.subscripts) (touched_in g.right) c (read_found g.right c p.1 i)
+  sides_found g c p (inr i) = found_left (touched_in_subscripts g.left.subscripts) (touched_in g.right) c (read_found_by g.left.subscripts c p.2 i)
 
-  pub reads_found : (g : Guarded) (c : Cell) → IsPlainAssignment g → In c (reads (sequential bits) g t) → Found (references_read g) c
+  pub reads_found : (g : GuardedAssignment) (c : Cell) → IsPlainAssignment g → In c (reads (sequential bits) g t) → Found (references_read g) c
   reads_found g c p i = either_found (read_by_guard (sequential bits) g.guard t) (cells_read (sequential bits) g.right t ++ cells_read_by (sequential bits) g.left.subscripts t) c
-      (references_in_guard g.guard) (references_in_subscripts g.left.subscripts ++ references_in g.right) i (guard_found g.guard c p.0)
+      (touched_in_guard g.guard) (touched_in_subscripts g.left.subscripts ++ touched_in g.right) i (guard_found g.guard c p.0)
       (λ j. sides_found g c p (In-append c (cells_read (sequential bits) g.right t) (cells_read_by (sequential bits) g.left.subscripts t) j))
 
 -- ---- instances
 
-module _ (bits : ℕ) (n : Nest) (w : Setting) (ok : IsNestIn bits n w) where
+module _ (bits : ℕ) (n : RunNest) (w : Setting) (ok : IsNestIn bits n w) where
   abbrev IsIt : Instance → Type 0
   IsIt = IsInstance n.loops_of (n.turns_of w.values) n.shape
 
@@ -145,20 +145,20 @@ module _ (bits : ℕ) (n : Nest) (w : Setting) (ok : IsNestIn bits n w) where
 
   -- by a reference other than the left side, or as a loop variable
   abbrev pub ReadBy : Instance → Cell → Type 0
-  ReadBy x c = ((q : ℕ) × (¬ (q ≡ 0)) × (q < length (references_of n x.statement)) × Touches n w.values q x c) ⊎ ((l : ℕ) × In l (loops n.shape) × (c ≡ variable_of n l))
+  ReadBy x c = ((q : ℕ) × (¬ (q ≡ 0)) × (q < length (references_of n x.statement)) × Touches n w.values q x c) ⊎ ((l : ℕ) × In l (loops_of_shape n.shape) × (c ≡ variable_of n l))
 
   -- by the left side
   abbrev pub WrittenBy : Instance → Cell → Type 0
-  WrittenBy x c = (0 < length (references_of n x.statement)) × Touches n w.values 0 x c × ((l : ℕ) → In l (loops n.shape) → ¬ (c ≡ variable_of n l))
+  WrittenBy x c = (0 < length (references_of n x.statement)) × Touches n w.values 0 x c × ((l : ℕ) → In l (loops_of_shape n.shape) → ¬ (c ≡ variable_of n l))
 
-  variable_named : (x : Instance) (r : Reference) (c : Cell) → is_loop_variable n r ≡ true → MayName n w.values x.statement x.iterations r c → (l : ℕ) × In l (loops n.shape) × (c ≡ variable_of n l)
+  variable_named : (x : Instance) (r : Reference) (c : Cell) → is_loop_variable n r ≡ true → MayName n w.values x.statement x.iterations r c → (l : ℕ) × In l (loops_of_shape n.shape) × (c ≡ variable_of n l)
   variable_named x r c e m = by r.subscripts e m.subscripts
     where
       bare : (zs : List ℤ) → MayHaveEach n w.values x.statement x.iterations no_subscripts zs → zs ≡ []
       bare [] h = refl
       bare (z ∷ zs) h = absurd h
 
-      by : (ps : Subscripts) → cond (has_no_subscripts ps) (is_variable n (variable_cell r.name)) false ≡ true → MayHaveEach n w.values x.statement x.iterations ps c.subscripts → (l : ℕ) × In l (loops n.shape) × (c ≡ variable_of n l)
+      by : (ps : Subscripts) → cond (has_no_subscripts ps) (is_nest_variable n (variable_cell r.name)) false ≡ true → MayHaveEach n w.values x.statement x.iterations ps c.subscripts → (l : ℕ) × In l (loops_of_shape n.shape) × (c ≡ variable_of n l)
       by no_subscripts f h =
           let v = Rattle.nest_order.proofs.runs.Variables.variable_from n (variable_cell r.name) f in
           let same : c ≡ variable_cell r.name = made m.name (bare c.subscripts h) in

@@ -13,7 +13,7 @@ use Rattle.nest_order.specs.orders.Graphs.{edge_of}
 use Rattle.nest_order.specs.orders.Lists.{In}
 use Rattle.nest_order.specs.orders.Nests.{IsInstance}
 use Rattle.nest_order.specs.orders.Orders.{runs}
-use Rattle.nest_order.specs.orders.Shapes.{Shape, Single, Loop, Shapes, no_shapes, shape, statements, loops, Instance, within_turn, turns, instances, instances_in, Within}
+use Rattle.nest_order.specs.orders.Shapes.{Shape, Single, Loop, Shapes, no_shapes, shape, statements, loops_of_shape, Instance, within_turn, turns, instances, instances_in, Within}
 use Rattle.nest_order.proofs.orders.Covering.{edges_may_be}
 use Rattle.nest_order.proofs.orders.Membership.{instance_stands}
 use Rattle.nest_order.proofs.orders.Order.{split, joined}
@@ -21,7 +21,7 @@ use Rattle.nest_order.proofs.orders.Theorems.{arranged, emission_keeps}
 use Rattle.nest_order.specs.runs.Blocks.{Layout, loop_of, or_statement, statement_of, written, written_in}
 use Rattle.nest_order.specs.runs.Forms.{AreCounted, AreCountedIn, FormsAreInstances}
 use Rattle.nest_order.specs.runs.Guarded.{at_iterations, dialect, effect, sequential}
-use Rattle.nest_order.specs.runs.Nests.{AreAt, LoopStands, Near, Nest, acts, effect_of, variables_round}
+use Rattle.nest_order.specs.runs.Nests.{AreAt, LoopStands, Near, RunNest, acts, effect_of, variables_round}
 use Rattle.nest_order.specs.runs.Stores.{IsNestIn, Setting}
 use Rattle.nest_order.specs.runs.Touched.{Touches, references_of}
 use Rattle.nest_order.specs.runs.Laws.{EmissionKeepsMeaning, TranslationKeepsMeaning}
@@ -36,7 +36,7 @@ use Rattle.nest_order.proofs.runs.Passing.{acted, acting}
 use Rattle.nest_order.proofs.runs.Runs.{one_more, trip, Inside, at, here, Lies, LieIn, lies_body, lies_first, lies_rest, loop_of_lying, there, fresh, at_after, Placed, placed_more, nest_lies, outermost, statement_run, statement_from}
 use Rattle.nest_order.proofs.runs.Counting.{emission_lies, statement_counted, other_counted_in}
 
-module _ (bits : ℕ) (arrays : Bool) (n : Nest) (w : Setting) (ok : IsNestIn bits n w) (wide : 31 ≤ bits) where
+module _ (bits : ℕ) (arrays : Bool) (n : RunNest) (w : Setting) (ok : IsNestIn bits n w) (wide : 31 ≤ bits) where
   in_range : (k : ℕ) → k ≤ 2147483647 → is_in_range bits (Int (pos k)) ≡ true
   in_range k h =
       let a : 2 ^ 31 ≤ 2 ^ bits = pow_mono wide in

@@ -8,11 +8,11 @@ use Rattle.meaning.specs.Store.{Store, Cell, Agree, names_of, nought_like, put, 
 use Rattle.meaning.specs.Value.{bound_to}
 use Rattle.meaning.proofs.Exchanges.{same_cell-same, same_cell-refl, unread}
 use Rattle.nest_order.specs.orders.Lists.{In}
-use Rattle.nest_order.specs.orders.Shapes.{loops, Within}
+use Rattle.nest_order.specs.orders.Shapes.{loops_of_shape, Within}
 use Rattle.nest_order.proofs.orders.Membership.{In-map, map-In}
 use Rattle.nest_order.specs.runs.Alone.{inside}
 use Rattle.nest_order.specs.runs.Guarded.{at_iterations, variable_cell}
-use Rattle.nest_order.specs.runs.Nests.{AreAt, Near, Nest, is_one_of, is_variable, variable_of}
+use Rattle.nest_order.specs.runs.Nests.{AreAt, Near, RunNest, is_one_of, is_nest_variable, variable_of}
 use Rattle.nest_order.proofs.runs.Results.{true_false}
 
 either_true : (p q : Bool) → (p || q) ≡ true → (p ≡ true) ⊎ (q ≡ true)
@@ -82,15 +82,15 @@ Within-both trip before [] ms (i ∷ is) js w v = absurd w
 Within-both trip before (l ∷ ls) ms [] js w v = absurd w
 Within-both trip before (l ∷ ls) ms (i ∷ is) js w v = (w.0, w.1, Within-both trip (before ++ i ∷ []) ls ms is js w.2 (subst (λ zs. Within trip zs ms js) (sym (append_assoc before (i ∷ []) is)) v))
 
-module _ (n : Nest) where
+module _ (n : RunNest) where
   abbrev pub var : ℕ → Cell
   var = variable_of n
 
-  pub variable_is : (l : ℕ) → In l (loops n.shape) → is_variable n (var l) ≡ true
-  variable_is l i = In-one_of (map var (loops n.shape)) (var l) (map-In var l (loops n.shape) i)
+  pub variable_is : (l : ℕ) → In l (loops_of_shape n.shape) → is_nest_variable n (var l) ≡ true
+  variable_is l i = In-one_of (map var (loops_of_shape n.shape)) (var l) (map-In var l (loops_of_shape n.shape) i)
 
-  pub variable_from : (c : Cell) → is_variable n c ≡ true → (l : ℕ) × In l (loops n.shape) × (c ≡ var l)
-  variable_from c e = let o = In-map var c (loops n.shape) (one_of-In (map var (loops n.shape)) c e) in (o.it, o.inside, o.is)
+  pub variable_from : (c : Cell) → is_nest_variable n c ≡ true → (l : ℕ) × In l (loops_of_shape n.shape) × (c ≡ var l)
+  variable_from c e = let o = In-map var c (loops_of_shape n.shape) (one_of-In (map var (loops_of_shape n.shape)) c e) in (o.it, o.inside, o.is)
 
   -- ---- the iterations that they hold
 
@@ -158,16 +158,16 @@ module _ (n : Nest) where
   pub Near-put : (c : Cell) (v : Value) (t s : Store) → Near n t s → Near n (put c v t) (put c v s)
   Near-put c v t s h = record { bounds = h.bounds; held = λ d e. ap (cond (same_cell c d) v) (h.held d e) }
 
-  pub Near-variable : (c : Cell) (v : Value) (t s : Store) → is_variable n c ≡ true → Near n t s → Near n t (put c v s)
-  Near-variable c v t s y h = record { bounds = h.bounds; held = λ d e. h.held d e ∙ unread c d v s (λ f. true_false (sym y ∙ (ap (is_variable n) f ∙ e))) }
+  pub Near-variable : (c : Cell) (v : Value) (t s : Store) → is_nest_variable n c ≡ true → Near n t s → Near n t (put c v s)
+  Near-variable c v t s y h = record { bounds = h.bounds; held = λ d e. h.held d e ∙ unread c d v s (λ f. true_false (sym y ∙ (ap (is_nest_variable n) f ∙ e))) }
 
-  pub near_stores_agree : (p : Program) (s t : Store) → ((l : ℕ) → In l (loops n.shape) → ¬ Contains (names_of p) (n.variable_at l)) → Near n s t → Agree p s t
+  pub near_stores_agree : (p : Program) (s t : Store) → ((l : ℕ) → In l (loops_of_shape n.shape) → ¬ Contains (names_of p) (n.variable_at l)) → Near n s t → Agree p s t
   near_stores_agree p s t free near = record {
     bounds = λ x i. near.bounds x;
-    held = λ c i is. near.held c (by c i (is_variable n c) refl);
-    kinds = λ c i. ap nought_like (near.held c (by c i (is_variable n c) refl));
+    held = λ c i is. near.held c (by c i (is_nest_variable n c) refl);
+    kinds = λ c i. ap nought_like (near.held c (by c i (is_nest_variable n c) refl));
   }
     where
-      by : (c : Cell) → Contains (names_of p) c.name → (b : Bool) → is_variable n c ≡ b → is_variable n c ≡ false
+      by : (c : Cell) → Contains (names_of p) c.name → (b : Bool) → is_nest_variable n c ≡ b → is_nest_variable n c ≡ false
       by c i true e = let v = variable_from c e in absurd (free v.0 v.1 (subst (Contains (names_of p)) (ap (λ (d : Cell). d.name) v.2) i))
       by c i false e = e

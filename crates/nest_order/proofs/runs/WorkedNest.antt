@@ -14,8 +14,8 @@ use Rattle.meaning.specs.Value.{trip_count}
 use Rattle.nest_order.specs.orders.Graphs.{Arc, Candidate, Direction, Less, Same, Greater, Just, Place}
 use Rattle.nest_order.specs.orders.Lists.{In}
 use Rattle.nest_order.specs.orders.Shapes.{Single, Loop, no_shapes, shape, Stands}
-use Rattle.nest_order.specs.runs.Guarded.{Guarded, at_iterations}
-use Rattle.nest_order.specs.runs.Nests.{Nest, variables_round}
+use Rattle.nest_order.specs.runs.Guarded.{GuardedAssignment, at_iterations}
+use Rattle.nest_order.specs.runs.Nests.{RunNest, variables_round}
 use Rattle.nest_order.specs.runs.Stores.{IsNestIn, IsNestText, Setting}
 use Rattle.nest_order.specs.runs.Touched.{AreEdgesOf}
 use Rattle.nest_order.proofs.runs.Holding.{effect_stored, named_cell}
@@ -28,10 +28,10 @@ v = 86 ∷ []
 abbrev a : List ℕ
 a = 65 ∷ []
 
-abbrev stores_two : Guarded
+abbrev stores_two : GuardedAssignment
 stores_two = record { guard = None; left = record { name = a; subscripts = subscript (Only (Named v no_subscripts)) no_subscripts }; right = Number (pos 2) }
 
-abbrev worked : Nest
+abbrev worked : RunNest
 worked = record {
   shape = Loop 1 (shape (Single 1) no_shapes);
   loops_of = λ s. 1 ∷ [];

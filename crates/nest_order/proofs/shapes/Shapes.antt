@@ -2,11 +2,11 @@
 use Rattle.std.proofs.Common.{◌≡◌, refl, sym, ap, ap₂, ◌∙◌, subst, ◌⊎◌, inl, inr, ℕ, zero, suc, ◌+◌, ◌<◌, ◌≤◌, ◌==◌, ℤ, pos, Bool, true, false, cond, List, [], ◌∷◌, ◌++◌, map, length, Option, Some, None, append_assoc, append-nil, arith}
 use Rattle.tree.specs.Plain.{Expression, Number, Statement, Assignment, Do, Block, statement}
 use Rattle.nest_order.specs.orders.Lists.{In, Each, Pairwise, Distinct}
-use Rattle.nest_order.specs.orders.Shapes.{Shape, Single, Loop, Shapes, no_shapes, shape, statements, statements_in, loops, loops_in, Stands, StandsIn}
+use Rattle.nest_order.specs.orders.Shapes.{Shape, Single, Loop, Shapes, no_shapes, shape, statements, statements_in, loops_of_shape, loops_of_shapes, Stands, StandsIn}
 use Rattle.nest_order.proofs.orders.Lists.{Each-In, Each-from, In-left, In-right, In-append, Pairwise-append}
 use Rattle.nest_order.proofs.orders.Membership.{map-In}
 use Rattle.nest_order.specs.runs.Blocks.{Layout, guarded_statement, nest_statement, nest_block}
-use Rattle.nest_order.specs.runs.Nests.{Nest}
+use Rattle.nest_order.specs.runs.Nests.{RunNest}
 use Rattle.nest_order.specs.runs.Touched.{nth_of}
 use Rattle.nest.specs.Blocks.{statement_of_part, block_of_parts, under_guard, numeral}
 use Rattle.nest.specs.Bodies.{Standing, statements_in as standing_in, statements_in_parts, statements_of, loops_of, loops_in_parts}
@@ -96,14 +96,14 @@ mutual
 -- ---- numbers of loops
 
 mutual
-  loops-are : (k : ℕ) (p : Part) → IsPlain p → loops (shape_of k p) ≡ numbers_of (loops_of p)
+  loops-are : (k : ℕ) (p : Part) → IsPlain p → loops_of_shape (shape_of k p) ≡ numbers_of (loops_of p)
   loops-are k (Run s) plain = refl
   loops-are k (Turns l ps) plain = ap (λ zs. l.number ∷ zs) (loops-are-in k ps plain.1)
   loops-are k (Choice bs ps) plain = absurd plain
   loops-are k (Label n) plain = absurd plain
   loops-are k (Jump n) plain = absurd plain
 
-  loops-are-in : (k : ℕ) (ps : Parts) → ArePlain ps → loops_in (shapes_of k ps) ≡ numbers_of (loops_in_parts ps)
+  loops-are-in : (k : ℕ) (ps : Parts) → ArePlain ps → loops_of_shapes (shapes_of k ps) ≡ numbers_of (loops_in_parts ps)
   loops-are-in k no_parts plain = refl
   loops-are-in k (part p ps) plain =
       ap₂ (λ xs ys. xs ++ ys) (loops-are k p plain.0) (loops-are-in (k + size_of p) ps plain.1) ∙ sym (map-append (λ (z : tree.Loop). z.number) (loops_of p) (loops_in_parts ps))
@@ -111,7 +111,7 @@ mutual
 -- ---- the tables
 
 module _ (line : ℕ) (body : Part) (symbols : List (List ℕ)) (linear : ℕ → Expression → Option ((ℕ → ℤ) → List ℕ → ℤ)) (turns_of : (ℕ → ℤ) → ℕ → List ℕ → ℕ) where
-  abbrev n : Nest
+  abbrev n : RunNest
   n = nest_of body symbols linear turns_of
 
   abbrev y : Layout

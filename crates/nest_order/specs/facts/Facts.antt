@@ -10,8 +10,8 @@ use Rattle.meaning.specs.Typed.{declared}
 use Rattle.meaning.specs.Typed90.{HasKind}
 use Rattle.linear_forms.specs.Linear.{Form, number_at, form_of}
 use Rattle.nest_order.specs.orders.Lists.{In}
-use Rattle.nest_order.specs.orders.Shapes.{loops, statements}
-use Rattle.nest_order.specs.runs.Nests.{Nest, LoopStands, variables_round}
+use Rattle.nest_order.specs.orders.Shapes.{loops_of_shape, statements}
+use Rattle.nest_order.specs.runs.Nests.{RunNest, LoopStands, variables_round}
 use Rattle.nest_order.specs.runs.Stores.{Setting, IsNestText, IsNestIn}
 use Rattle.nest_order.specs.runs.Touched.{nth_of}
 
@@ -49,11 +49,11 @@ HasTrip round symbols e z =
 
 -- bits: as many as INTEGER has. The statements assign expressions of the kind of their left side; linear expressions
 -- and trips are what their forms say; symbols are numbers of 64 bits, and no loop has more turns than can be counted
-pub record HasFacts (bits : ℕ) (n : Nest) (w : Setting) : Type 0 where
+pub record HasFacts (bits : ℕ) (n : RunNest) (w : Setting) : Type 0 where
   pub text : IsNestText n
   pub wide : 31 ≤ bits
-  pub variables : (l : ℕ) → In l (loops n.shape) → w.bounds (n.variable_at l) ≡ Some []
-  pub integer : (l : ℕ) → In l (loops n.shape)
+  pub variables : (l : ℕ) → In l (loops_of_shape n.shape) → w.bounds (n.variable_at l) ≡ Some []
+  pub integer : (l : ℕ) → In l (loops_of_shape n.shape)
       → IfSome (declared w.program.declarations (n.variable_at l)) (λ (d : Declaration). d.kind ≡ Integer)
   pub symbols : (x : List ℕ) → In x n.symbols → w.bounds x ≡ Some []
   pub values : (k : ℕ) (x : List ℕ) → nth_of n.symbols k ≡ Some x → nat_abs (w.values k) ≤ 2 ^ 63
@@ -66,8 +66,8 @@ pub record HasFacts (bits : ℕ) (n : Nest) (w : Setting) : Type 0 where
       → (z : List ℤ → ℤ) × HasTrip (map n.variable_at round) n.symbols (n.trip_at l) z
       × ((before : List ℕ) → length before ≡ length round
       → n.turns_of w.values l before ≡ counted (z (places_of w.values n.symbols before)))
-  pub bounded : (l : ℕ) (before : List ℕ) → In l (loops n.shape) → n.turns_of w.values l before ≤ 2147483646
+  pub bounded : (l : ℕ) (before : List ℕ) → In l (loops_of_shape n.shape) → n.turns_of w.values l before ≤ 2147483646
 
 -- a nest with these facts is one of which runs and orders have their laws
 abbrev pub FactsSuffice : Type 0
-FactsSuffice = (bits : ℕ) (n : Nest) (w : Setting) → HasFacts bits n w → IsNestIn bits n w
+FactsSuffice = (bits : ℕ) (n : RunNest) (w : Setting) → HasFacts bits n w → IsNestIn bits n w

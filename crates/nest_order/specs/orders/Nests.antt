@@ -3,13 +3,13 @@
 use Rattle.std.specs.Prelude.{◌≡◌, ◌⊎◌, ◌↔◌, ⊤, ℕ, ◌<◌, ◌≤◌, List, [], Result}
 use Rattle.nest_order.specs.orders.Lists.{In, Pairwise, Distinct, Keeps}
 use Rattle.nest_order.specs.orders.Orders.{MayPass}
-use Rattle.nest_order.specs.orders.Shapes.{Shape, statements, loops, Instance, Within, LessAt, SameUpTo, common_of}
-use Rattle.nest_order.specs.orders.Shapes.{Fits}
+use Rattle.nest_order.specs.orders.Shapes.{Shape, statements, loops_of_shape, Instance, Within, LessAt, SameUpTo}
+use Rattle.nest_order.specs.orders.Shapes.{common_of, Fits}
 
 -- statements are numbered in text order, no number stands for two loops, and each statement stands in its own loops
 pub record IsNest (loops_of : ℕ → List ℕ) (t : Shape) : Type 0 where
   pub rising : Pairwise (λ s r. s < r) (statements t)
-  pub single : Distinct (loops t)
+  pub single : Distinct (loops_of_shape t)
   pub fits : Fits loops_of [] t
 
 -- ---- edges

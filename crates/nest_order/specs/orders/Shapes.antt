@@ -23,13 +23,13 @@ abbrev mutual
   statements_in (shape t ts) = statements t ++ statements_in ts
 
 abbrev mutual
-  pub loops : Shape → List ℕ
-  loops (Single s) = []
-  loops (Loop l ts) = l ∷ loops_in ts
+  pub loops_of_shape : Shape → List ℕ
+  loops_of_shape (Single s) = []
+  loops_of_shape (Loop l ts) = l ∷ loops_of_shapes ts
 
-  pub loops_in : Shapes → List ℕ
-  loops_in no_shapes = []
-  loops_in (shape t ts) = loops t ++ loops_in ts
+  pub loops_of_shapes : Shapes → List ℕ
+  loops_of_shapes no_shapes = []
+  loops_of_shapes (shape t ts) = loops_of_shape t ++ loops_of_shapes ts
 
 -- the statement s stands in just the loops ls, from the outside in
 abbrev mutual

@@ -9,7 +9,7 @@ use Rattle.nest_order.specs.orders.Nests.{Remains}
 use Rattle.nest_order.specs.orders.Shapes.{Shape, Single, Loop, no_shapes, shape, statements, Instance, instances}
 use Rattle.nest_order.specs.orders.Shapes.{Within}
 use Rattle.nest_order.specs.runs.Guarded.{sequential}
-use Rattle.nest_order.specs.runs.Nests.{Nest}
+use Rattle.nest_order.specs.runs.Nests.{RunNest}
 use Rattle.nest_order.specs.runs.Laws.{as_instance}
 use Rattle.nest_order.specs.runs.Stores.{Setting, HoldsNest, IsNestIn}
 use Rattle.nest_order.specs.runs.Touched.{AreEdgesOf}
@@ -31,7 +31,7 @@ abbrev pub inside : List ℕ → Instance → Instance
 inside before x = record { statement = x.statement; iterations = before ++ x.iterations }
 
 -- the instances of a statement in its inner loops, where the outer ones are at these iterations
-abbrev pub inner_instances : ℕ → Nest → Setting → List ℕ → List ℕ → ℕ → List arrays.Instance
+abbrev pub inner_instances : ℕ → RunNest → Setting → List ℕ → List ℕ → ℕ → List arrays.Instance
 inner_instances bits n w before inner s =
     map (as_instance n (sequential bits)) (map (inside before) (instances (n.turns_of w.values) (chain inner s) before))
 
@@ -39,7 +39,7 @@ inner_instances bits n w before inner s =
 -- written, and no two store different values in one cell: so that they may store all at once
 abbrev pub InnerInstancesAreApart : Type 0
 InnerInstancesAreApart =
-    (bits : ℕ) (n : Nest) (w : Setting) (arcs : List Arc) (s : ℕ) (outer inner before : List ℕ) (t : Store)
+    (bits : ℕ) (n : RunNest) (w : Setting) (arcs : List Arc) (s : ℕ) (outer inner before : List ℕ) (t : Store)
     → IsNestIn bits n w → AreEdgesOf n arcs → In s (statements n.shape) → n.loops_of s ≡ outer ++ inner
     → HasNoOwnEdge arcs (length outer) s → Within (n.turns_of w.values) [] outer before → HoldsNest bits n w t
     → arrays.NoneReadsWritten [] (inner_instances bits n w before inner s) t

@@ -7,7 +7,7 @@ use Rattle.meaning.specs.CellsRead.{cells_read, cells_read_by}
 use Rattle.meaning.specs.Store.{Store, Cell}
 use Rattle.meaning.specs.Value.{value_of, cell_named}
 use Rattle.nest_order.specs.runs.Guarded.{dialect, sequential, at_iterations}
-use Rattle.nest_order.specs.runs.Nests.{Nest, AreAt}
+use Rattle.nest_order.specs.runs.Nests.{RunNest, AreAt}
 use Rattle.nest_order.specs.runs.Touched.{IsPlain, ArePlain}
 
 -- what has a value without arrays has the same one with them, and a reference that names a cell names it
@@ -31,6 +31,6 @@ SubscriptsReadSame = (bits : ℕ) (arrays : Bool) (ps : Subscripts) (s : Store) 
 -- Where the variables of the outer loops hold their iterations already, a store is put at an instance's iterations by
 -- the inner loops alone
 abbrev pub OuterIterationsHold : Type 0
-OuterIterationsHold = (n : Nest) (outer inner before is : List ℕ) (t : Store) → AreAt n outer before t
+OuterIterationsHold = (n : RunNest) (outer inner before is : List ℕ) (t : Store) → AreAt n outer before t
     → at_iterations (map n.variable_at (outer ++ inner)) (before ++ is) t
     ≡ at_iterations (map n.variable_at inner) is t

@@ -3,8 +3,8 @@ use Rattle.std.specs.Prelude.{ℕ, pos, Option, Some, None, List, [], ◌∷◌,
 use Rattle.tree.specs.Plain.{Number, Statement, Assignment, If, Do, no_arms, arm, Block, no_statements, statement}
 use Rattle.tree.specs.declared.stmts.Mark.{Mark}
 use Rattle.nest_order.specs.orders.Shapes.{Shape, Single, Loop, Shapes, no_shapes, shape}
-use Rattle.nest_order.specs.runs.Guarded.{Guarded}
-use Rattle.nest_order.specs.runs.Nests.{Nest}
+use Rattle.nest_order.specs.runs.Guarded.{GuardedAssignment}
+use Rattle.nest_order.specs.runs.Nests.{RunNest}
 
 -- the lines of statements and loops, and the marks of statements
 pub record Layout : Type 0 where
@@ -12,7 +12,7 @@ pub record Layout : Type 0 where
   pub mark_at : ℕ → Option Mark
   pub loop_line : ℕ → ℕ
 
-abbrev pub guarded_statement : ℕ → Option Mark → Guarded → Statement
+abbrev pub guarded_statement : ℕ → Option Mark → GuardedAssignment → Statement
 guarded_statement line mark g = elim g.guard [
   | None ↦ Assignment line mark g.left g.right
   | Some e ↦ If line (arm e (statement (Assignment line mark g.left g.right) no_statements) no_arms) no_statements
@@ -22,7 +22,7 @@ abbrev pub or_statement : Option Statement → Statement → Statement
 or_statement None c = c
 or_statement (Some b) c = b
 
-module _ (n : Nest) (y : Layout) where
+module _ (n : RunNest) (y : Layout) where
   abbrev pub statement_of : ℕ → Statement
   statement_of s = guarded_statement (y.line_at s) (y.mark_at s) (n.statement_at s)
 

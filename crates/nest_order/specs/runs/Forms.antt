@@ -10,10 +10,10 @@ use Rattle.nest_order.specs.orders.Orders.{runs}
 use Rattle.nest_order.specs.orders.Shapes.{Shape, Single, Loop, Shapes, no_shapes, shape, statements, Stands, Instance}
 use Rattle.nest_order.specs.orders.Shapes.{instances, Within}
 use Rattle.nest_order.specs.runs.Guarded.{dialect, sequential}
-use Rattle.nest_order.specs.runs.Nests.{Nest, AreAt, acts}
+use Rattle.nest_order.specs.runs.Nests.{RunNest, AreAt, acts}
 use Rattle.nest_order.specs.runs.Stores.{Setting, HoldsNest}
 
-module _ (bits : ℕ) (n : Nest) (w : Setting) where
+module _ (bits : ℕ) (n : RunNest) (w : Setting) where
   -- in the loops `round`, at the iterations `before`, the trip of l has one value, which can be counted
   pub record IsCounted (l : ℕ) (round before : List ℕ) : Type 0 where
     pub top : ℤ

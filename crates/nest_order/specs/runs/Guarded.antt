@@ -13,7 +13,7 @@ use Rattle.meaning.specs.Store.{Store, Cell}
 use Rattle.meaning.specs.Value.{value_of, truth_of, cell_named, is_in_range, bound_to}
 
 -- an assignment that is done where the guard, if there is one, is true
-pub record Guarded : Type 0 where
+pub record GuardedAssignment : Type 0 where
   pub guard : Option Expression
   pub left : Reference
   pub right : Expression
@@ -37,7 +37,7 @@ abbrev pub names_of_guard : Option Expression → List (List ℕ)
 names_of_guard None = []
 names_of_guard (Some e) = names_in e
 
-abbrev pub names_of : Guarded → List (List ℕ)
+abbrev pub names_of : GuardedAssignment → List (List ℕ)
 names_of g = names_of_guard g.guard ++ (names_in g.right ++ (g.left.name ∷ names_in_subscripts g.left.subscripts))
 
 module _ (lang : Dialect) where
@@ -53,7 +53,7 @@ module _ (lang : Dialect) where
     if is_in_range lang.bits v then Ok (Some (c, v)) else Err Overflow
 
   -- what it stores, and in which cell: nothing where its guard is false
-  abbrev pub effect : Guarded → Store → Result (Option (Cell × Value)) Fault
+  abbrev pub effect : GuardedAssignment → Store → Result (Option (Cell × Value)) Fault
   effect g s = do
     b ← guard_holds g.guard s
     assigned_if b g.left g.right s
@@ -63,5 +63,5 @@ module _ (lang : Dialect) where
   read_by_guard (Some e) s = cells_read lang e s
 
   -- the cells that it may read: those of its guard, of the right side and of the left subscripts
-  abbrev pub reads : Guarded → Store → List Cell
+  abbrev pub reads : GuardedAssignment → Store → List Cell
   reads g s = read_by_guard g.guard s ++ (cells_read lang g.right s ++ cells_read_by lang g.left.subscripts s)

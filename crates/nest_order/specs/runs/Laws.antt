@@ -12,18 +12,18 @@ use Rattle.nest_order.specs.orders.Graphs.{Arc, edge_of}
 use Rattle.nest_order.specs.orders.Nests.{IsInstance, KeepsEdges}
 use Rattle.nest_order.specs.orders.Orders.{runs, MayPass}
 use Rattle.nest_order.specs.orders.Lists.{In}
-use Rattle.nest_order.specs.orders.Shapes.{Shape, Shapes, statements, loops, Instance, instances}
+use Rattle.nest_order.specs.orders.Shapes.{Shape, Shapes, statements, loops_of_shape, Instance, instances}
 use Rattle.nest_order.specs.runs.Blocks.{Layout, nest_statement, nest_block, written_in}
 use Rattle.nest_order.specs.runs.Cells.{NamesCell}
 use Rattle.nest_order.specs.runs.Forms.{FormsAreInstances}
 use Rattle.nest_order.specs.runs.Guarded.{dialect, sequential}
-use Rattle.nest_order.specs.runs.Nests.{Nest, Near, acts, effect_of, reads_of}
+use Rattle.nest_order.specs.runs.Nests.{RunNest, Near, acts, effect_of, reads_of}
 use Rattle.nest_order.specs.runs.Stores.{Setting, HoldsNest, IsNestIn}
 use Rattle.nest_order.specs.runs.Touched.{MayMeet, AreEdgesOf, references_read}
 
 -- Two instances may be exchanged where they can touch no common cell of which one is written
 abbrev pub InstancesMayPass : Type 0
-InstancesMayPass = (bits : ℕ) (n : Nest) (w : Setting) (x y : Instance)
+InstancesMayPass = (bits : ℕ) (n : RunNest) (w : Setting) (x y : Instance)
     → IsNestIn bits n w
     → IsInstance n.loops_of (n.turns_of w.values) n.shape x → IsInstance n.loops_of (n.turns_of w.values) n.shape y
     → ¬ (MayMeet n w.values x y)
@@ -34,7 +34,7 @@ InstancesMayPass = (bits : ℕ) (n : Nest) (w : Setting) (x y : Instance)
 -- each candidate that has a pair of iterations
 abbrev pub AnyOrderGivesStore : Type 0
 AnyOrderGivesStore =
-    (bits : ℕ) (n : Nest) (w : Setting) (arcs : List Arc) (order : List Instance) (s u : Store)
+    (bits : ℕ) (n : RunNest) (w : Setting) (arcs : List Arc) (order : List Instance) (s u : Store)
     → IsNestIn bits n w → AreEdgesOf n arcs
     → KeepsEdges n.loops_of (n.turns_of w.values) n.shape (map edge_of arcs) order
     → HoldsNest bits n w s
@@ -43,7 +43,7 @@ AnyOrderGivesStore =
 
 -- A sequential run of a nest that goes on has done its instances one after another, but for the loop variables
 abbrev pub RunIsInstances : Type 0
-RunIsInstances = (bits : ℕ) (n : Nest) (w : Setting) (y : Layout) (s : State)
+RunIsInstances = (bits : ℕ) (n : RunNest) (w : Setting) (y : Layout) (s : State)
     → IsNestIn bits n w → HoldsNest bits n w s.store
     → (does (sequential bits) None (nest_statement n y [] n.shape) s).way ≡ Going
     → (u : Store)
@@ -51,7 +51,7 @@ RunIsInstances = (bits : ℕ) (n : Nest) (w : Setting) (y : Layout) (s : State)
     × Near n u (does (sequential bits) None (nest_statement n y [] n.shape) s).store
 
 -- both moments are the run's going on, with stores that are the same but for the loop variables
-pub record GoesOnNear (n : Nest) (s t : State) : Type 0 where
+pub record GoesOnNear (n : RunNest) (s t : State) : Type 0 where
   pub way : t.way ≡ Going
   pub near : Near n s.store t.store
 
@@ -59,7 +59,7 @@ pub record GoesOnNear (n : Nest) (s t : State) : Type 0 where
 -- but for the loop variables: as loops
 abbrev pub EmissionKeepsMeaning : Type 0
 EmissionKeepsMeaning =
-    (bits : ℕ) (arrays : Bool) (n : Nest) (w : Setting) (arcs : List Arc) (ts : Shapes) (y z : Layout) (s : State)
+    (bits : ℕ) (arrays : Bool) (n : RunNest) (w : Setting) (arcs : List Arc) (ts : Shapes) (y z : Layout) (s : State)
     → 31 ≤ bits → IsNestIn bits n w → AreEdgesOf n arcs
     → IsEmitted n.loops_of (map edge_of arcs) 0 (statements n.shape) ts
     → HoldsNest bits n w s.store → (does (sequential bits) None (nest_statement n y [] n.shape) s).way ≡ Going
@@ -69,7 +69,7 @@ EmissionKeepsMeaning =
 -- and where forms stand in the place of some loops, that do what the instances in those loops do
 abbrev pub TranslationKeepsMeaning : Type 0
 TranslationKeepsMeaning =
-    (bits : ℕ) (arrays : Bool) (n : Nest) (w : Setting) (arcs : List Arc) (ts : Shapes) (y z : Layout)
+    (bits : ℕ) (arrays : Bool) (n : RunNest) (w : Setting) (arcs : List Arc) (ts : Shapes) (y z : Layout)
     (form : List ℕ → Shape → Option Statement) (s : State)
     → 31 ≤ bits → IsNestIn bits n w → AreEdgesOf n arcs
     → IsEmitted n.loops_of (map edge_of arcs) 0 (statements n.shape) ts
@@ -80,17 +80,17 @@ TranslationKeepsMeaning =
 
 -- Stores that are near agree on a program that declares no variable of the nest's loops
 abbrev pub NearStoresAgree : Type 0
-NearStoresAgree = (n : Nest) (p : Program) (s t : Store)
-    → ((l : ℕ) → In l (loops n.shape) → ¬ Contains (names_of p) (n.variable_at l)) → Near n s t → Agree p s t
+NearStoresAgree = (n : RunNest) (p : Program) (s t : Store)
+    → ((l : ℕ) → In l (loops_of_shape n.shape) → ¬ Contains (names_of p) (n.variable_at l)) → Near n s t → Agree p s t
 
 -- ---- instances as what stores at most one value
 
-abbrev pub as_instance : Nest → Dialect → Instance → arrays.Instance
+abbrev pub as_instance : RunNest → Dialect → Instance → arrays.Instance
 as_instance n lang x = record { effect = effect_of n lang x; reads = reads_of n lang x }
 
 -- an instance stores by nothing but the cells that it reads, and instances one after another do what these do
 abbrev pub InstancesComeFromReads : Type 0
-InstancesComeFromReads = (n : Nest) (lang : Dialect) (xs : List Instance) (s : Store)
+InstancesComeFromReads = (n : RunNest) (lang : Dialect) (xs : List Instance) (s : Store)
     → AllByRecursion ComesFromReads (map (as_instance n lang) xs)
     × (runs (acts n lang) xs s ≡ in_turn (map (as_instance n lang) xs) s)
 
@@ -98,7 +98,7 @@ InstancesComeFromReads = (n : Nest) (lang : Dialect) (xs : List Instance) (s : S
 -- name, and a linear subscript has its value there
 abbrev pub UnguardedInstancesNameCells : Type 0
 UnguardedInstancesNameCells =
-    (bits : ℕ) (n : Nest) (w : Setting) (xs : List Instance) (s u : Store)
+    (bits : ℕ) (n : RunNest) (w : Setting) (xs : List Instance) (s u : Store)
     → IsNestIn bits n w → HoldsNest bits n w s
     → ((x : Instance) → In x xs → IsInstance n.loops_of (n.turns_of w.values) n.shape x)
     → runs (acts n (sequential bits)) xs s ≡ Ok u

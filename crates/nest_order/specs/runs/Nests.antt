@@ -8,17 +8,17 @@ use Rattle.tree.specs.declared.ops.Value.TheVariants.{Int}
 use Rattle.meaning.specs.Dialect.{Dialect}
 use Rattle.meaning.specs.Store.{Store, Cell, same_cell}
 use Rattle.meaning_laws.specs.arrays.Instances.{after}
-use Rattle.nest_order.specs.orders.Shapes.{Shape, Single, Loop, Shapes, no_shapes, shape, loops, Instance}
-use Rattle.nest_order.specs.runs.Guarded.{Guarded, variable_cell, at_iterations, effect, reads}
+use Rattle.nest_order.specs.orders.Shapes.{Shape, Single, Loop, Shapes, no_shapes, shape, loops_of_shape, Instance}
+use Rattle.nest_order.specs.runs.Guarded.{GuardedAssignment, variable_cell, at_iterations, effect, reads}
 
 -- A shape, and what its numbers stand for. Of a statement: the loops round it from the outside in, and its guarded
 -- assignment; and of an expression in it, where that is linear, its value by the values of the symbols and the
 -- iterations. Of a loop: its variable, its trip as it is written, and the number of its turns by the values of the
 -- symbols and the iterations of the loops round it
-pub record Nest : Type 0 where
+pub record RunNest : Type 0 where
   pub shape : Shape
   pub loops_of : ℕ → List ℕ
-  pub statement_at : ℕ → Guarded
+  pub statement_at : ℕ → GuardedAssignment
   pub linear : ℕ → Expression → Option ((ℕ → ℤ) → List ℕ → ℤ)
   pub variable_at : ℕ → List ℕ
   pub trip_at : ℕ → Expression
@@ -40,7 +40,7 @@ abbrev pub is_one_of : List Cell → Cell → Bool
 is_one_of [] c = false
 is_one_of (d ∷ ds) c = same_cell d c || is_one_of ds c
 
-module _ (n : Nest) where
+module _ (n : RunNest) where
   abbrev pub variable_of : ℕ → Cell
   variable_of l = variable_cell (n.variable_at l)
 
@@ -48,8 +48,8 @@ module _ (n : Nest) where
   variables_round s = map n.variable_at (n.loops_of s)
 
   -- c is the variable of a loop of the nest
-  abbrev pub is_variable : Cell → Bool
-  is_variable c = is_one_of (map variable_of (loops n.shape)) c
+  abbrev pub is_nest_variable : Cell → Bool
+  is_nest_variable c = is_one_of (map variable_of (loops_of_shape n.shape)) c
 
   -- the variables of the loops ls hold the iterations is
   abbrev pub AreAt : List ℕ → List ℕ → Store → Type 0
@@ -73,6 +73,6 @@ module _ (n : Nest) where
       Ok (after w s)
 
 -- two stores with the same bounds, and the same values but in variables of the nest's loops
-pub record Near (n : Nest) (s t : Store) : Type 0 where
+pub record Near (n : RunNest) (s t : Store) : Type 0 where
   pub bounds : (x : List ℕ) → s.bounds x ≡ t.bounds x
-  pub held : (c : Cell) → is_variable n c ≡ false → s.held c ≡ t.held c
+  pub held : (c : Cell) → is_nest_variable n c ≡ false → s.held c ≡ t.held c

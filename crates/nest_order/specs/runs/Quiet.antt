@@ -1,12 +1,11 @@
 -- Statements that read and write no lines.
 use Rattle.std.specs.Prelude.{◌≡◌, ⊤, Option, Some, ℕ, List}
-use Rattle.tree.specs.Plain.{Statement, If, Do, Read, Print}
-use Rattle.tree.specs.Plain.{Arms, no_arms, arm, Block, no_statements, statement}
+use Rattle.tree.specs.Plain.{Statement, If, Do, Read, Print, Arms, no_arms, arm, Block, no_statements, statement}
 use Rattle.meaning.specs.Dialect.{Dialect}
 use Rattle.meaning.specs.Run.{State, does_all}
 use Rattle.nest_order.specs.orders.Shapes.{Shape, Shapes}
 use Rattle.nest_order.specs.runs.Blocks.{Layout, written_in}
-use Rattle.nest_order.specs.runs.Nests.{Nest}
+use Rattle.nest_order.specs.runs.Nests.{RunNest}
 
 -- no READ and no PRINT stands in them
 abbrev mutual
@@ -37,6 +36,6 @@ QuietStatementsKeepLines = (lang : Dialect) (limit : Option ℕ) (cs : Block) (s
 
 -- of such are nests, and what is emitted for them where the forms in it are
 abbrev pub NestsAreQuiet : Type 0
-NestsAreQuiet = (n : Nest) (y : Layout) (form : List ℕ → Shape → Option Statement) (round : List ℕ) (ts : Shapes)
+NestsAreQuiet = (n : RunNest) (y : Layout) (form : List ℕ → Shape → Option Statement) (round : List ℕ) (ts : Shapes)
     → ((outer : List ℕ) (t : Shape) (c : Statement) → form outer t ≡ Some c → IsQuiet c)
     → AreQuiet (written_in n y form round ts)

@@ -7,8 +7,8 @@ use Rattle.meaning.specs.Store.{Cell}
 use Rattle.nest_order.specs.orders.Graphs.{Arc, IsComplete, Meet}
 use Rattle.nest_order.specs.orders.Nests.{common}
 use Rattle.nest_order.specs.orders.Shapes.{Instance}
-use Rattle.nest_order.specs.runs.Guarded.{Guarded, variable_cell}
-use Rattle.nest_order.specs.runs.Nests.{Nest, is_variable}
+use Rattle.nest_order.specs.runs.Guarded.{GuardedAssignment, variable_cell}
+use Rattle.nest_order.specs.runs.Nests.{RunNest, is_nest_variable}
 
 -- no array form stands in an expression: it is one of FORTRAN 77
 abbrev mutual
@@ -37,39 +37,39 @@ abbrev pub IsPlainGuard : Option Expression → Type 0
 IsPlainGuard None = ⊤
 IsPlainGuard (Some e) = IsPlain e
 
-abbrev pub IsPlainAssignment : Guarded → Type 0
+abbrev pub IsPlainAssignment : GuardedAssignment → Type 0
 IsPlainAssignment g = IsPlainGuard g.guard × IsPlain g.right × ArePlain g.left.subscripts
 
 -- ---- references
 
 -- those in an expression, from left to right, each before those in its subscripts
 abbrev mutual
-  pub references_in : Expression → List Reference
-  references_in (Named x ps) = record { name = x; subscripts = ps } ∷ references_in_subscripts ps
-  references_in (Unary o a) = references_in a
-  references_in (Binary o a b) = references_in a ++ references_in b
-  references_in (Apply f es) = references_in_each es
-  references_in _ = []
+  pub touched_in : Expression → List Reference
+  touched_in (Named x ps) = record { name = x; subscripts = ps } ∷ touched_in_subscripts ps
+  touched_in (Unary o a) = touched_in a
+  touched_in (Binary o a b) = touched_in a ++ touched_in b
+  touched_in (Apply f es) = references_in_each es
+  touched_in _ = []
 
   pub references_in_each : Expressions → List Reference
   references_in_each no_expressions = []
-  references_in_each (expression e es) = references_in e ++ references_in_each es
+  references_in_each (expression e es) = touched_in e ++ references_in_each es
 
-  pub references_in_subscripts : Subscripts → List Reference
-  references_in_subscripts no_subscripts = []
-  references_in_subscripts (subscript p ps) = references_in_subscript p ++ references_in_subscripts ps
+  pub touched_in_subscripts : Subscripts → List Reference
+  touched_in_subscripts no_subscripts = []
+  touched_in_subscripts (subscript p ps) = touched_in_subscript p ++ touched_in_subscripts ps
 
-  pub references_in_subscript : Subscript → List Reference
-  references_in_subscript (Only e) = references_in e
-  references_in_subscript _ = []
+  pub touched_in_subscript : Subscript → List Reference
+  touched_in_subscript (Only e) = touched_in e
+  touched_in_subscript _ = []
 
-abbrev pub references_in_guard : Option Expression → List Reference
-references_in_guard None = []
-references_in_guard (Some e) = references_in e
+abbrev pub touched_in_guard : Option Expression → List Reference
+touched_in_guard None = []
+touched_in_guard (Some e) = touched_in e
 
 -- those that a guarded assignment reads, in the order of guard, left subscripts and right side
-abbrev pub references_read : Guarded → List Reference
-references_read g = references_in_guard g.guard ++ (references_in_subscripts g.left.subscripts ++ references_in g.right)
+abbrev pub references_read : GuardedAssignment → List Reference
+references_read g = touched_in_guard g.guard ++ (touched_in_subscripts g.left.subscripts ++ touched_in g.right)
 
 abbrev pub has_no_subscripts : Subscripts → Bool
 has_no_subscripts no_subscripts = true
@@ -80,10 +80,10 @@ nth_of [] k = None
 nth_of (x ∷ xs) zero = Some x
 nth_of (x ∷ xs) (suc k) = nth_of xs k
 
-module _ (n : Nest) where
+module _ (n : RunNest) where
   -- a loop's variable
   abbrev pub is_loop_variable : Reference → Bool
-  is_loop_variable r = if has_no_subscripts r.subscripts then is_variable n (variable_cell r.name) else false
+  is_loop_variable r = if has_no_subscripts r.subscripts then is_nest_variable n (variable_cell r.name) else false
 
   -- the left side, which has the number 0, and the references that are read, but for loop variables
   abbrev pub references_of : ℕ → List Reference

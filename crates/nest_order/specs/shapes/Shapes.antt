@@ -5,8 +5,8 @@ use Rattle.nest_order.specs.orders.Lists.{Distinct}
 use Rattle.nest_order.specs.orders.Nests.{IsNest}
 use Rattle.nest_order.specs.orders.Shapes.{Shape, Single, Loop, Shapes, no_shapes, shape}
 use Rattle.nest_order.specs.runs.Blocks.{Layout, nest_statement}
-use Rattle.nest_order.specs.runs.Guarded.{Guarded}
-use Rattle.nest_order.specs.runs.Nests.{Nest}
+use Rattle.nest_order.specs.runs.Guarded.{GuardedAssignment}
+use Rattle.nest_order.specs.runs.Nests.{RunNest}
 use Rattle.nest_order.specs.runs.Touched.{nth_of}
 use Rattle.nest.specs.Blocks.{statement_of_part}
 use Rattle.nest.specs.Bodies.{Standing, statements_of, loops_of}
@@ -60,7 +60,7 @@ abbrev pub loop_numbered : List tree.Loop → ℕ → Option tree.Loop
 loop_numbered [] k = None
 loop_numbered (l ∷ ls) k = if l.number == k then Some l else loop_numbered ls k
 
-abbrev pub guarded_of : Option Standing → Guarded
+abbrev pub guarded_of : Option Standing → GuardedAssignment
 guarded_of (Some x) = record { guard = x.statement.guard; left = x.statement.left; right = x.statement.right }
 guarded_of None =
     record { guard = None; left = record { name = []; subscripts = no_subscripts }; right = Number (pos 0) }
@@ -83,7 +83,7 @@ trip_of_loop None = Number (pos 0)
 
 -- the nest's body with the symbols, with the linear forms of its subscripts and the turns of its loops
 abbrev pub nest_of : Part → List (List ℕ) → (ℕ → Expression → Option ((ℕ → ℤ) → List ℕ → ℤ))
-    → ((ℕ → ℤ) → ℕ → List ℕ → ℕ) → Nest
+    → ((ℕ → ℤ) → ℕ → List ℕ → ℕ) → RunNest
 nest_of body symbols linear turns_of = record {
   shape = shape_of 0 body;
   loops_of = λ s. loops_round (nth_of (statements_of body) s);

@@ -5,6 +5,7 @@ use Rattle.std.specs.Prelude.{IsSome}
 use Rattle.tree.specs.Plain.{Expression, Program}
 use Rattle.meaning.specs.Blocks.{outermost, within_loop}
 use Rattle.meaning.specs.Dialect.{Dialect, fortran77}
+use Rattle.tree.specs.declared.width.Width.{Width}
 use Rattle.meaning.specs.Profile77.{IsProgram77}
 use Rattle.meaning.specs.Reads.{names_in}
 use Rattle.rewrite.specs.Names.{names_written_in}
@@ -14,7 +15,7 @@ use Rattle.components.specs.Lists.{Each}
 use Rattle.components.proofs.ListLaws.{Each-append}
 use Rattle.find_nests.specs.Found.{nest_of_loop}
 use Rattle.find_nests.specs.Laws.{IsFoundNest}
-use Rattle.find_nests.specs.Loops.{Placed, as_statement, loops_in_block}
+use Rattle.find_nests.specs.Loops.{SurroundedLoop, as_statement, loops_in_block}
 use Rattle.find_nests.specs.LookedAt.{reason_of}
 use Rattle.find_nests.specs.declared.reasons.Reason.TheVariants as reasons
 use Rattle.find_nests.proofs.FoundLaws.{found_nest_is_loop, no_reason_holds}
@@ -23,7 +24,7 @@ use Rattle.last_values.specs.declared.behind.NestedLoop.{NestedLoop}
 use Rattle.normal_loops.specs.Normal.{is_normal}
 use Rattle.normal_loops.specs.Normalised.{normalised}
 use Rattle.nest_order.specs.orders.Lists as order
-use Rattle.find_nests.specs.nest_parts.Numbers.{next}
+use Rattle.find_nests.specs.nest_parts.Numbers.{next_loop_number}
 use Rattle.nest_reasons.specs.Symbols.{is_symbol}
 use Rattle.nest.specs.Bodies.{Standing, nest_loops, nest_statements}
 use Rattle.nest.specs.Plain.{Nest}
@@ -120,7 +121,7 @@ module _ (n : Nest) (sound : IsSoundNest n) (normal : is_normal n.symbols [] n.b
 
 -- ---- a nest that was found
 
-sound_loop : (d : Dialect) (p : Program) (k : ℕ) (q : Placed) → IsProgram77 d p → IsProper p.declarations q → reason_of p.declarations q.loop.loop ≡ None
+sound_loop : (d : Dialect) (p : Program) (k : ℕ) (q : SurroundedLoop) → IsProgram77 d p → IsProper p.declarations q → reason_of p.declarations q.loop.loop ≡ None
     → IsSoundNest (nest_of_loop p k q.loop)
 sound_loop d p k q is h none =
     let x = q.loop.loop.variable in
@@ -138,7 +139,7 @@ sound_loop d p k q is h none =
           apart = variable_no_symbol p.declarations x body;
           number = next_small q.loop.before h.before;
         },
-        sound_block d p.declarations is.declarations symbols (next q.loop.before) body (within_loop x h.round) (x ∷ [])
+        sound_block d p.declarations is.declarations symbols (next_loop_number q.loop.before) body (within_loop x h.round) (x ∷ [])
             (next_small q.loop.before h.before) (here x h.round.variables, tt) h.body (uses_apart p.declarations x body),
       );
       symbols = short_names d (is_symbol x (names_written_in body)) p.declarations is.declarations.each;
@@ -157,13 +158,13 @@ is_normal_nest n h = by (normalised n) refl h
     by None e k = let none : ⊥ = cc in absurd none
     by (Some m) e k = (made_of n m e).normal
 
-pub found_nest_is_branched_source : FoundNestIsBranchedSource
-found_nest_is_branched_source p n is h =
-    source_of n (sound_nest fortran77 p n is (found_nest_is_loop p n h)) (is_normal_nest n (normalised_is_there fortran77 p n is h))
-    (found_loops_are_distinct fortran77 p n is h)
+pub found_nest_is_branched_source : (width : Width) → FoundNestIsBranchedSource width
+found_nest_is_branched_source width p n is h =
+    source_of n (sound_nest (fortran77 width) p n is (found_nest_is_loop p n h)) (is_normal_nest n (normalised_is_there (fortran77 width) p n is h))
+    (found_loops_are_distinct (fortran77 width) p n is h)
 
-pub found_nest_keeps_meaning : FoundNestKeepsMeaning
-found_nest_keeps_meaning bits p n m values s t low high is h made beside sized sized_beside known scalars going =
+pub found_nest_keeps_meaning : (width : Width) → FoundNestKeepsMeaning width
+found_nest_keeps_meaning width bits p n m values s t low high is h made beside sized sized_beside known scalars going =
     let f = found_nest_is_loop p n h in
-    meaning.branched_form_keeps_meaning bits n m values s t low high (found_nest_is_branched_source p n is h) (ap (λ (k : Nest). k.made) f.is) (ap (λ (k : Nest). k.after) f.is)
+    meaning.branched_form_keeps_meaning bits n m values s t low high (found_nest_is_branched_source width p n is h) (ap (λ (k : Nest). k.made) f.is) (ap (λ (k : Nest). k.after) f.is)
     made beside sized sized_beside known scalars going

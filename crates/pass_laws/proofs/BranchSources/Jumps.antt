@@ -13,9 +13,9 @@ use Rattle.meaning.specs.Labels.{all_labels_in, all_labels_in_arms, all_labels_o
 use Rattle.meaning.specs.Blocks.{labels_of, within_loop}
 use Rattle.meaning.specs.Profile77.{AreArms, IsBlock, IsStatement}
 use Rattle.nest.specs.Plain.{Part, parts}
-use Rattle.find_nests.specs.nest_parts.Numbers.{after, after_arms, after_block, next}
+use Rattle.find_nests.specs.nest_parts.Numbers.{number_after, after_arms, after_block, next_loop_number}
 use Rattle.find_nests.specs.nest_parts.Statements.{branches_of, parts_of, parts_of_block}
-use Rattle.nest_reasons.specs.Flaws.{arrives, exits, jumps_over_loop, loop_in_if, loop_then_label}
+use Rattle.nest_reasons.specs.Flaws.{is_arrival, exits, jumps_over_loop, loop_in_if, loop_then_label}
 use Rattle.nest_reasons.specs.Loops.{has_flaw}
 use Rattle.nest_reasons.specs.Walks.{any_in_arms, any_in_block, any_loop}
 use Rattle.nest_reasons.specs.Marks.{marks_in_arms, marks_in_block, own_marks}
@@ -37,7 +37,7 @@ not_false false h = let none : ⊥ = cc in absurd none
 -- Of a place in a loop's body, which has all these marks: of the labels that lie ahead, those of the body are `own`, and
 -- `later` has those of them that can be reached
 record IsPlace (all : List Mark) (ahead own later : List ℕ) (more : List Mark) : Type 0 where
-  known : (k : ℕ) → Contains ahead k → list_any (arrives k) all ≡ true → Contains own k
+  known : (k : ℕ) → Contains ahead k → list_any (is_arrival k) all ≡ true → Contains own k
   reaches : Reaches own later more
 
 place_more : (all : List Mark) (ahead own later : List ℕ) (xs more : List Mark) → IsPlace all ahead own later more → IsPlace all ahead own later (xs ++ more)
@@ -48,7 +48,7 @@ place_before : (all : List Mark) (b : Bool) (i : ℕ) (cs : Block) (ahead own la
     → IsPlace all (labels_of cs ++ ahead) (labels_of cs ++ own) (labels_ahead (parts (parts_of_block i cs)) later) (marks_in_block b cs ++ more)
 place_before all b i cs ahead own later more h = record { known = λ k c e. by k (Contains-append_cases (labels_of cs) ahead k c) e; reaches = reaches_block b i cs own later more h.reaches }
   where
-    by : (k : ℕ) → Contains (labels_of cs) k ⊎ Contains ahead k → list_any (arrives k) all ≡ true → Contains (labels_of cs ++ own) k
+    by : (k : ℕ) → Contains (labels_of cs) k ⊎ Contains ahead k → list_any (is_arrival k) all ≡ true → Contains (labels_of cs ++ own) k
     by k (inl c) e = Contains-append_left (labels_of cs) own k c
     by k (inr c) e = Contains-append_right (labels_of cs) own k (h.known k c e)
 
@@ -107,10 +107,10 @@ module _ (ds : List Declaration) (symbols : List (List ℕ)) where
     jumps all b i around (Do l x first last step body) w own later more h p o m f =
         let e = either_false (exits (marks_in_block false body)) (any_in_block (has_flaw Exit symbols) (around ++ x ∷ []) body) f.exit_is in
         let g = either_false (loop_in_if (marks_in_block false body) || jumps_over_loop (marks_in_block false body)) (any_in_block (has_flaw InnerIf symbols) (around ++ x ∷ []) body) f.inner_is in
-        (jumps_in_block (marks_in_block false body) false (next i) (around ++ x ∷ []) body (within_loop x w) [] [] [] h.5 (body_place w.ahead body o) o (body_marks body e.0 g.0) (record { exit_is = e.1; inner_is = g.1 }), tt)
+        (jumps_in_block (marks_in_block false body) false (next_loop_number i) (around ++ x ∷ []) body (within_loop x w) [] [] [] h.5 (body_place w.ahead body o) o (body_marks body e.0 g.0) (record { exit_is = e.1; inner_is = g.1 }), tt)
     jumps all b i around (Label n) w own later more h p o m f = (tt, tt)
     jumps all b i around (GoTo l n) w own later more h p o m f =
-        let inside : list_any (arrives n) all ≡ true = not_false (list_any (arrives n) all) (either_false (not (list_any (arrives n) all)) false m.stays).0 in
+        let inside : list_any (is_arrival n) all ≡ true = not_false (list_any (is_arrival n) all) (either_false (not (list_any (is_arrival n) all)) false m.stays).0 in
         let clear : loop_then_label n more ≡ false = (either_false (loop_then_label n more) (jumps_over_loop more) m.clear).0 in
         (p.reaches.free n (p.known n h.1 inside) clear, tt)
     jumps all b i around (Stop l) w own later more h p o m f = tt
@@ -135,19 +135,19 @@ module _ (ds : List Declaration) (symbols : List (List ℕ)) where
         → AreOwn w.ahead (all_labels_in cs) → AreMarks all (marks_in_block b cs) more → FlawlessBlock around cs → AllJumpAhead later (parts (parts_of_block i cs))
     jumps_in_block all b i around no_statements w own later more h p o m f = tt
     jumps_in_block all b i around (statement c cs) w own later more h p o m f =
-        jump_joined (parts_of i c) (parts_of_block (after i c) cs) later
-        (jumps all b i around c (before_labels (labels_of cs) w) (labels_of cs ++ own) (labels_ahead (parts (parts_of_block (after i c) cs)) later) (marks_in_block b cs ++ more) h.0
-        (place_before all b (after i c) cs w.ahead own later more p) (own_first w.ahead c cs o) (marks_front all (own_marks b c) (marks_in_block b cs) more m)
+        jump_joined (parts_of i c) (parts_of_block (number_after i c) cs) later
+        (jumps all b i around c (before_labels (labels_of cs) w) (labels_of cs ++ own) (labels_ahead (parts (parts_of_block (number_after i c) cs)) later) (marks_in_block b cs ++ more) h.0
+        (place_before all b (number_after i c) cs w.ahead own later more p) (own_first w.ahead c cs o) (marks_front all (own_marks b c) (marks_in_block b cs) more m)
         (flawless_first (any_loop (has_flaw Exit symbols) around c) (any_in_block (has_flaw Exit symbols) around cs) (any_loop (has_flaw InnerIf symbols) around c) (any_in_block (has_flaw InnerIf symbols) around cs) f))
-        (jumps_in_block all b (after i c) around cs w own later more h.1 p (own_rest w.ahead (all_labels_of c) (all_labels_in cs) o) (marks_rest all (own_marks b c) (marks_in_block b cs) more m)
+        (jumps_in_block all b (number_after i c) around cs w own later more h.1 p (own_rest w.ahead (all_labels_of c) (all_labels_in cs) o) (marks_rest all (own_marks b c) (marks_in_block b cs) more m)
         (flawless_rest (any_loop (has_flaw Exit symbols) around c) (any_in_block (has_flaw Exit symbols) around cs) (any_loop (has_flaw InnerIf symbols) around c) (any_in_block (has_flaw InnerIf symbols) around cs) f))
 
   -- the body of a loop that has no flaw, nor has one in it
   pub loop_jumps : (i : ℕ) (x : List ℕ) (body : Block) (w : Surroundings) → IsBlock ds body (within_loop x w) → AreOwn w.ahead (all_labels_in body)
       → (exits (marks_in_block false body) || any_in_block (has_flaw Exit symbols) (x ∷ []) body) ≡ false
       → ((loop_in_if (marks_in_block false body) || jumps_over_loop (marks_in_block false body)) || any_in_block (has_flaw InnerIf symbols) (x ∷ []) body) ≡ false
-      → AllJumpAhead [] (parts (parts_of_block (next i) body))
+      → AllJumpAhead [] (parts (parts_of_block (next_loop_number i) body))
   loop_jumps i x body w h o exit inner =
       let e = either_false (exits (marks_in_block false body)) (any_in_block (has_flaw Exit symbols) (x ∷ []) body) exit in
       let g = either_false (loop_in_if (marks_in_block false body) || jumps_over_loop (marks_in_block false body)) (any_in_block (has_flaw InnerIf symbols) (x ∷ []) body) inner in
-      jumps_in_block (marks_in_block false body) false (next i) (x ∷ []) body (within_loop x w) [] [] [] h (body_place w.ahead body o) o (body_marks body e.0 g.0) (record { exit_is = e.1; inner_is = g.1 })
+      jumps_in_block (marks_in_block false body) false (next_loop_number i) (x ∷ []) body (within_loop x w) [] [] [] h (body_place w.ahead body o) o (body_marks body e.0 g.0) (record { exit_is = e.1; inner_is = g.1 })

@@ -19,9 +19,9 @@ use Rattle.rewrite.specs.Names.{uses_in, uses_in_arms, uses_in_block, uses_in_co
 use Rattle.components.specs.Lists.{Each}
 use Rattle.components.proofs.ListLaws.{Each-append}
 use Rattle.nest.specs.Plain.{parts}
-use Rattle.find_nests.specs.nest_parts.Numbers.{next, after, after_arms, after_block}
+use Rattle.find_nests.specs.nest_parts.Numbers.{next_loop_number, number_after, after_arms, after_block}
 use Rattle.find_nests.specs.nest_parts.Statements.{branches_of, parts_of, parts_of_block}
-use Rattle.find_nests.specs.Loops.{SourceLoop, Placed, loops_in, loops_in_arms, loops_in_block}
+use Rattle.find_nests.specs.Loops.{SourceLoop, SurroundedLoop, loops_in, loops_in_arms, loops_in_block}
 use Rattle.meaning_laws.proofs.arrays.Members.{cases_of, nowhere}
 use Rattle.meaning_laws.proofs.profiles.Lists.{here, there}
 use Rattle.pass_laws.proofs.ReadyNests.Lists.{Each-weaker}
@@ -100,7 +100,7 @@ own_first ahead c cs h = record { once = front_once (all_labels_of c) (all_label
 
 -- ---- the loops of a program
 
-pub record IsProper (ds : List Declaration) (q : Placed) : Type 0 where
+pub record IsProper (ds : List Declaration) (q : SurroundedLoop) : Type 0 where
   pub round : Surroundings
   pub variable : IsDoVariable ds q.loop.loop.variable round.variables
   pub body : IsBlock ds q.loop.loop.body (within_loop q.loop.loop.variable round)
@@ -118,7 +118,7 @@ module _ (ds : List Declaration) where
         (proper_block (after_arms k arms) around other w (after_arms_small k arms s) h.3 (own_rest w.ahead (all_labels_in_arms arms) (all_labels_in other) o))
     proper k around (Do l x a b c body) w s h o = (
       record { round = w; variable = h.1; body = h.5; before = s; labels = o },
-      proper_block (next k) (around ++ record { line = l; variable = x; first = a; last = b; step = c; body = body } ∷ []) body (within_loop x w) (next_small k s) h.5 o,
+      proper_block (next_loop_number k) (around ++ record { line = l; variable = x; first = a; last = b; step = c; body = body } ∷ []) body (within_loop x w) (next_small k s) h.5 o,
     )
     proper k around (Label n) w s h o = tt
     proper k around (GoTo l n) w s h o = tt
@@ -138,9 +138,9 @@ module _ (ds : List Declaration) where
     pub proper_block : (k : ℕ) (around : List SourceLoop) (b : Block) (w : Surroundings) → k ≤ 4294967295 → IsBlock ds b w → AreOwn w.ahead (all_labels_in b) → Each (IsProper ds) (loops_in_block k around b)
     proper_block k around no_statements w s h o = tt
     proper_block k around (statement c cs) w s h o =
-        Each-append (IsProper ds) (loops_in k around c) (loops_in_block (after k c) around cs)
+        Each-append (IsProper ds) (loops_in k around c) (loops_in_block (number_after k c) around cs)
         (proper k around c (before_labels (labels_of cs) w) s h.0 (own_first w.ahead c cs o))
-        (proper_block (after k c) around cs w (after_small k c s) h.1 (own_rest w.ahead (all_labels_of c) (all_labels_in cs) o))
+        (proper_block (number_after k c) around cs w (after_small k c s) h.1 (own_rest w.ahead (all_labels_of c) (all_labels_in cs) o))
 
 -- ---- the parts of a block
 
@@ -198,7 +198,7 @@ module _ (d : Dialect) (ds : List Declaration) (are : AreDeclarations d ds) (sym
           apart = u.0 refl;
           number = next_small k s;
         },
-        sound_block (next k) body (within_loop x w) (vs ++ x ∷ []) (next_small k s) (within_more vs x w i) h.5
+        sound_block (next_loop_number k) body (within_loop x w) (vs ++ x ∷ []) (next_small k s) (within_more vs x w i) h.5
             (Each-right (IsApart symbols) (uses_in_control x a b c) (uses_in_block body) u),
       ),
       tt,
@@ -226,6 +226,6 @@ module _ (d : Dialect) (ds : List Declaration) (are : AreDeclarations d ds) (sym
         → Each (IsApart symbols) (uses_in_block b) → AreSound symbols vs (parts (parts_of_block k b))
     sound_block k no_statements w vs s i h u = tt
     sound_block k (statement c cs) w vs s i h u =
-        sound_joined symbols vs (parts_of k c) (parts_of_block (after k c) cs)
+        sound_joined symbols vs (parts_of k c) (parts_of_block (number_after k c) cs)
         (sound k c (before_labels (labels_of cs) w) vs s i h.0 (Each-left (IsApart symbols) (uses_in_statement c) (uses_in_block cs) u))
-        (sound_block (after k c) cs w vs (after_small k c s) i h.1 (Each-right (IsApart symbols) (uses_in_statement c) (uses_in_block cs) u))
+        (sound_block (number_after k c) cs w vs (after_small k c s) i h.1 (Each-right (IsApart symbols) (uses_in_statement c) (uses_in_block cs) u))

@@ -5,19 +5,20 @@ use Rattle.std.specs.Prelude.{IsSome}
 use Rattle.tree.specs.Plain.{Program}
 use Rattle.meaning.specs.Blocks.{outermost, within_loop}
 use Rattle.meaning.specs.Dialect.{Dialect, fortran77}
+use Rattle.tree.specs.declared.width.Width.{Width}
 use Rattle.meaning.specs.Profile77.{IsProgram77}
 use Rattle.rewrite.specs.Names.{names_written_in}
 use Rattle.components.specs.Lists as components
 use Rattle.components.specs.Lists.{Each}
 use Rattle.components.proofs.ListLaws.{Each-append}
 use Rattle.find_nests.specs.Found.{InNest, found_in, body_of, nest_of_loop}
-use Rattle.find_nests.specs.Loops.{Placed, loops_in_block}
+use Rattle.find_nests.specs.Loops.{SurroundedLoop, loops_in_block}
 use Rattle.find_nests.proofs.FoundLaws.{found_nest_is_loop}
 use Rattle.last_values.specs.declared.behind.NestedLoop.{NestedLoop}
 use Rattle.normal_loops.specs.Normal.{is_normal}
 use Rattle.normal_loops.specs.Normalised.{normalised}
 use Rattle.nest_order.specs.orders.Lists as order
-use Rattle.find_nests.specs.nest_parts.Numbers.{next}
+use Rattle.find_nests.specs.nest_parts.Numbers.{next_loop_number}
 use Rattle.nest_reasons.specs.Symbols.{is_symbol}
 use Rattle.nest.specs.Bodies.{Standing, nest_loops, nest_statements}
 use Rattle.nest.specs.Plain.{Nest}
@@ -97,7 +98,7 @@ module _ (n : Nest) (sound : IsSoundNest n) (normal : is_normal n.symbols [] n.b
 
 -- ---- a nest that was found
 
-sound_loop : (d : Dialect) (p : Program) (k : ℕ) (q : Placed) → IsProgram77 d p → IsProper p.declarations q → HasLoopsAlone (body_of q.loop)
+sound_loop : (d : Dialect) (p : Program) (k : ℕ) (q : SurroundedLoop) → IsProgram77 d p → IsProper p.declarations q → HasLoopsAlone (body_of q.loop)
     → IsSoundNest (nest_of_loop p k q.loop)
 sound_loop d p k q is h alone =
     let x = q.loop.loop.variable in
@@ -111,7 +112,7 @@ sound_loop d p k q is h alone =
           apart = variable_no_symbol p.declarations x body;
           number = next_small q.loop.before h.before;
         },
-        sound_block d p.declarations is.declarations symbols (next q.loop.before) body (within_loop x h.round) (x ∷ [])
+        sound_block d p.declarations is.declarations symbols (next_loop_number q.loop.before) body (within_loop x h.round) (x ∷ [])
             (next_small q.loop.before h.before) (here x h.round.variables, tt) h.body (uses_apart p.declarations x body) alone,
       );
       symbols = short_names d (is_symbol x (names_written_in body)) p.declarations is.declarations.each;
@@ -131,7 +132,7 @@ is_normal_nest n h = by (normalised n) refl h
     by None e k = let no : ⊥ = cc in absurd no
     by (Some m) e k = (made_of n m e).normal
 
-pub found_nests_are_sources : FoundNestIsSource
-found_nests_are_sources p n is h alone =
-    source_of n (sound_nest fortran77 p n is h alone) (is_normal_nest n (normalised_is_there fortran77 p n is h))
-    (found_loops_are_distinct fortran77 p n is h)
+pub found_nests_are_sources : (width : Width) → FoundNestIsSource width
+found_nests_are_sources width p n is h alone =
+    source_of n (sound_nest (fortran77 width) p n is h alone) (is_normal_nest n (normalised_is_there (fortran77 width) p n is h))
+    (found_loops_are_distinct (fortran77 width) p n is h)

@@ -7,7 +7,7 @@ use Rattle.rewrite.specs.Making.{Making, made}
 use Rattle.last_values.specs.Behind.{stands_behind}
 use Rattle.last_values.specs.PartsInPlace.{parts_before, parts_behind}
 use Rattle.last_values.specs.declared.behind.NestedLoop.{NestedLoop}
-use Rattle.normal_loops.specs.Bodies.{placed, normal_turns, normal_part, normal_parts}
+use Rattle.normal_loops.specs.Bodies.{placed_loop, normal_turns, normal_part, normal_parts}
 use Rattle.normal_loops.specs.Counting.{counting}
 use Rattle.normal_loops.specs.Laws.{CountsByOne}
 use Rattle.normal_loops.specs.Loops.{with_loop}
@@ -27,11 +27,12 @@ use Rattle.pass_laws.specs.found_sources.Laws.{NormalNestIsPlain}
 use Rattle.pass_laws.specs.found_sources.Alone.{HasLoopsAlone, HaveLoopsAlone}
 use Rattle.pass_laws.proofs.FoundSources.FoundSources.{found_nests_are_sources}
 use Rattle.pass_laws.proofs.FoundSources.Lists.{Each-left, Each-right, Each-of_all, alone_left, alone_right}
+use Rattle.tree.specs.declared.width.Width.{Width}
 
 -- ---- back from what is made
 
 module _ (n : Nest) (all : List NestedLoop) where
-  placed_alone : (round : List NormalLoop) (r : NormalLoop) (p : Part) → HaveLoopsAlone (parts (placed n all round r p)) → HasLoopsAlone p
+  placed_alone : (round : List NormalLoop) (r : NormalLoop) (p : Part) → HaveLoopsAlone (parts (placed_loop n all round r p)) → HasLoopsAlone p
   placed_alone round r p h = by (stands_behind (length n.symbols) all n.body r.variable) h
     where
       by : (b : Bool) → HaveLoopsAlone (parts (cond b (p ∷ []) (parts_before n.symbols n.line round r ++ p ∷ parts_behind n.symbols n.line round r)))
@@ -127,12 +128,12 @@ steps n = record {
 
 -- ---- the law
 
-pub normal_nests_are_plain : NormalNestIsPlain
-normal_nests_are_plain p n m is h e alone =
+pub normal_nests_are_plain : (width : Width) → NormalNestIsPlain width
+normal_nests_are_plain width p n m is h e alone =
     let made = made_of n m e in
     let source : HasLoopsAlone n.body =
     source_alone n made.loops [] n.body (subst (λ (ps : List Part). HaveLoopsAlone (parts ps)) (sym made.body) (alone, tt)) in
-    let found = found_nests_are_sources p n is h source in (
+    let found = found_nests_are_sources width p n is h source in (
       source,
       plain m.body alone (Each-of_all CountsByOne (nest_loops m) (normalised_counts n m e)),
       Each-All StandsUnguarded (nest_statements m)

@@ -10,7 +10,7 @@ use Rattle.meaning.specs.Profile77.{IsDeclaration}
 use Rattle.rewrite.specs.Names.{is_way, names_standing, names_written_in, uses_in_block, without_repeats}
 use Rattle.rewrite.specs.declared.uses.Use.{Use}
 use Rattle.rewrite.specs.declared.uses.Way.TheVariants.{Writes}
-use Rattle.components.specs.Lists.{Each, In}
+use Rattle.components.specs.Lists.{Each, IsMember}
 use Rattle.components.proofs.ListLaws.{Each-from}
 use Rattle.linear_forms.proofs.Sizes.{both}
 use Rattle.nest_reasons.specs.Symbols.{is_integer_scalar, is_symbol, symbols_of}
@@ -52,12 +52,12 @@ listed x (y ∷ ys) h = by (bytes_eq x y) refl h (listed x ys)
     by true e k more = refl
     by false e k more = kept x y e (without_repeats ys) (more k)
 
-standing : (us : List Use) (u : Use) → In u us → is_way u.way Writes ≡ true → list_any (bytes_eq u.name) (names_standing Writes us) ≡ true
+standing : (us : List Use) (u : Use) → IsMember u us → is_way u.way Writes ≡ true → list_any (bytes_eq u.name) (names_standing Writes us) ≡ true
 standing [] u i h = absurd i
 standing (v ∷ vs) u i h = by (is_way v.way Writes) refl i (standing vs u)
   where
-    by : (b : Bool) → is_way v.way Writes ≡ b → (u ≡ v) ⊎ In u vs
-        → (In u vs → is_way u.way Writes ≡ true → list_any (bytes_eq u.name) (names_standing Writes vs) ≡ true)
+    by : (b : Bool) → is_way v.way Writes ≡ b → (u ≡ v) ⊎ IsMember u vs
+        → (IsMember u vs → is_way u.way Writes ≡ true → list_any (bytes_eq u.name) (names_standing Writes vs) ≡ true)
         → list_any (bytes_eq u.name) (map (λ (w : Use). w.name)
         (cond b (v ∷ filter (λ (w : Use). is_way w.way Writes) vs) (filter (λ (w : Use). is_way w.way Writes) vs))) ≡ true
     by true e (inl s) more =

@@ -14,9 +14,9 @@ use Rattle.rewrite.specs.Names.{uses_in_statement, uses_in_block, uses_in_contro
 use Rattle.components.specs.Lists.{Each}
 use Rattle.components.proofs.ListLaws.{Each-append}
 use Rattle.nest.specs.Plain.{parts}
-use Rattle.find_nests.specs.nest_parts.Numbers.{next, after, after_arms, after_block}
+use Rattle.find_nests.specs.nest_parts.Numbers.{next_loop_number, number_after, after_arms, after_block}
 use Rattle.find_nests.specs.nest_parts.Statements.{parts_of, parts_of_block}
-use Rattle.find_nests.specs.Loops.{SourceLoop, Placed, loops_in, loops_in_arms, loops_in_block}
+use Rattle.find_nests.specs.Loops.{SourceLoop, SurroundedLoop, loops_in, loops_in_arms, loops_in_block}
 use Rattle.meaning_laws.proofs.profiles.Lists.{here, there}
 use Rattle.pass_laws.proofs.ReadyNests.Lists.{Each-weaker}
 use Rattle.nest.specs.statement_loops.Names.{is_among}
@@ -30,7 +30,7 @@ use Rattle.pass_laws.proofs.FoundSources.Symbols.{IsApart}
 
 -- ---- the loops of a program
 
-pub record IsProper (ds : List Declaration) (q : Placed) : Type 0 where
+pub record IsProper (ds : List Declaration) (q : SurroundedLoop) : Type 0 where
   pub round : Surroundings
   pub variable : IsDoVariable ds q.loop.loop.variable round.variables
   pub body : IsBlock ds q.loop.loop.body (within_loop q.loop.loop.variable round)
@@ -46,7 +46,7 @@ module _ (ds : List Declaration) where
         (proper_arms k around arms w s h.2) (proper_block (after_arms k arms) around other w (after_arms_small k arms s) h.3)
     proper k around (Do l x a b c body) w s h = (
       record { round = w; variable = h.1; body = h.5; before = s },
-      proper_block (next k) (around ++ record { line = l; variable = x; first = a; last = b; step = c; body = body } ∷ []) body (within_loop x w) (next_small k s) h.5,
+      proper_block (next_loop_number k) (around ++ record { line = l; variable = x; first = a; last = b; step = c; body = body } ∷ []) body (within_loop x w) (next_small k s) h.5,
     )
     proper k around (Label n) w s h = tt
     proper k around (GoTo l n) w s h = tt
@@ -65,8 +65,8 @@ module _ (ds : List Declaration) where
     pub proper_block : (k : ℕ) (around : List SourceLoop) (b : Block) (w : Surroundings) → k ≤ 4294967295 → IsBlock ds b w → Each (IsProper ds) (loops_in_block k around b)
     proper_block k around no_statements w s h = tt
     proper_block k around (statement c cs) w s h =
-        Each-append (IsProper ds) (loops_in k around c) (loops_in_block (after k c) around cs)
-        (proper k around c (before_labels (labels_of cs) w) s h.0) (proper_block (after k c) around cs w (after_small k c s) h.1)
+        Each-append (IsProper ds) (loops_in k around c) (loops_in_block (number_after k c) around cs)
+        (proper k around c (before_labels (labels_of cs) w) s h.0) (proper_block (number_after k c) around cs w (after_small k c s) h.1)
 
 -- ---- the parts of a block
 
@@ -118,7 +118,7 @@ module _ (d : Dialect) (ds : List Declaration) (are : AreDeclarations d ds) (sym
           apart = u.0 refl;
           number = next_small k s;
         },
-        sound_block (next k) body (within_loop x w) (vs ++ x ∷ []) (next_small k s) (within_more vs x w i) h.5
+        sound_block (next_loop_number k) body (within_loop x w) (vs ++ x ∷ []) (next_small k s) (within_more vs x w i) h.5
             (Each-right (IsApart symbols) (uses_in_control x a b c) (uses_in_block body) u) alone.0,
       ),
       tt,
@@ -135,8 +135,8 @@ module _ (d : Dialect) (ds : List Declaration) (are : AreDeclarations d ds) (sym
         → Each (IsApart symbols) (uses_in_block b) → HaveLoopsAlone (parts (parts_of_block k b)) → AreSound symbols vs (parts (parts_of_block k b))
     sound_block k no_statements w vs s i h u alone = tt
     sound_block k (statement c cs) w vs s i h u alone =
-        sound_joined symbols vs (parts_of k c) (parts_of_block (after k c) cs)
+        sound_joined symbols vs (parts_of k c) (parts_of_block (number_after k c) cs)
         (sound k c (before_labels (labels_of cs) w) vs s i h.0 (Each-left (IsApart symbols) (uses_in_statement c) (uses_in_block cs) u)
-        (alone_left (parts_of k c) (parts_of_block (after k c) cs) alone))
-        (sound_block (after k c) cs w vs (after_small k c s) i h.1 (Each-right (IsApart symbols) (uses_in_statement c) (uses_in_block cs) u)
-        (alone_right (parts_of k c) (parts_of_block (after k c) cs) alone))
+        (alone_left (parts_of k c) (parts_of_block (number_after k c) cs) alone))
+        (sound_block (number_after k c) cs w vs (after_small k c s) i h.1 (Each-right (IsApart symbols) (uses_in_statement c) (uses_in_block cs) u)
+        (alone_right (parts_of k c) (parts_of_block (number_after k c) cs) alone))

@@ -8,7 +8,7 @@ use Rattle.tree.specs.Plain.{Statement, block}
 use Rattle.meaning.specs.Run.{State, Going, does, does_all}
 use Rattle.meaning.specs.Store.{Cell}
 use Rattle.last_values.specs.Behind.{are_within, ends_behind, may_end_behind}
-use Rattle.last_values.specs.ValuesBehind.{or_none}
+use Rattle.last_values.specs.ValuesBehind.{statements_or_none}
 use Rattle.last_values.specs.Endings.{after_statements, ending_behind, with_last_forms}
 use Rattle.last_values.specs.declared.behind.NestedLoop.{NestedLoop}
 use Rattle.linear_forms.specs.Laws.{AreSized}
@@ -49,7 +49,7 @@ module _ (bits line : ℕ) (symbols : List (List ℕ)) (keeps : List ℕ → Boo
   n = length symbols
 
   abbrev pub left : NestedLoop → List Statement
-  left m = cond (stands m.turns.variable) (or_none (after_statements symbols line m.round m.turns)) []
+  left m = cond (stands m.turns.variable) (statements_or_none (after_statements symbols line m.round m.turns)) []
 
   pub record Fits (m : NestedLoop) : Type 0 where
     pub run : HasRun symbols keeps values bits bounds m
@@ -74,7 +74,7 @@ module _ (bits line : ℕ) (symbols : List (List ℕ)) (keeps : List ℕ → Boo
   loop_left m fit s begins = by (stands m.turns.variable) refl
     where
       by : (b : Bool) → stands m.turns.variable ≡ b
-          → Left m.turns.variable (if_so b (ending_of n values m.turns.variable m)) s (does_all (sequential bits) None (block (cond b (or_none (after_statements symbols line m.round m.turns)) [])) s)
+          → Left m.turns.variable (if_so b (ending_of n values m.turns.variable m)) s (does_all (sequential bits) None (block (cond b (statements_or_none (after_statements symbols line m.round m.turns)) [])) s)
       by false e = left_here m.turns.variable s begins.way
       by true e =
           let q = both (have_plain_trips m.round) (are_within (last_forms n m.round m.turns)) (fit.ends e) in
@@ -83,7 +83,7 @@ module _ (bits line : ℕ) (symbols : List (List ℕ)) (keeps : List ℕ → Boo
           let l = ending_behind_left bits line symbols values sized m.round m.turns g.0 g.1 q.0 fit.run.deep fit.run.made_round fit.run.made fit.apart
           (λ t. (let p = fit.run.ran t in (record { few = p.0.few; first = p.0.first; end = p.0.end }, p.1))) s begins.way
           (λ t. begins.bounds_are m.turns.variable fit.counted ∙ (fit.run.ran t).0.scalar) begins.known in
-          subst (λ o. Left m.turns.variable (ending_of n values m.turns.variable m) s (does_all (sequential bits) None (block (or_none o)) s)) (sym (statements_are m g.0 q.0 g.1))
+          subst (λ o. Left m.turns.variable (ending_of n values m.turns.variable m) s (does_all (sequential bits) None (block (statements_or_none o)) s)) (sym (statements_are m g.0 q.0 g.1))
           (subst (λ b. Left m.turns.variable (if_so (all_turn n values 0 none_yet m.round) (cond b (Some E) None)) s (does_all (sequential bits) None (block (ending_behind symbols line m.round m.turns g.0)) s))
           (sym ((bytes_eq-Decides m.turns.variable m.turns.variable).1 refl)) l)
 
@@ -119,7 +119,7 @@ module _ (bits line : ℕ) (symbols : List (List ℕ)) (keeps : List ℕ → Boo
     where
       by : (b : Bool) → stands m.turns.variable ≡ b → (does_all (sequential bits) None (block (left m)) s).store.held c ≡ s.store.held c
       by true e = l.other c (h e)
-      by false e = ap (λ b. (does_all (sequential bits) None (block (cond b (or_none (after_statements symbols line m.round m.turns)) [])) s).store.held c) e
+      by false e = ap (λ b. (does_all (sequential bits) None (block (cond b (statements_or_none (after_statements symbols line m.round m.turns)) [])) s).store.held c) e
 
   pub run_behind : (ms : List NestedLoop) → Each Fits ms → (x : List ℕ) (s : State) → Begins s → Done ms x s (does_all (sequential bits) None (block (flat_map left ms)) s)
   run_behind [] fit x s begins = record { way = begins.way; bounds_stay = λ y. refl; elements = λ y j js. refl; value = λ e. refl; others = λ c h. refl }
@@ -145,7 +145,7 @@ module _ (bits line : ℕ) (symbols : List (List ℕ)) (keeps : List ℕ → Boo
   none_behind [] h s = refl
   none_behind (m ∷ ms) h s =
       joined (left m) (flat_map left ms) s
-      ∙ (ap (λ b. does_all (sequential bits) None (block (flat_map left ms)) (does_all (sequential bits) None (block (cond b (or_none (after_statements symbols line m.round m.turns)) [])) s)) h.0
+      ∙ (ap (λ b. does_all (sequential bits) None (block (flat_map left ms)) (does_all (sequential bits) None (block (cond b (statements_or_none (after_statements symbols line m.round m.turns)) [])) s)) h.0
       ∙ none_behind ms h.1 s)
 
   -- ---- each loop fits

@@ -21,7 +21,7 @@ use Rattle.meaning.specs.Run.{stores, checks_range}
 use Rattle.meaning.specs.Store.{Store, Cell, put}
 use Rattle.meaning.specs.Value.{cell_named, is_array, is_in_range, named, truth_of, value_of}
 use Rattle.rewrite.proofs.Replacing.{either_false}
-use Rattle.last_values.specs.Endings.{all_hold, assigned, ending, ending_behind, last_texts, only_where}
+use Rattle.last_values.specs.Endings.{all_hold, assigned, loop_ending, ending_behind, last_texts, only_where}
 use Rattle.last_values.specs.Scalars.{scalar}
 use Rattle.last_values.specs.Endings.{where_all_hold}
 use Rattle.linear_forms.specs.Laws.{AreSized}
@@ -267,7 +267,7 @@ module _ (bits line : ℕ) (symbols : List (List ℕ)) (values : ℕ → ℤ) (s
         by false h = left_alone r.variable s (s.steps + 1)
 
     pub ending_left : (s : State) → s.way ≡ Going → s.store.bounds r.variable ≡ Some [] → HaveValues symbols s.store (values_from (length symbols) 0 values)
-        → Left r.variable (Some (end (length symbols) values (last_round (length symbols) values round) r)) s (does_all (sequential bits) None (block (ending line r.variable f.trip (last_texts symbols round f))) s)
+        → Left r.variable (Some (end (length symbols) values (last_round (length symbols) values round) r)) s (does_all (sequential bits) None (block (loop_ending line r.variable f.trip (last_texts symbols round f))) s)
     ending_left s w b known = by (is_positive f.trip) (is_known f.trip) refl refl
       where
         top_is : is_known f.trip ≡ true → top n values L r ≡ f.trip.top.constant
@@ -305,17 +305,17 @@ module _ (bits line : ℕ) (symbols : List (List ℕ)) (values : ℕ → ℤ) (s
       (does_all (sequential bits) None (block (ending_behind symbols line round r f)) s)
   ending_behind_left round r f is plain deep made_round made apart shown s w b known =
       let t = tests s.store known round 0 none_yet made_round (tops_stay lang symbols values s.store known sized round plain) in
-      let g = where_goes lang line (tests_of symbols round) t.truths (ending line r.variable f.trip (last_texts symbols round f)) s w t.are in
+      let g = where_goes lang line (tests_of symbols round) t.truths (loop_ending line r.variable f.trip (last_texts symbols round f)) s w t.are in
       let E : ℤ = end n values (last_round n values round) r in
-      let cs : List Statement = ending line r.variable f.trip (last_texts symbols round f) in
+      let cs : List Statement = loop_ending line r.variable f.trip (last_texts symbols round f) in
       subst (Left r.variable (if_so (all_turn n values 0 none_yet round) (Some E)) s) (sym (g.is ∙ ap (λ b. either b (does_all lang None (block cs)) nothing (moved s g.steps s.store)) t.all))
       (by g.steps (all_turn n values 0 none_yet round) refl)
     where
       by : (k : ℕ) (t : Bool) → all_turn n values 0 none_yet round ≡ t
-          → Left r.variable (if_so t (Some (end n values (last_round n values round) r))) s (either t (does_all lang None (block (ending line r.variable f.trip (last_texts symbols round f)))) nothing (moved s k s.store))
+          → Left r.variable (if_so t (Some (end n values (last_round n values round) r))) s (either t (does_all lang None (block (loop_ending line r.variable f.trip (last_texts symbols round f)))) nothing (moved s k s.store))
       by k true h =
           let p = shown h in
-          left_then r.variable None (Some (end n values (last_round n values round) r)) s (moved s k s.store) (does_all lang None (block (ending line r.variable f.trip (last_texts symbols round f))) (moved s k s.store))
+          left_then r.variable None (Some (end n values (last_round n values round) r)) s (moved s k s.store) (does_all lang None (block (loop_ending line r.variable f.trip (last_texts symbols round f))) (moved s k s.store))
           (left_alone r.variable s k)
           (ending_left round r f is plain deep made_round made h p.1 apart p.0.few p.0.first p.0.end (moved s k s.store) refl (b h) known)
       by k false h = left_alone r.variable s k

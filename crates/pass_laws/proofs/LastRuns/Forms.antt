@@ -34,10 +34,10 @@ use Rattle.linear_forms.proofs.AffineTexts.{affine_text_has_value}
 use Rattle.linear_forms.proofs.Merges.{Outcome, pushes, then_same}
 use Rattle.linear_forms.proofs.Sizes.{abs-sum, weighted-size, within_fits}
 use Rattle.last_values.specs.normal_forms.Combinations.{all_within, coefficient_in, combination, combined_at, form_with}
-use Rattle.last_values.specs.normal_forms.Combinations.{has_small_factor, no_terms, number_form, seven, with_symbols}
+use Rattle.last_values.specs.normal_forms.Combinations.{has_small_factor, no_terms, number_form, seven, with_symbol_terms}
 use Rattle.last_values.specs.normal_forms.NormalLoops.{is_constant, trip_of}
 use Rattle.last_values.specs.normal_forms.Numbers.{number_of_form, products, values_from}
-use Rattle.last_values.specs.normal_forms.Texts.{quotient}
+use Rattle.last_values.specs.normal_forms.Texts.{quotient_text}
 use Rattle.last_values.specs.declared.normal_forms.combinations.Multiple.{Multiple}
 use Rattle.last_values.specs.declared.normal_forms.places.Place.TheVariants as place
 use Rattle.last_values.proofs.NormalForms.Numbers.{looked_up}
@@ -62,17 +62,17 @@ pub record IsKnownForm (n : ℕ) (a : Affine) : Type 0 where
 abbrev more_room : ℕ → ℤ → Terms → Option Terms
 more_room j z t = cond (is_small z && nat_lt t.used 8) (Some (record { at = set t.at t.used (j, z); used = t.used + 1 })) None
 
-symbols-pushed : (f : ℕ → ℤ) (n j : ℕ) (t : Terms) → with_symbols f n j t ≡ all_pushed (terms_from j (values_from n j f)) t
+symbols-pushed : (f : ℕ → ℤ) (n j : ℕ) (t : Terms) → with_symbol_terms f n j t ≡ all_pushed (terms_from j (values_from n j f)) t
 symbols-pushed f zero j t = refl
 symbols-pushed f (suc n) j t =
     by (λ u. symbols-pushed f n (j + 1) u ∙ ap (λ k. all_pushed (terms_from k (values_from n (j + 1) f)) u) (add-one j)) (int_eq (f j) (pos 0)) refl
   where
-    by : ((u : Terms) → with_symbols f n (j + 1) u ≡ all_pushed (terms_from (suc j) (values_from n (j + 1) f)) u) → (b : Bool) → int_eq (f j) (pos 0) ≡ b
-        → then_pushed (pushed j (f j) t) (with_symbols f n (j + 1)) ≡ all_pushed (cond b (terms_from (suc j) (values_from n (j + 1) f)) ((j, f j) ∷ terms_from (suc j) (values_from n (j + 1) f))) t
-    by later true e = ap (λ c. then_pushed (cond c (Some t) (more_room j (f j) t)) (with_symbols f n (j + 1))) e ∙ later t
-    by later false e = then_same (pushed j (f j) t) (with_symbols f n (j + 1)) (all_pushed (terms_from (suc j) (values_from n (j + 1) f))) later
+    by : ((u : Terms) → with_symbol_terms f n (j + 1) u ≡ all_pushed (terms_from (suc j) (values_from n (j + 1) f)) u) → (b : Bool) → int_eq (f j) (pos 0) ≡ b
+        → then_pushed (pushed j (f j) t) (with_symbol_terms f n (j + 1)) ≡ all_pushed (cond b (terms_from (suc j) (values_from n (j + 1) f)) ((j, f j) ∷ terms_from (suc j) (values_from n (j + 1) f))) t
+    by later true e = ap (λ c. then_pushed (cond c (Some t) (more_room j (f j) t)) (with_symbol_terms f n (j + 1))) e ∙ later t
+    by later false e = then_same (pushed j (f j) t) (with_symbol_terms f n (j + 1)) (all_pushed (terms_from (suc j) (values_from n (j + 1) f))) later
 
-symbols_of : (f : ℕ → ℤ) (n : ℕ) (t : Terms) → with_symbols f n 0 no_terms ≡ Some t → Outcome 0 (values_from n 0 f) [] (Some t)
+symbols_of : (f : ℕ → ℤ) (n : ℕ) (t : Terms) → with_symbol_terms f n 0 no_terms ≡ Some t → Outcome 0 (values_from n 0 f) [] (Some t)
 symbols_of f n t h =
     let es : List ℤ = values_from n 0 f in
     let all = pushes 0 es [] no_terms (record { at = refl; used = refl }) (omega arith) in
@@ -91,7 +91,7 @@ small_is z v h = by (is_small z) refl h
     by false e g = let no : ⊥ = cc in absurd no
 
 module _ (n : ℕ) (ts : List Multiple) (a : Affine) where
-  parted : (ls : Option (List ℤ)) → (o : Option Terms) → with_symbols (λ j. combined_at ts (place.Symbol j)) n 0 no_terms ≡ o
+  parted : (ls : Option (List ℤ)) → (o : Option Terms) → with_symbol_terms (λ j. combined_at ts (place.Symbol j)) n 0 no_terms ≡ o
       → (z : Option ℤ) → small_or_none (combined_at ts place.Constant) ≡ z → form_with ls o z ≡ Some a → IsKnownForm n a
   parted None o f z g h = let no : ⊥ = cc in absurd no
   parted (Some ls) None f z g h = let no : ⊥ = cc in absurd no
@@ -115,8 +115,8 @@ module _ (n : ℕ) (ts : List Multiple) (a : Affine) where
   unfolding combination
   sum_known h = by (list_all has_small_factor ts) h
     where
-      by : (b : Bool) → cond b (form_with (all_within (seven (λ k. combined_at ts (place.Loop k)))) (with_symbols (λ j. combined_at ts (place.Symbol j)) n 0 no_terms) (small_or_none (combined_at ts place.Constant))) None ≡ Some a → IsKnownForm n a
-      by true g = parted (all_within (seven (λ k. combined_at ts (place.Loop k)))) (with_symbols (λ j. combined_at ts (place.Symbol j)) n 0 no_terms) refl (small_or_none (combined_at ts place.Constant)) refl g
+      by : (b : Bool) → cond b (form_with (all_within (seven (λ k. combined_at ts (place.Loop k)))) (with_symbol_terms (λ j. combined_at ts (place.Symbol j)) n 0 no_terms) (small_or_none (combined_at ts place.Constant))) None ≡ Some a → IsKnownForm n a
+      by true g = parted (all_within (seven (λ k. combined_at ts (place.Loop k)))) (with_symbol_terms (λ j. combined_at ts (place.Symbol j)) n 0 no_terms) refl (small_or_none (combined_at ts place.Constant)) refl g
       by false g = let no : ⊥ = cc in absurd no
 
 number_known : (n : ℕ) (z : ℤ) → is_small z ≡ true → IsKnownForm n (number_form z)
@@ -216,7 +216,7 @@ text_number lang symbols trips n a k s xs ys have each sized trips_sized =
 -- ---- quotients
 
 pub quotient_value : (lang : Dialect) (e : Expression) (s : Store) (z : ℤ) (d : ℕ) → 0 < d → value_of lang e s ≡ Ok (Int z) → nat_abs z < 2 ^ 127
-    → value_of lang (quotient e (pos d)) s ≡ Ok (Int (int_div z (pos d)))
+    → value_of lang (quotient_text e (pos d)) s ≡ Ok (Int (int_div z (pos d)))
 quotient_value lang e s z zero p h small = absurd (omega (arith, p))
 quotient_value lang e s z (suc d) p h small = by (int_eq (pos (suc d)) (pos 1)) refl
   where

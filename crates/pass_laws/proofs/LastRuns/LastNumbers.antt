@@ -14,7 +14,7 @@ use Rattle.std.proofs.Math.IntN.{*ℤ-zero, zero-*ℤ}
 use Rattle.std.proofs.Math.Nat.{div-one}
 use Rattle.linear_forms.proofs.Sizes.{both}
 use Rattle.nest.specs.declared.parts.Trip.{Trip}
-use Rattle.last_values.specs.normal_forms.Combinations.{at, coefficient_in, number_form, times, without_loops}
+use Rattle.last_values.specs.normal_forms.Combinations.{number_of_place, coefficient_in, number_form, times, without_loops}
 use Rattle.last_values.specs.normal_forms.LastValues.{trips_from, with_trips}
 use Rattle.last_values.specs.normal_forms.NormalLoops.{has_no_loops, has_no_symbols, is_constant, is_undivided, is_unused, is_zero}
 use Rattle.last_values.specs.normal_forms.NormalLoops.{plus_multiple, symbol_form, trip_form, trip_of}
@@ -86,7 +86,7 @@ number_alike n a its v w h =
 
 -- ---- simple forms
 
-zero_at : (z : ℤ) (k : ℕ) → at (number_form z) (place.Loop k) ≡ pos 0
+zero_at : (z : ℤ) (k : ℕ) → number_of_place (number_form z) (place.Loop k) ≡ pos 0
 zero_at z zero = refl
 zero_at z (suc zero) = refl
 zero_at z (suc (suc zero)) = refl
@@ -98,7 +98,7 @@ zero_at z (suc (suc (suc (suc (suc (suc (suc k))))))) = refl
 
 number_of_number : (n : ℕ) (its values : ℕ → ℤ) (z : ℤ) → number_of_form n its values (number_form z) ≡ z
 number_of_number n its values z =
-    ap₂ (λ p q. p +ℤ (q +ℤ z)) (no_coefficients 7 0 (λ k. at (number_form z) (place.Loop k)) its (λ k l m. zero_at z k))
+    ap₂ (λ p q. p +ℤ (q +ℤ z)) (no_coefficients 7 0 (λ k. number_of_place (number_form z) (place.Loop k)) its (λ k l m. zero_at z k))
     (no_coefficients n 0 (λ j. coefficient_in (number_form z).syms j) values (λ j l m. none_among_zeros 8 j))
     ∙ zeros z
   where
@@ -150,7 +150,7 @@ single (suc n) j p v l m = by (λ k. single n (j + 1) p v (omega (arith, k)) (om
 
 number_of_symbol : (n p : ℕ) (its v : ℕ → ℤ) → p < n → number_of_form n its v (symbol_form p) ≡ v p
 number_of_symbol n p its v l =
-    ap₂ (λ x y. x +ℤ (y +ℤ pos 0)) (no_coefficients 7 0 (λ k. at (number_form (pos 0)) (place.Loop k)) its (λ k a b. zero_at (pos 0) k)) (single n 0 p v (omega arith) (omega (arith, l)))
+    ap₂ (λ x y. x +ℤ (y +ℤ pos 0)) (no_coefficients 7 0 (λ k. number_of_place (number_form (pos 0)) (place.Loop k)) its (λ k a b. zero_at (pos 0) k)) (single n 0 p v (omega arith) (omega (arith, l)))
     ∙ alone (v p)
   where
     alone : (z : ℤ) → pos 0 +ℤ (z +ℤ pos 0) ≡ z
@@ -182,7 +182,7 @@ symbols_zero (t ∷ ts) j h = by (t.0 == j) ((Decides-int_eq t.1 (pos 0)).0 (bot
 constant_number : (n : ℕ) (its v : ℕ → ℤ) (a : Affine) → is_constant a ≡ true → number_of_form n its v a ≡ a.constant
 constant_number n its v a h =
     let p = both (has_no_loops a) (has_no_symbols a) h in
-    ap₂ (λ x y. x +ℤ (y +ℤ a.constant)) (no_coefficients 7 0 (λ k. at a (place.Loop k)) its (λ k l m. loops_zero a.loops k p.0)) (no_coefficients n 0 (λ j. at a (place.Symbol j)) v (λ j l m. symbols_zero a.syms j p.1))
+    ap₂ (λ x y. x +ℤ (y +ℤ a.constant)) (no_coefficients 7 0 (λ k. number_of_place a (place.Loop k)) its (λ k l m. loops_zero a.loops k p.0)) (no_coefficients n 0 (λ j. number_of_place a (place.Symbol j)) v (λ j l m. symbols_zero a.syms j p.1))
     ∙ zeros a.constant
   where
     zeros : (z : ℤ) → pos 0 +ℤ (pos 0 +ℤ z) ≡ z
@@ -217,13 +217,13 @@ module _ (n : ℕ) (v w last : ℕ → ℤ) (symbols : (j : ℕ) → j < n → w
   TripsAre k [] = Unit {0}
   TripsAre k (r ∷ rs) = (number_of_form (n + 7) none_yet w (trip_form (n + k) r.trip) ≡ last k) × TripsAre (k + 1) rs
 
-  trips_number : (a : Affine) (rs : List NormalLoop) (k : ℕ) → TripsAre k rs → sum_of_numbers (n + 7) none_yet w (trips_from n k a rs) ≡ products (length rs) k (λ i. at a (place.Loop i)) last
+  trips_number : (a : Affine) (rs : List NormalLoop) (k : ℕ) → TripsAre k rs → sum_of_numbers (n + 7) none_yet w (trips_from n k a rs) ≡ products (length rs) k (λ i. number_of_place a (place.Loop i)) last
   trips_number a [] k h = refl
-  trips_number a (r ∷ rs) k h = ap₂ (λ x y. at a (place.Loop k) *ℤ x +ℤ y) h.0 (trips_number a rs (k + 1) h.1)
+  trips_number a (r ∷ rs) k h = ap₂ (λ x y. number_of_place a (place.Loop k) *ℤ x +ℤ y) h.0 (trips_number a rs (k + 1) h.1)
 
   without_number : (a : Affine) → IsKnownForm n a → number_of_form (n + 7) none_yet w (without_loops a) ≡ products n 0 (λ j. coefficient_in a.syms j) v +ℤ a.constant
   without_number a k =
-      ap₂ (λ x y. x +ℤ (y +ℤ a.constant)) (no_values 7 0 (λ i. at (without_loops a) (place.Loop i)) none_yet (λ i l m. refl)) (symbols_stay n 7 a k v w symbols)
+      ap₂ (λ x y. x +ℤ (y +ℤ a.constant)) (no_values 7 0 (λ i. number_of_place (without_loops a) (place.Loop i)) none_yet (λ i l m. refl)) (symbols_stay n 7 a k v w symbols)
       ∙ nothing (products n 0 (λ j. coefficient_in a.syms j) v +ℤ a.constant)
     where
       nothing : (z : ℤ) → pos 0 +ℤ z ≡ z
@@ -234,7 +234,7 @@ module _ (n : ℕ) (v w last : ℕ → ℤ) (symbols : (j : ℕ) → j < n → w
   with_trips_number a k rs few h past =
       sum_joined (n + 7) none_yet w (trips_from n 0 a rs) (times (pos 1) (without_loops a) ∷ [])
       ∙ (ap₂ (λ x y. x +ℤ (pos 1 *ℤ y +ℤ pos 0)) (trips_number a rs 0 h ∙ whole) (without_number a k)
-      ∙ simple (products 7 0 (λ i. at a (place.Loop i)) last) (products n 0 (λ j. coefficient_in a.syms j) v) a.constant)
+      ∙ simple (products 7 0 (λ i. number_of_place a (place.Loop i)) last) (products n 0 (λ j. coefficient_in a.syms j) v) a.constant)
     where
       simple : (x y z : ℤ) → x +ℤ (pos 1 *ℤ (y +ℤ z) +ℤ pos 0) ≡ x +ℤ (y +ℤ z)
       simple x y z = omega (arith, ints)
@@ -242,11 +242,11 @@ module _ (n : ℕ) (v w last : ℕ → ℤ) (symbols : (j : ℕ) → j < n → w
       nothing : (z : ℤ) → z ≡ z +ℤ pos 0
       nothing z = omega (arith, ints)
 
-      whole : products (length rs) 0 (λ i. at a (place.Loop i)) last ≡ products 7 0 (λ i. at a (place.Loop i)) last
+      whole : products (length rs) 0 (λ i. number_of_place a (place.Loop i)) last ≡ products 7 0 (λ i. number_of_place a (place.Loop i)) last
       whole =
-          nothing (products (length rs) 0 (λ i. at a (place.Loop i)) last)
-          ∙ (ap (λ z. products (length rs) 0 (λ i. at a (place.Loop i)) last +ℤ z) (sym (no_values (7 - length rs) (0 + length rs) (λ i. at a (place.Loop i)) last (λ i l m. past i (omega (arith, l)))))
-          ∙ (sym (products_parted (length rs) (7 - length rs) 0 (λ i. at a (place.Loop i)) last) ∙ ap (λ m. products m 0 (λ i. at a (place.Loop i)) last) (let e : length rs + (7 - length rs) ≡ 7 = omega (arith, few) in e)))
+          nothing (products (length rs) 0 (λ i. number_of_place a (place.Loop i)) last)
+          ∙ (ap (λ z. products (length rs) 0 (λ i. number_of_place a (place.Loop i)) last +ℤ z) (sym (no_values (7 - length rs) (0 + length rs) (λ i. number_of_place a (place.Loop i)) last (λ i l m. past i (omega (arith, l)))))
+          ∙ (sym (products_parted (length rs) (7 - length rs) 0 (λ i. number_of_place a (place.Loop i)) last) ∙ ap (λ m. products m 0 (λ i. number_of_place a (place.Loop i)) last) (let e : length rs + (7 - length rs) ≡ 7 = omega (arith, few) in e)))
 
 -- a sum of two
 pub plus_number : (n : ℕ) (its v : ℕ → ℤ) (a b c : Affine) (z : ℤ) → plus_multiple n a z b ≡ Some c → number_of_form n its v c ≡ number_of_form n its v a +ℤ z *ℤ number_of_form n its v b

@@ -26,7 +26,7 @@ use Rattle.last_values.specs.normal_forms.LastTexts.{last_trip_text, plain_trip_
 use Rattle.last_values.specs.normal_forms.NormalLoops.{is_constant, is_known, is_undivided, plus_multiple, trip_form, trip_of}
 use Rattle.last_values.specs.normal_forms.Numbers.{number_of_form, sum_of_numbers, trip_number, values_from}
 use Rattle.last_values.specs.normal_forms.Steps.{◌>>=◌}
-use Rattle.last_values.specs.normal_forms.Texts.{quotient, trip_text}
+use Rattle.last_values.specs.normal_forms.Texts.{quotient_text, trip_text}
 use Rattle.last_values.specs.declared.normal_forms.last.LastForms.{LastForms}
 use Rattle.last_values.specs.declared.normal_forms.loops.NormalLoop.{NormalLoop}
 use Rattle.last_values.proofs.NormalForms.Numbers.{combination_has_number}
@@ -122,7 +122,7 @@ module _ (lang : Dialect) (symbols : List (List ℕ)) (values : ℕ → ℤ) (u 
   trip_value k a d p q trips ys each small = by (is_constant a) (trip_known k a d q)
     where
       by : (b : Bool) → IsKnownForm k (cond {A = Trip} b (record { top = number_form (int_div a.constant (pos d)); by = pos 1 }) (record { top = a; by = pos d })).top
-          → value_of lang (quotient (text_of [] symbols trips (cond {A = Trip} b (record { top = number_form (int_div a.constant (pos d)); by = pos 1 }) (record { top = a; by = pos d })).top)
+          → value_of lang (quotient_text (text_of [] symbols trips (cond {A = Trip} b (record { top = number_form (int_div a.constant (pos d)); by = pos 1 }) (record { top = a; by = pos d })).top)
           (cond {A = Trip} b (record { top = number_form (int_div a.constant (pos d)); by = pos 1 }) (record { top = a; by = pos d })).by) u
           ≡ Ok (Int (trip_number k none_yet (At (vs ++ ys)) (cond {A = Trip} b (record { top = number_form (int_div a.constant (pos d)); by = pos 1 }) (record { top = a; by = pos d }))))
       by true m = quotient_value lang (text_of [] symbols trips (number_form (int_div a.constant (pos d)))) u (number_of_form k none_yet (At (vs ++ ys)) (number_form (int_div a.constant (pos d)))) 1 (omega arith)

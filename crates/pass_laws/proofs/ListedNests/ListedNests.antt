@@ -14,9 +14,9 @@ use Rattle.last_values.specs.normal_forms.Steps.{◌>>=◌}
 use Rattle.last_values.specs.normal_forms.Texts.{at_least_one}
 use Rattle.last_values.specs.declared.behind.NestedLoop.{NestedLoop}
 use Rattle.last_values.specs.declared.normal_forms.loops.NormalLoop.{NormalLoop}
-use Rattle.normal_loops.specs.Bodies.{normal_branches, normal_part, normal_parts, normal_turns, placed}
+use Rattle.normal_loops.specs.Bodies.{normal_branches, normal_part, normal_parts, normal_turns, placed_loop}
 use Rattle.normal_loops.specs.Counting.{counting}
-use Rattle.normal_loops.specs.Listed.{IsListedFrom, listed_branches, listed_part, listed_parts, with_last_value}
+use Rattle.normal_loops.specs.Listed.{HasNormalLoops, listed_branches, listed_part, listed_parts, with_last_value}
 use Rattle.normal_loops.specs.Loops.{nested_loops, with_loop}
 use Rattle.normal_loops.specs.Normal.{are_normal, are_normal_branches, is_normal}
 use Rattle.normal_loops.specs.Normalised.{normalised, only_one, with_body, with_loops}
@@ -71,7 +71,7 @@ module _ (n : Nest) where
     listed_by b c d =
         cond b (p ∷ []) (cond c (p ∷ end ∷ []) (cond d (first ∷ p ∷ []) (first ∷ p ∷ test ∷ [])))
 
-    made_is : placed n all round r p
+    made_is : placed_loop n all round r p
         ≡ made_by (stands_behind (length n.symbols) all n.body r.variable) (is_positive r.trip) (is_known r.trip)
     unfolding parts_before parts_behind
     made_is = refl
@@ -82,7 +82,7 @@ module _ (n : Nest) where
     by_cases false false true = refl
     by_cases false false false = refl
 
-    placed_is : with_last_value n round r p ≡ placed n all round r p
+    placed_is : with_last_value n round r p ≡ placed_loop n all round r p
     placed_is =
         by_cases (stands_behind (length n.symbols) all n.body r.variable) (is_positive r.trip) (is_known r.trip) ∙ sym made_is
 
@@ -102,7 +102,7 @@ module _ (n : Nest) where
   listed_turns round l ps o = o >>= (λ r. listed_parts n (round ++ r ∷ []) ps >>= then_placed round l r)
 
   placed_by : (round : List NormalLoop) (l : Loop) (r : NormalLoop) (qs : List Part) (b : Bool)
-      → (chosen b qs >>= then_placed round l r) ≡ chosen b (placed n all round r (turned round l r qs))
+      → (chosen b qs >>= then_placed round l r) ≡ chosen b (placed_loop n all round r (turned round l r qs))
   placed_by round l r qs true = ap Some (placed_is round r (turned round l r qs))
   placed_by round l r qs false = refl
 
@@ -160,7 +160,7 @@ module _ (n m : Nest) where
   more = values_behind n.symbols n.line (all n) n.body
 
   listed_with : is_normal n.symbols [] n.body ≡ true → (ps : List Part) → normal_part n (all n) [] n.body ≡ ps
-      → option_map (with_body n more) (only_one ps) ≡ Some m → IsListedFrom n m
+      → option_map (with_body n more) (only_one ps) ≡ Some m → HasNormalLoops n m
   listed_with t [] e h = let no : ⊥ = cc in absurd no
   listed_with t (p ∷ []) e h =
       let same : with_body n more p ≡ m = cc in
@@ -172,11 +172,11 @@ module _ (n m : Nest) where
       }
   listed_with t (p ∷ q ∷ ps) e h = let no : ⊥ = cc in absurd no
 
-  by_loops : is_normal n.symbols [] n.body ≡ true → with_loops n (all n) ≡ Some m → IsListedFrom n m
+  by_loops : is_normal n.symbols [] n.body ≡ true → with_loops n (all n) ≡ Some m → HasNormalLoops n m
   unfolding with_loops
   by_loops t h = listed_with t (normal_part n (all n) [] n.body) refl h
 
-  by_forms : (b : Bool) → is_normal n.symbols [] n.body ≡ b → cond b (with_loops n (all n)) None ≡ Some m → IsListedFrom n m
+  by_forms : (b : Bool) → is_normal n.symbols [] n.body ≡ b → cond b (with_loops n (all n)) None ≡ Some m → HasNormalLoops n m
   by_forms true t h = by_loops t h
   by_forms false t h = absurd (nothing_is m h)
 

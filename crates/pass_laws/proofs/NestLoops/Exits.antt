@@ -8,7 +8,7 @@ use Rattle.meaning.specs.Blocks.{Surroundings, within_loop, before_labels, label
 use Rattle.nest_reasons.specs.declared.flaws.Flaw.TheVariants.{Exit}
 use Rattle.nest_reasons.specs.declared.marks.Mark.{Mark}
 use Rattle.nest_reasons.specs.declared.marks.Mark.TheVariants.{Halts, Jumps, Arrives, Turns}
-use Rattle.nest_reasons.specs.Flaws.{leaves}
+use Rattle.nest_reasons.specs.Flaws.{leaves_loop}
 use Rattle.nest_reasons.specs.Loops.{has_flaw}
 use Rattle.nest_reasons.specs.Walks.{any_loop, any_in_arms, any_in_block}
 use Rattle.nest_reasons.specs.Marks.{own_marks, marks_in_arms, marks_in_block}
@@ -29,11 +29,11 @@ halts (Arrives n) = false
 halts (Turns b) = false
 
 -- what halts leaves
-no_halts : (all ms : List Mark) → list_any (leaves all) ms ≡ false → list_any halts ms ≡ false
+no_halts : (all ms : List Mark) → list_any (leaves_loop all) ms ≡ false → list_any halts ms ≡ false
 no_halts all [] h = refl
-no_halts all (m ∷ ms) h = let two = neither (leaves all m) (list_any (leaves all) ms) h in by m two.0 (no_halts all ms two.1)
+no_halts all (m ∷ ms) h = let two = neither (leaves_loop all m) (list_any (leaves_loop all) ms) h in by m two.0 (no_halts all ms two.1)
   where
-    by : (m : Mark) → leaves all m ≡ false → list_any halts ms ≡ false → list_any halts (m ∷ ms) ≡ false
+    by : (m : Mark) → leaves_loop all m ≡ false → list_any halts ms ≡ false → list_any halts (m ∷ ms) ≡ false
     by Halts e f = let no : ⊥ = cc in absurd no
     by (Jumps n) e f = f
     by (Arrives n) e f = f
@@ -54,7 +54,7 @@ module _ (ds : List Declaration) (symbols : List (List ℕ)) where
         both (arms_may_stand arms) (block_may_stand other) (arms_stand arms around w es.0 fs.0 h.2) (block_stands other around true w es.1 fs.1 h.3)
     stands (Do line x first last step body) around b w e f h =
         let marks = marks_in_block false body in
-        let es = neither (list_any (leaves marks) marks) (any_in_block (has_flaw Exit symbols) (around ++ x ∷ []) body) e in
+        let es = neither (list_any (leaves_loop marks) marks) (any_in_block (has_flaw Exit symbols) (around ++ x ∷ []) body) e in
         block_stands body (around ++ x ∷ []) false (within_loop x w) es.1 (no_halts marks marks es.0) h.5
     stands (Label n) around b w e f h = refl
     stands (GoTo line n) around b w e f h = refl

@@ -11,13 +11,14 @@ use Rattle.tree.specs.declared.ops.Fault.TheVariants.{Overflow, ZeroStep}
 use Rattle.tree.specs.declared.ops.Value.{Value}
 use Rattle.tree.specs.declared.ops.Value.TheVariants.{Int, Truth}
 use Rattle.meaning.specs.Dialect.{Dialect, fortran77}
+use Rattle.tree.specs.declared.width.Width.TheVariants.{Plain}
 use Rattle.meaning.specs.Run.{Act, then, either, repeated, evaluates, counts_step, sets_variable, turn, does, chooses, does_all}
 use Rattle.meaning.specs.Store.{Store}
 use Rattle.meaning.specs.Value.{value_of, number_of, truth_of, increment_of, trip_count}
 use Rattle.linear_forms.specs.Linear.{constant_of, as_constant, known, no_store}
 use Rattle.linear_forms.proofs.Storeless.{storeless}
 use Rattle.nest_reasons.specs.declared.flaws.Flaw.TheVariants.{Step}
-use Rattle.nest_reasons.specs.Increments.{is_suitable, suitable, suitable_or_none, step_of}
+use Rattle.nest_reasons.specs.Increments.{is_suitable_increment, suitable, suitable_or_none, step_of}
 use Rattle.nest_reasons.specs.Loops.{has_flaw}
 use Rattle.nest_reasons.specs.Walks.{any_loop, any_in_arms, any_in_block}
 use Rattle.nest.specs.Blocks.{numeral}
@@ -29,15 +30,15 @@ use Rattle.pass_laws.proofs.NestLoops.Exits.{neither}
 
 -- an increment that is this number
 record IsConstant (e : Expression) (z : ℤ) : Type 0 where
-  value : value_of fortran77 e no_store ≡ Ok (Int z)
+  value : value_of (fortran77 Plain) e no_store ≡ Ok (Int z)
   small : nat_abs z ≤ 2 ^ 31
 
-from_value : (e : Expression) (z : ℤ) (r : Result Value Fault) → value_of fortran77 e no_store ≡ r → as_constant (known r) ≡ Some z → value_of fortran77 e no_store ≡ Ok (Int z)
+from_value : (e : Expression) (z : ℤ) (r : Result Value Fault) → value_of (fortran77 Plain) e no_store ≡ r → as_constant (known r) ≡ Some z → value_of (fortran77 Plain) e no_store ≡ Ok (Int z)
 from_value e z (Ok (Int y)) is h = let same : y ≡ z = cc in is ∙ ap (λ x. Ok (Int x)) same
 from_value e z (Ok (Truth b)) is h = let no : ⊥ = cc in absurd no
 from_value e z (Err f) is h = let no : ⊥ = cc in absurd no
 
-small_size : (z : ℤ) → is_suitable z ≡ true → nat_abs z ≤ 2 ^ 31
+small_size : (z : ℤ) → is_suitable_increment z ≡ true → nat_abs z ≤ 2 ^ 31
 small_size z h = by (not (int_eq z (pos 0))) (nat_le (nat_abs z) (2 ^ 31)) refl h
   where
     by : (a b : Bool) → nat_le (nat_abs z) (2 ^ 31) ≡ b → (a && b) ≡ true → nat_abs z ≤ 2 ^ 31
@@ -48,15 +49,15 @@ small_size z h = by (not (int_eq z (pos 0))) (nat_le (nat_abs z) (2 ^ 31)) refl 
 constant : (e : Expression) (z : ℤ) → step_of e ≡ Some z → IsConstant e z
 constant e z h = by (constant_of e) refl h
   where
-    at : (y : ℤ) (b : Bool) → constant_of e ≡ Some y → is_suitable y ≡ b → cond b (Some y) None ≡ Some z → IsConstant e z
+    at : (y : ℤ) (b : Bool) → constant_of e ≡ Some y → is_suitable_increment y ≡ b → cond b (Some y) None ≡ Some z → IsConstant e z
     at y true is s h =
         let same : y ≡ z = cc in
-        record { value = from_value e z (value_of fortran77 e no_store) refl (is ∙ ap Some same); small = small_size z (sym (ap is_suitable same) ∙ s) }
+        record { value = from_value e z (value_of (fortran77 Plain) e no_store) refl (is ∙ ap Some same); small = small_size z (sym (ap is_suitable_increment same) ∙ s) }
     at y false is s h = let no : ⊥ = cc in absurd no
 
     by : (o : Option ℤ) → constant_of e ≡ o → suitable_or_none o ≡ Some z → IsConstant e z
     by None is h = let no : ⊥ = cc in absurd no
-    by (Some y) is h = at y (is_suitable y) is refl h
+    by (Some y) is h = at y (is_suitable_increment y) is refl h
 
 module _ (lang : Dialect) where
   -- a numeral has its number in each store

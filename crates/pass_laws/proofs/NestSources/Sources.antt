@@ -7,7 +7,7 @@ use Rattle.meaning.specs.Relined.{without_lines, arms_without_lines, block_witho
 use Rattle.nest_reasons.specs.Increments.{step_of}
 use Rattle.nest.specs.Plain.{Part, Run, Turns, Choice, Label as Label', Jump, Parts, parts}
 use Rattle.nest.specs.Blocks.{numeral, statement_of_part, block_of_parts, arms_of_branches}
-use Rattle.find_nests.specs.nest_parts.Numbers.{next, after, after_arms, after_block}
+use Rattle.find_nests.specs.nest_parts.Numbers.{next_loop_number, number_after, after_arms, after_block}
 use Rattle.find_nests.specs.nest_parts.Statements.{source_loop, step_or_zero, parts_of, branches_of, parts_of_block}
 use Rattle.find_nests.specs.Loops.{Numbered}
 use Rattle.pass_laws.specs.nest_sources.Sources.{may_stand, arms_may_stand, block_may_stand, with_numbers, arms_with_numbers, block_with_numbers, PartsAreStatements, NestIsLoop}
@@ -40,9 +40,9 @@ module _ (line : ℕ) where
         }
     one_part k (Do l x a b c body) h =
         record {
-          one = Turns (source_loop (next k) x a b c) (parts (parts_of_block (next k) body));
+          one = Turns (source_loop (next_loop_number k) x a b c) (parts (parts_of_block (next_loop_number k) body));
           is = refl;
-          same = ap (λ d. Do 0 x a b (numeral (step_or_zero (step_of c))) d) (same_block (next k) body h);
+          same = ap (λ d. Do 0 x a b (numeral (step_or_zero (step_of c))) d) (same_block (next_loop_number k) body h);
         }
     one_part k (Label n) h = record { one = Label' n; is = refl; same = refl }
     one_part k (GoTo l n) h = record { one = Jump n; is = refl; same = refl }
@@ -64,11 +64,11 @@ module _ (line : ℕ) where
     same_block k (statement c cs) h =
         let two = both (may_stand c) (block_may_stand cs) h in
         let first = one_part k c two.0 in
-        ap (λ ps. block_without_lines (block_of_parts line (parts (ps ++ parts_of_block (after k c) cs)))) first.is
-        ∙ ap₂ (λ d ds. statement d ds) first.same (same_block (after k c) cs two.1)
+        ap (λ ps. block_without_lines (block_of_parts line (parts (ps ++ parts_of_block (number_after k c) cs)))) first.is
+        ∙ ap₂ (λ d ds. statement d ds) first.same (same_block (number_after k c) cs two.1)
 
 pub parts_are_statements : PartsAreStatements
 parts_are_statements line k b h = same_block line k b h
 
 pub nest_is_loop : NestIsLoop
-nest_is_loop line l h = ap (λ d. Do 0 l.loop.variable l.loop.first l.loop.last (numeral (step_or_zero (step_of l.loop.step))) d) (same_block line (next l.before) l.loop.body h)
+nest_is_loop line l h = ap (λ d. Do 0 l.loop.variable l.loop.first l.loop.last (numeral (step_or_zero (step_of l.loop.step))) d) (same_block line (next_loop_number l.before) l.loop.body h)

@@ -11,7 +11,7 @@ use Rattle.tree.specs.Plain.{Subscripts, no_subscripts, subscript}
 use Rattle.tree.specs.declared.ops.Op.{Op}
 use Rattle.tree.specs.declared.ops.Op.TheVariants.{Mul, Neg, Add, Sub}
 use Rattle.rewrite.specs.Making.{Making, made, made_expressions, made_subscript, made_subscripts}
-use Rattle.rewrite.specs.Substituting.{is_scalar}
+use Rattle.rewrite.specs.Substituting.{is_variable_alone}
 use Rattle.linear_forms.specs.Expressed.{term, plus_term, minus_term, with_term, with_terms, with_constant, expressed}
 use Rattle.linear_forms.specs.Expressed.{variables}
 use Rattle.linear_forms.specs.Linear.{Form}
@@ -21,7 +21,7 @@ use Rattle.nest_rewrite.specs.Statements.{rewritten_statement}
 use Rattle.nest_order.specs.runs.Touched.{IsPlain, EachIsPlain, ArePlain, IsPlainGuard, IsPlainSubscript}
 use Rattle.nest.specs.Plain.{Guarded}
 use Rattle.last_values.specs.normal_forms.NormalLoops.{counters_of}
-use Rattle.last_values.specs.normal_forms.Texts.{counter_first, value_text}
+use Rattle.last_values.specs.normal_forms.Texts.{counter_first, variable_text}
 use Rattle.last_values.specs.declared.normal_forms.loops.NormalLoop.{NormalLoop}
 use Rattle.subscripts.specs.declared.affine.Affine.{Affine}
 
@@ -94,8 +94,8 @@ plain_variables : (xs : List (List ℕ)) → Each IsPlain (variables xs)
 plain_variables [] = tt
 plain_variables (x ∷ xs) = (tt, plain_variables xs)
 
-plain_value : (symbols : List (List ℕ)) (outer : List NormalLoop) (r : NormalLoop) → IsPlain (value_text symbols outer r)
-unfolding value_text
+plain_value : (symbols : List (List ℕ)) (outer : List NormalLoop) (r : NormalLoop) → IsPlain (variable_text symbols outer r)
+unfolding variable_text
 plain_value symbols outer r =
     text_is IsPlain (λ z. tt) (λ o e h. h) (λ o e f h k. (h, k)) (r.counter ∷ counters_of outer) symbols (counter_first r.step r.below)
     (plain_variables (r.counter ∷ counters_of outer)) (plain_variables symbols)
@@ -140,9 +140,9 @@ pub record IsPlainStatement (g : Guarded) : Type 0 where
 
 module _ (symbols : List (List ℕ)) where
   value_keeps : (outer : List NormalLoop) (r : NormalLoop) (first e : Expression) → IsPlain e → IsPlain ((with_value symbols outer r).expression first e)
-  value_keeps outer r first e h = by (is_scalar r.variable e)
+  value_keeps outer r first e h = by (is_variable_alone r.variable e)
     where
-      by : (b : Bool) → IsPlain (cond b (value_text symbols outer r) e)
+      by : (b : Bool) → IsPlain (cond b (variable_text symbols outer r) e)
       by true = plain_value symbols outer r
       by false = h
 

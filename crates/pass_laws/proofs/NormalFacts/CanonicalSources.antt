@@ -5,9 +5,10 @@ use Rattle.components.specs.Lists.{Each}
 use Rattle.components.proofs.ListLaws.{Each-append}
 use Rattle.find_nests.proofs.FoundLaws.{found_nest_is_loop}
 use Rattle.find_nests.specs.Found.{InNest, found_in}
-use Rattle.find_nests.specs.Loops.{SourceLoop, Placed, loops_in, loops_in_arms, loops_in_block}
+use Rattle.find_nests.specs.Loops.{SourceLoop, SurroundedLoop, loops_in, loops_in_arms, loops_in_block}
 use Rattle.meaning.specs.Blocks.{Surroundings, outermost, within_loop, before_labels, labels_of}
 use Rattle.meaning.specs.Dialect.{fortran77}
+use Rattle.tree.specs.declared.width.Width.{Width}
 use Rattle.meaning.specs.Profile77.{IsAssignment, IsStatement, AreArms, IsBlock, IsProgram77}
 use Rattle.meaning.specs.Typed77.{HasKind, AreArguments, AreSubscripts, IsSubscript, IsWhole}
 use Rattle.meaning.specs.Typed.{declared}
@@ -19,7 +20,7 @@ use Rattle.tree.specs.Plain.{Label, GoTo, Stop, Read, Print, Allocate, Deallocat
 use Rattle.tree.specs.Plain.{no_statements, statement, Declaration, Program}
 use Rattle.tree.specs.declared.ops.Kind.{Kind}
 use Rattle.tree.specs.declared.ops.Kind.TheVariants.{Integer}
-use Rattle.find_nests.specs.nest_parts.Numbers.{next, after, after_arms, after_block}
+use Rattle.find_nests.specs.nest_parts.Numbers.{next_loop_number, number_after, after_arms, after_block}
 use Rattle.find_nests.specs.nest_parts.Statements.{parts_of, branches_of, parts_of_block}
 use Rattle.nest_order.specs.runs.Touched.{IsPlain, EachIsPlain, ArePlain, IsPlainSubscript}
 use Rattle.nest.specs.Plain.{Loop, Nest, Part, parts}
@@ -80,7 +81,7 @@ module _ (ds : List Declaration) where
     parts_plain k (Assignment l mark left right) w h = (assigned l left right w h.2, tt)
     parts_plain k (Where l mark mask left right) w h = absurd h
     parts_plain k (If l arms other) w h = ((branches_plain k arms w h.2, block_plain (after_arms k arms) other w h.3), tt)
-    parts_plain k (Do l x a b c body) w h = ((tt, block_plain (next k) body (within_loop x w) h.5), tt)
+    parts_plain k (Do l x a b c body) w h = ((tt, block_plain (next_loop_number k) body (within_loop x w) h.5), tt)
     parts_plain k (Label n) w h = (tt, tt)
     parts_plain k (GoTo l n) w h = (tt, tt)
     parts_plain k (Stop l) w h = tt
@@ -96,12 +97,12 @@ module _ (ds : List Declaration) where
     block_plain : (k : ℕ) (b : Block) (w : Surroundings) → IsBlock ds b w → ArePlainParts (parts_of_block k b)
     block_plain k no_statements w h = tt
     block_plain k (statement c cs) w h =
-        followed (parts_of k c) (parts_of_block (after k c) cs) (parts_plain k c (before_labels (labels_of cs) w) h.0) (block_plain (after k c) cs w h.1)
+        followed (parts_of k c) (parts_of_block (number_after k c) cs) (parts_plain k c (before_labels (labels_of cs) w) h.0) (block_plain (number_after k c) cs w h.1)
 
   -- ---- the loops of a program
 
   -- whichever number it gets
-  abbrev HasPlainBody : Placed → Type 0
+  abbrev HasPlainBody : SurroundedLoop → Type 0
   HasPlainBody q = (k : ℕ) → ArePlainParts (parts_of_block k q.loop.loop.body)
 
   mutual
@@ -113,7 +114,7 @@ module _ (ds : List Declaration) where
         (arms_plain k around arms w h.2) (loops_plain_in (after_arms k arms) around other w h.3)
     loops_plain k around (Do l x a b c body) w h = (
       (λ m. block_plain m body (within_loop x w) h.5),
-      loops_plain_in (next k) (around ++ record { line = l; variable = x; first = a; last = b; step = c; body = body } ∷ []) body (within_loop x w) h.5,
+      loops_plain_in (next_loop_number k) (around ++ record { line = l; variable = x; first = a; last = b; step = c; body = body } ∷ []) body (within_loop x w) h.5,
     )
     loops_plain k around (Label n) w h = tt
     loops_plain k around (GoTo l n) w h = tt
@@ -132,11 +133,11 @@ module _ (ds : List Declaration) where
     loops_plain_in : (k : ℕ) (around : List SourceLoop) (b : Block) (w : Surroundings) → IsBlock ds b w → Each HasPlainBody (loops_in_block k around b)
     loops_plain_in k around no_statements w h = tt
     loops_plain_in k around (statement c cs) w h =
-        Each-append HasPlainBody (loops_in k around c) (loops_in_block (after k c) around cs)
-        (loops_plain k around c (before_labels (labels_of cs) w) h.0) (loops_plain_in (after k c) around cs w h.1)
+        Each-append HasPlainBody (loops_in k around c) (loops_in_block (number_after k c) around cs)
+        (loops_plain k around c (before_labels (labels_of cs) w) h.0) (loops_plain_in (number_after k c) around cs w h.1)
 
-pub found_is_plain : (p : Program) (n : Nest) → IsProgram77 fortran77 p → Contains (found_in p) (InNest n) → EachIn IsPlainStatement any_loop n.body
-found_is_plain p n is h =
+pub found_is_plain : (width : Width) (p : Program) (n : Nest) → IsProgram77 (fortran77 width) p → Contains (found_in p) (InNest n) → EachIn IsPlainStatement any_loop n.body
+found_is_plain width p n is h =
     let f = found_nest_is_loop p n h in
     let l = Each-Contains (HasPlainBody p.declarations) (loops_in_block 0 [] p.body) f.loop (loops_plain_in p.declarations 0 [] p.body outermost is.statements) f.stands in
-    subst (λ (q : Nest). EachIn IsPlainStatement any_loop q.body) (sym f.is) (tt, l (next f.loop.loop.before))
+    subst (λ (q : Nest). EachIn IsPlainStatement any_loop q.body) (sym f.is) (tt, l (next_loop_number f.loop.loop.before))

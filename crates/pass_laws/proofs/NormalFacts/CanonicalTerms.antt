@@ -18,6 +18,7 @@ use Rattle.tree.specs.declared.ops.Fault.TheVariants.{Allocated}
 use Rattle.tree.specs.declared.ops.Op.{Op}
 use Rattle.tree.specs.declared.ops.Op.TheVariants.{Mul, Neg, Add, Sub}
 use Rattle.meaning.specs.Dialect.{fortran77}
+use Rattle.tree.specs.declared.width.Width.TheVariants.{Plain}
 use Rattle.meaning.specs.Reads.{names_in}
 use Rattle.meaning.specs.Value.{value_of}
 use Rattle.linear_forms.specs.Expressed.{term, with_term, with_terms, with_constant, expressed, variable, variables}
@@ -64,19 +65,19 @@ module _ (y : List ℕ) (loops : ℕ) (names : List (List ℕ)) where
   -- an expression that isn't constant
   record Has (e : Expression) (z : ℤ) : Type 0 where
     stuck : Fault
-    no_value : value_of fortran77 e no_store ≡ Err stuck
+    no_value : value_of (fortran77 Plain) e no_store ≡ Err stuck
     gives : Gives e z
 
-  no_constant : (e : Expression) (f : Fault) → value_of fortran77 e no_store ≡ Err f → constant_of e ≡ None
+  no_constant : (e : Expression) (f : Fault) → value_of (fortran77 Plain) e no_store ≡ Err f → constant_of e ≡ None
   no_constant e f h = ap (λ r. as_constant (known r)) h
 
-  no_pair : (o : Op) (e t : Expression) (f : Fault) → value_of fortran77 e no_store ≡ Err f → value_of fortran77 (Binary o e t) no_store ≡ Err f
-  no_pair o e t f h = ap (λ r. do x ← r; y ← value_of fortran77 t no_store; apply o x y) h
+  no_pair : (o : Op) (e t : Expression) (f : Fault) → value_of (fortran77 Plain) e no_store ≡ Err f → value_of (fortran77 Plain) (Binary o e t) no_store ≡ Err f
+  no_pair o e t f h = ap (λ r. do x ← r; y ← value_of (fortran77 Plain) t no_store; apply o x y) h
 
   abbrev pair : Op → Expression → Expression → Option Form
   pair o e t = form_of_pair o (constant_of e) (constant_of t) (part_form e) (part_form t)
 
-  of_two : (o : Op) (e t : Expression) (c : Fault) (f : Form) → value_of fortran77 (Binary o e t) no_store ≡ Err c → part_form (Binary o e t) ≡ Some f
+  of_two : (o : Op) (e t : Expression) (c : Fault) (f : Form) → value_of (fortran77 Plain) (Binary o e t) no_store ≡ Err c → part_form (Binary o e t) ≡ Some f
       → Two o (constant_of e) (constant_of t) (part_form e) (part_form t) f
   of_two o e t c f n h =
       two o (constant_of e) (constant_of t) (part_form e) (part_form t) f
@@ -114,7 +115,7 @@ module _ (y : List ℕ) (loops : ℕ) (names : List (List ℕ)) where
   negative_has : (t : Expression) (b : ℤ) → Has t b → Has (Unary Neg t) (negsuc 0 *ℤ b)
   negative_has t b h = record { stuck = h.stuck; no_value = none; gives = λ f g. given f g }
     where
-      none : value_of fortran77 (Unary Neg t) no_store ≡ Err h.stuck
+      none : value_of (fortran77 Plain) (Unary Neg t) no_store ≡ Err h.stuck
       none = ap (λ r. do x ← r; apply Neg x x) h.no_value
 
       turned : (o : Option Form) (f : Form) → part_form t ≡ o → form_of_sign Neg o ≡ Some f → at f ≡ negsuc 0 *ℤ b

@@ -11,6 +11,7 @@ use Rattle.emission.proofs.EmissionForms.WrittenTables.{loop_of_nest, loops_once
 use Rattle.emission.specs.emission_pieces.Nests.{standing_at}
 use Rattle.find_nests.specs.Found.{InNest, found_in}
 use Rattle.meaning.specs.Dialect.{fortran77}
+use Rattle.tree.specs.declared.width.Width.{Width}
 use Rattle.meaning.specs.Holding.{HasBounds}
 use Rattle.meaning.specs.Profile77.{IsProgram77}
 use Rattle.meaning.specs.Reads.{names_in, names_in_subscripts}
@@ -26,10 +27,10 @@ use Rattle.nest_order.specs.facts.Facts.{places_of, counted, HasTrip, HasFacts}
 use Rattle.dependence_graph.specs.nest_graph.Instances.{turns_at}
 use Rattle.nest_order.proofs.orders.Lists.{In-append}
 use Rattle.nest_order.specs.orders.Lists.{In, Distinct}
-use Rattle.nest_order.specs.orders.Shapes.{loops, statements}
+use Rattle.nest_order.specs.orders.Shapes.{loops_of_shape, statements}
 use Rattle.nest_order.specs.runs.Guarded.{names_of}
 use Rattle.nest_order.specs.runs.Guarded as guarded
-use Rattle.nest_order.specs.runs.Nests.{LoopStands, Nest as Nest'}
+use Rattle.nest_order.specs.runs.Nests.{LoopStands, RunNest as Nest'}
 use Rattle.nest_order.specs.runs.Stores.{Setting, IsNestText}
 use Rattle.nest_order.specs.runs.Touched.{IsPlainAssignment, IsPlainGuard, nth_of}
 use Rattle.nest_order.proofs.shapes.Shapes.{shape_is_nest}
@@ -56,6 +57,8 @@ use Rattle.pass_laws.proofs.NormalFacts.Tables.{round_once, StandsAt, each_asked
 use Rattle.pass_laws.proofs.NormalFacts.Texts.{IsStatementOver, GuardIsOver, named, named_in, plain, plain_in, trip_over}
 use Rattle.pass_laws.proofs.NormalFacts.Trips.{IsTripOf, trip_is}
 use Rattle.pass_laws.specs.normal_facts.Laws.{IsCounter, IsSettingOf}
+use Rattle.tree.specs.Widths.{bits_of}
+use Rattle.meaning.proofs.Widths.{narrowest}
 
 -- ---- lists
 
@@ -146,7 +149,7 @@ module _ (all : List Loop) (once : Distinct (numbers_of all)) where
   names_at [] f = refl
   names_at (x ∷ xs) f = ap (λ y. y ∷ variables_of_loops xs) (f x (inl refl)) ∙ ap (λ ys. counter_name x.number ∷ ys) (names_at xs (λ y i. f y (inr i)))
 
-module _ (p : Program) (n m : Nest) (w : Setting) (is : IsProgram77 fortran77 p) (found : Contains (found_in p) (InNest n)) (normal : normalised n ≡ Some m) (plain_body : IsPlain m.body) (set : IsSettingOf p m w) where
+module _ (width : Width) (p : Program) (n m : Nest) (w : Setting) (is : IsProgram77 (fortran77 width) p) (found : Contains (found_in p) (InNest n)) (normal : normalised n ≡ Some m) (plain_body : IsPlain m.body) (set : IsSettingOf p m w) where
   abbrev es : List Declaration
   es = w.program.declarations
 
@@ -157,12 +160,12 @@ module _ (p : Program) (n m : Nest) (w : Setting) (is : IsProgram77 fortran77 p)
   made = made_of n m normal
 
   body : IsFoundBody es n
-  body = found_body fortran77 p es is set.declarations n found
+  body = found_body (fortran77 width) p es is set.declarations n found
 
   once : Distinct (numbers_of all)
-  once = loops_once m (normal_nest_is_ready fortran77 p n m is found normal)
+  once = loops_once m (normal_nest_is_ready (fortran77 width) p n m is found normal)
 
-  loop_numbers : loops (shape_of 0 m.body) ≡ numbers_of all
+  loop_numbers : loops_of_shape (shape_of 0 m.body) ≡ numbers_of all
   loop_numbers = loops_are 0 m.body plain_body
 
   same_symbols : m.symbols ≡ n.symbols
@@ -182,7 +185,7 @@ module _ (p : Program) (n m : Nest) (w : Setting) (is : IsProgram77 fortran77 p)
       let r = each_asked (IsMadeLoop es n.symbols) all [] m.body plain_body (made_loops es n body m made) l i in
       record { loop = l; among = i; table = loop_there all l once i; small = r.asked.number; name = r.asked.variable }
 
-  loop_is : (l : ℕ) → In l (loops (shape_of 0 m.body)) → IsLoop l
+  loop_is : (l : ℕ) → In l (loops_of_shape (shape_of 0 m.body)) → IsLoop l
   loop_is l i =
       let r = numbered all l (subst (In l) loop_numbers i) in
       subst IsLoop (sym r.number) (a_loop r.loop r.among)
@@ -228,11 +231,11 @@ module _ (p : Program) (n m : Nest) (w : Setting) (is : IsProgram77 fortran77 p)
       let h = each_in (IsMade es n.symbols) (nest_statements m) (made_statements es n body m made) r.standing r.among in
       record { standing = r.standing; there = r.is; made = h; kinds = h.kinds (typed r.standing.loops (inside s r.standing r.is)) }
 
-  abbrev statement_at : ℕ → guarded.Guarded
+  abbrev statement_at : ℕ → guarded.GuardedAssignment
   statement_at s = guarded_of (nth_of (nest_statements m) s)
 
   -- what holds of the statement holds of what stands in the table
-  at_statement : (P : guarded.Guarded → Type 0) (s : ℕ) (r : IsStatement s)
+  at_statement : (P : guarded.GuardedAssignment → Type 0) (s : ℕ) (r : IsStatement s)
       → P (record { guard = r.standing.statement.guard; left = r.standing.statement.left; right = r.standing.statement.right }) → P (statement_at s)
   at_statement P s r h = subst P (sym (ap guarded_of r.there)) h
 
@@ -284,7 +287,7 @@ module _ (p : Program) (n m : Nest) (w : Setting) (is : IsProgram77 fortran77 p)
 
   -- ---- the text of the nest
 
-  own : (s l : ℕ) → In s (statements (shape_of 0 m.body)) → In l (loops (shape_of 0 m.body)) → In (variable_at l) (names_of (statement_at s)) → In l (loops_round (nth_of (nest_statements m) s))
+  own : (s l : ℕ) → In s (statements (shape_of 0 m.body)) → In l (loops_of_shape (shape_of 0 m.body)) → In (variable_at l) (names_of (statement_at s)) → In l (loops_round (nth_of (nest_statements m) s))
   own s l i j h =
       let r = statement_is s i in
       let q = loop_is l j in
@@ -372,10 +375,10 @@ module _ (p : Program) (n m : Nest) (w : Setting) (is : IsProgram77 fortran77 p)
 
   -- ---- all facts
 
-  pub facts : HasFacts 31 run w
+  pub facts : HasFacts (bits_of width) run w
   facts = record {
     text = text;
-    wide = omega arith;
+    wide = narrowest width;
     variables = λ l i. scalar_bounds (declared es (variable_at l)) (w.bounds (variable_at l)) (counter l (loop_is l i)) (set.bounds (variable_at l));
     integer = λ l i. counter_kind (declared es (variable_at l)) (counter l (loop_is l i));
     symbols = λ x i. let c = (symbol x i).0 in symbol_bounds (declared es x) c.declaration (w.bounds x) c.found c.scalar (set.bounds x);

@@ -15,6 +15,7 @@ use Rattle.emission.specs.emission_forms.Written.{IsTripText, HaveTripTexts, Has
 use Rattle.emission.specs.emission_pieces.Nests.{loops_at}
 use Rattle.find_nests.specs.Found.{InNest, found_in}
 use Rattle.meaning.specs.Dialect.{fortran77}
+use Rattle.tree.specs.declared.width.Width.{Width}
 use Rattle.meaning.specs.Names.{is_among}
 use Rattle.meaning.specs.Profile77.{IsProgram77}
 use Rattle.meaning.specs.Typed.{declared}
@@ -27,7 +28,7 @@ use Rattle.nest_order.proofs.orders.Lists.{In-append}
 use Rattle.nest_order.proofs.orders.Once.{Pairwise-left, Pairwise-right}
 use Rattle.nest_order.specs.orders.Lists.{In, Distinct}
 use Rattle.nest_order.specs.orders.Lists as order_lists
-use Rattle.nest_order.specs.orders.Shapes.{loops}
+use Rattle.nest_order.specs.orders.Shapes.{loops_of_shape}
 use Rattle.nest_order.specs.runs.Stores.{Setting}
 use Rattle.nest_order.specs.shapes.Shapes.{IsPlain, ArePlain, shape_of, numbers_of, loop_numbered, variable_of_loop}
 use Rattle.nest.specs.Bodies.{Standing, loops_of, loops_in_parts, nest_loops, nest_statements, statements_in}
@@ -92,7 +93,7 @@ once_last (l ∷ ls) xs ys d = (without (λ k. ¬ (l.number ≡ k)) ls d.0, once
 
 -- ---- the loops round a statement
 
-module _ (Asked : List Loop → Loop → Type 0) where
+module _ (width : Width) (Asked : List Loop → Loop → Type 0) where
   -- each of these loops is as is asked under those before it
   abbrev Follow : List Loop → List Loop → Type 0
   Follow before [] = Unit {0}
@@ -148,7 +149,7 @@ small_numbers (l ∷ ls) h k (inr i) = small_numbers ls h.1 k i
 
 -- ---- trips
 
-module _ (es : List Declaration) (n : Nest) (body : IsFoundBody es n) where
+module _ (width : Width) (es : List Declaration) (n : Nest) (body : IsFoundBody es n) where
   trip_text_holds : (before : List Loop) (l : Loop) → IsMadeLoop es n.symbols before l → lists.Each BearsNumber before → AreOnce before
       → IsSomeAnd l.trip (IsTripText (variables_of_loops before) n.symbols l.last)
   trip_text_holds before l a named once =
@@ -168,7 +169,7 @@ module _ (es : List Declaration) (n : Nest) (body : IsFoundBody es n) where
       carried cs ds e f t o a b c h =
           subst (λ o. IsSomeAnd o (IsTripText ds n.symbols f)) c (subst (λ xs. IsTripText xs n.symbols f t) a (subst (λ g. IsTripText cs n.symbols g t) b h))
 
-  texts : (before ls : List Loop) → Follow (IsMadeLoop es n.symbols) before ls → lists.Each BearsNumber before → AreOnce (before ++ ls)
+  texts : (before ls : List Loop) → Follow width (IsMadeLoop es n.symbols) before ls → lists.Each BearsNumber before → AreOnce (before ++ ls)
       → HaveTripTexts n.symbols (variables_of_loops before) ls
   texts before [] h named once = tt
   texts before (l ∷ ls) h named once = (
@@ -185,7 +186,7 @@ declared_integer : (o : Option Declaration) → IsSomeAnd o IsCounter → (d : D
 declared_integer None h = absurd h
 declared_integer (Some d) h = (d, refl, h.kind)
 
-module _ (p : Program) (n m : Nest) (w : Setting) (is : IsProgram77 fortran77 p) (found : Contains (found_in p) (InNest n)) (normal : normalised n ≡ Some m)
+module _ (width : Width) (p : Program) (n m : Nest) (w : Setting) (is : IsProgram77 (fortran77 width) p) (found : Contains (found_in p) (InNest n)) (normal : normalised n ≡ Some m)
     (plain : IsPlain m.body) (set : IsSettingOf p m w) where
   abbrev es : List Declaration
   es = w.program.declarations
@@ -194,19 +195,19 @@ module _ (p : Program) (n m : Nest) (w : Setting) (is : IsProgram77 fortran77 p)
   made = made_of n m normal
 
   body : IsFoundBody es n
-  body = found_body fortran77 p es is set.declarations n found
+  body = found_body (fortran77 width) p es is set.declarations n found
 
   once : AreOnce (nest_loops m)
-  once = loops_once m (normal_nest_is_ready fortran77 p n m is found normal)
+  once = loops_once m (normal_nest_is_ready (fortran77 width) p n m is found normal)
 
   trips : (s : ℕ) → s < length (nest_statements m) → HaveTripTexts n.symbols [] (loops_at m s)
   trips s h =
-      let r : AreRound (IsMadeLoop es n.symbols) (loops_at m s) =
-      round_of (IsMadeLoop es n.symbols) [] m.body plain (made_loops es n body m made) tt once (get_or (nest_statements m) s no_statement)
+      let r : AreRound width (IsMadeLoop es n.symbols) (loops_at m s) =
+      round_of width (IsMadeLoop es n.symbols) [] m.body plain (made_loops es n body m made) tt once (get_or (nest_statements m) s no_statement)
       (element (nest_statements m) s no_statement h) in
-      texts es n body [] (loops_at m s) r.follow tt r.once
+      texts width es n body [] (loops_at m s) r.follow tt r.once
 
-  variable : (l : ℕ) → In l (loops (shape_of 0 m.body))
+  variable : (l : ℕ) → In l (loops_of_shape (shape_of 0 m.body))
       → (d : Declaration) × (declared es (variable_of_loop (loop_numbered (nest_loops m) l)) ≡ Some d) × (d.kind ≡ Integer)
   variable l i =
       let r = numbered (nest_loops m) l (subst (In l) (loops_are 0 m.body plain) i) in
@@ -222,8 +223,8 @@ module _ (p : Program) (n m : Nest) (w : Setting) (is : IsProgram77 fortran77 p)
     variables = variable;
   }
 
-pub normal_nest_has_form_facts : NormalNestHasFormFacts
-normal_nest_has_form_facts p n m w is found normal plain set = form_facts p n m w is found normal plain set
+pub normal_nest_has_form_facts : (width : Width) → NormalNestHasFormFacts width
+normal_nest_has_form_facts width p n m w is found normal plain set = form_facts width p n m w is found normal plain set
 
-pub normal_nest_has_facts : NormalNestHasFacts
-normal_nest_has_facts p n m w is found normal plain set = facts p n m w is found normal plain set
+pub normal_nest_has_facts : (width : Width) → NormalNestHasFacts width
+normal_nest_has_facts width p n m w is found normal plain set = facts width p n m w is found normal plain set

@@ -10,7 +10,7 @@ use Rattle.components.specs.Lists.{Each}
 use Rattle.components.proofs.ListLaws.{Each-append}
 use Rattle.find_nests.proofs.FoundLaws.{found_nest_is_loop}
 use Rattle.find_nests.specs.Found.{InNest, found_in}
-use Rattle.find_nests.specs.Loops.{SourceLoop, Placed, loops_in, loops_in_arms, loops_in_block}
+use Rattle.find_nests.specs.Loops.{SourceLoop, SurroundedLoop, loops_in, loops_in_arms, loops_in_block}
 use Rattle.meaning.specs.Blocks.{Surroundings, outermost, within_loop, before_labels, labels_of}
 use Rattle.meaning.specs.Dialect.{Dialect}
 use Rattle.meaning.specs.Profile77 as source
@@ -36,9 +36,9 @@ use Rattle.linear_forms.proofs.Sizes.{both}
 use Rattle.linear_forms.specs.CanonicalLaws.{AreDistinct}
 use Rattle.nest_order.proofs.orders.Lists.{In-left, In-right}
 use Rattle.nest_order.specs.orders.Lists.{In}
-use Rattle.find_nests.specs.nest_parts.Numbers.{next, after, after_arms, after_block}
+use Rattle.find_nests.specs.nest_parts.Numbers.{next_loop_number, number_after, after_arms, after_block}
 use Rattle.find_nests.specs.nest_parts.Statements.{parts_of, branches_of, parts_of_block}
-use Rattle.nest_reasons.specs.Symbols.{is_integer, is_scalar, is_integer_scalar, is_symbol, symbols_of}
+use Rattle.nest_reasons.specs.Symbols.{is_integer, is_scalar_extent, is_integer_scalar, is_symbol, symbols_of}
 use Rattle.nest.specs.Plain.{Loop, Guarded, Nest, Part, parts}
 use Rattle.meaning_laws.proofs.profiles.Lists.{all_at}
 use Rattle.meaning_laws.proofs.profiles.Names.{found, once}
@@ -117,7 +117,7 @@ pub record IsSourceLoop (es : List Declaration) (symbols : List (List ℕ)) (l :
   pub free : ¬ (In l.variable symbols)
   pub number : l.number ≤ 4294967295
 
-next_small : (k : ℕ) → k ≤ 4294967295 → next k ≤ 4294967295
+next_small : (k : ℕ) → k ≤ 4294967295 → next_loop_number k ≤ 4294967295
 next_small k h = by (nat_lt k 4294967295) refl
   where
     by : (b : Bool) → nat_lt k 4294967295 ≡ b → cond b (k + 1) k ≤ 4294967295
@@ -125,11 +125,11 @@ next_small k h = by (nat_lt k 4294967295) refl
     by false e = h
 
 mutual
-  after_small : (k : ℕ) (c : Statement) → k ≤ 4294967295 → after k c ≤ 4294967295
+  after_small : (k : ℕ) (c : Statement) → k ≤ 4294967295 → number_after k c ≤ 4294967295
   after_small k (Assignment l mark left right) h = h
   after_small k (Where l mark mask left right) h = h
   after_small k (If l arms other) h = after_block_small (after_arms k arms) other (after_arms_small k arms h)
-  after_small k (Do l x a b c body) h = after_block_small (next k) body (next_small k h)
+  after_small k (Do l x a b c body) h = after_block_small (next_loop_number k) body (next_small k h)
   after_small k (Label n) h = h
   after_small k (GoTo l n) h = h
   after_small k (Stop l) h = h
@@ -144,12 +144,12 @@ mutual
 
   after_block_small : (k : ℕ) (b : Block) → k ≤ 4294967295 → after_block k b ≤ 4294967295
   after_block_small k no_statements h = h
-  after_block_small k (statement c cs) h = after_block_small (after k c) cs (after_small k c h)
+  after_block_small k (statement c cs) h = after_block_small (number_after k c) cs (after_small k c h)
 
 module _ (ds es : List Declaration) (short : (x : List ℕ) (d : Declaration) → declared ds x ≡ Some d → IsShort x) where
   -- ---- all loops of a program
 
-  pub record IsProgramLoop (q : Placed) : Type 0 where
+  pub record IsProgramLoop (q : SurroundedLoop) : Type 0 where
     pub around : Surroundings
     pub variable : source_kinds.IsDoVariable ds q.loop.loop.variable around.variables
     pub integer : IsIntegerScalar es q.loop.loop.variable
@@ -167,7 +167,7 @@ module _ (ds es : List Declaration) (short : (x : List ℕ) (d : Declaration) �
         (loops_are_arms k around arms w h.2 g.2 m) (loops_are_block (after_arms k arms) around other w h.3 g.3 (after_arms_small k arms m))
     loops_are k around (Do l x a b c body) w h g m = (
       record { around = w; variable = h.1; integer = g.1.integer; body = h.5; target = g.5; before = m },
-      loops_are_block (next k) (around ++ record { line = l; variable = x; first = a; last = b; step = c; body = body } ∷ []) body (within_loop x w) h.5 g.5 (next_small k m),
+      loops_are_block (next_loop_number k) (around ++ record { line = l; variable = x; first = a; last = b; step = c; body = body } ∷ []) body (within_loop x w) h.5 g.5 (next_small k m),
     )
     loops_are k around (Label n) w h g m = tt
     loops_are k around (GoTo l n) w h g m = tt
@@ -188,8 +188,8 @@ module _ (ds es : List Declaration) (short : (x : List ℕ) (d : Declaration) �
         → Each IsProgramLoop (loops_in_block k around b)
     loops_are_block k around no_statements w h g m = tt
     loops_are_block k around (statement c cs) w h g m =
-        Each-append IsProgramLoop (loops_in k around c) (loops_in_block (after k c) around cs)
-        (loops_are k around c (before_labels (labels_of cs) w) h.0 g.0 m) (loops_are_block (after k c) around cs w h.1 g.1 (after_small k c m))
+        Each-append IsProgramLoop (loops_in k around c) (loops_in_block (number_after k c) around cs)
+        (loops_are k around c (before_labels (labels_of cs) w) h.0 g.0 m) (loops_are_block (number_after k c) around cs w h.1 g.1 (after_small k c m))
 
   -- ---- what stands in one of them, in which no symbol is written
 
@@ -216,7 +216,7 @@ module _ (ds es : List Declaration) (short : (x : List ℕ) (d : Declaration) �
         by None e k = absurd k
         by (Some d) e k = record { declaration = d; found = e; right = k.1.suits }
 
-    loop_is : (k : ℕ) (x : List ℕ) (z : Loop) (w : List (List ℕ)) → z.variable ≡ x → z.number ≡ next k → k ≤ 4294967295 → source_kinds.IsDoVariable ds x w → IsIntegerScalar es x
+    loop_is : (k : ℕ) (x : List ℕ) (z : Loop) (w : List (List ℕ)) → z.variable ≡ x → z.number ≡ next_loop_number k → k ≤ 4294967295 → source_kinds.IsDoVariable ds x w → IsIntegerScalar es x
         → ¬ (In x symbols) → IsSourceLoop es symbols z
     loop_is k x z w e f m h g free =
         let small = next_small k m in
@@ -245,7 +245,7 @@ module _ (ds es : List Declaration) (short : (x : List ℕ) (d : Declaration) �
       parts_are k (Do l x a b c body) w h g f m = (
         (
           loop_is k x _ w.variables refl refl m h.1 g.1.integer (f (use_of x Writes) (inl refl) refl),
-          parts_are_block (next k) body (within_loop x w) h.5 g.5 (rest_of (uses_in_control x a b c) (uses_in_block body) f) (next_small k m),
+          parts_are_block (next_loop_number k) body (within_loop x w) h.5 g.5 (rest_of (uses_in_control x a b c) (uses_in_block body) f) (next_small k m),
         ),
         tt,
       )
@@ -269,9 +269,9 @@ module _ (ds es : List Declaration) (short : (x : List ℕ) (d : Declaration) �
       parts_are_block : (k : ℕ) (b : Block) (w : Surroundings) → source.IsBlock ds b w → target.IsBlock es b w → Unwritten (uses_in_block b) → k ≤ 4294967295 → Statements (parts_of_block k b)
       parts_are_block k no_statements w h g f m = tt
       parts_are_block k (statement c cs) w h g f m =
-          followed (parts_of k c) (parts_of_block (after k c) cs)
+          followed (parts_of k c) (parts_of_block (number_after k c) cs)
           (parts_are k c (before_labels (labels_of cs) w) h.0 g.0 (first_of (uses_in_statement c) (uses_in_block cs) f) m)
-          (parts_are_block (after k c) cs w h.1 g.1 (rest_of (uses_in_statement c) (uses_in_block cs) f) (after_small k c m))
+          (parts_are_block (number_after k c) cs w h.1 g.1 (rest_of (uses_in_statement c) (uses_in_block cs) f) (after_small k c m))
 
 -- ---- a nest that is found
 
@@ -304,7 +304,7 @@ module _ (d : Dialect) (p : Program) (es : List Declaration) (is : IsProgram77 d
     symbol_is y i =
         let c = chosen test ds y i in
         let q = symbol_parts c.declaration c.passes in
-        let k = both (is_integer c.declaration.kind) (is_scalar c.declaration.extent) q.0 in
+        let k = both (is_integer c.declaration.kind) (is_scalar_extent c.declaration.extent) q.0 in
         let here : declared ds y ≡ Some c.declaration = ap (declared ds) c.name ∙ once ds c.declaration is.declarations.ordered c.among in (
           record {
             declaration = c.declaration;
@@ -339,7 +339,7 @@ module _ (d : Dialect) (p : Program) (es : List Declaration) (is : IsProgram77 d
       (record {
         body = (
           loop_is ds es short_names (symbols_of ds x body) f.loop.loop.before x _ q.around.variables refl refl q.before q.variable q.integer (variable_free x body),
-          parts_are_block ds es short_names (symbols_of ds x body) (next f.loop.loop.before) body (within_loop x q.around) q.body q.target (unwritten x body) (next_small f.loop.loop.before q.before),
+          parts_are_block ds es short_names (symbols_of ds x body) (next_loop_number f.loop.loop.before) body (within_loop x q.around) q.body q.target (unwritten x body) (next_small f.loop.loop.before q.before),
         );
         symbols = symbol_is x body;
         distinct = chosen_once (test x body) ds is.declarations.ordered;

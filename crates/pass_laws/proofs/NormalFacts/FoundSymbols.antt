@@ -20,7 +20,7 @@ use Rattle.tree.specs.declared.ops.Kind.{Kind}
 use Rattle.tree.specs.declared.ops.Kind.TheVariants.{Integer, Logical}
 use Rattle.linear_forms.specs.CanonicalLaws.{AreDistinct}
 use Rattle.nest_order.specs.orders.Lists.{In}
-use Rattle.nest_reasons.specs.Symbols.{is_integer, is_scalar}
+use Rattle.nest_reasons.specs.Symbols.{is_integer, is_scalar_extent}
 use Rattle.meaning_laws.proofs.profiles.Lists.{here, there}
 use Rattle.meaning_laws.proofs.profiles.Names.{names}
 
@@ -130,7 +130,7 @@ pub integer_is : (k : Kind) → is_integer k ≡ true → k ≡ Integer
 integer_is Integer h = refl
 integer_is Logical h = let no : ⊥ = cc in absurd no
 
-pub scalar_is : (x : Extent) → is_scalar x ≡ true → x ≡ Given []
+pub scalar_is : (x : Extent) → is_scalar_extent x ≡ true → x ≡ Given []
 scalar_is (Given []) h = refl
 scalar_is (Given (b ∷ bs)) h = let no : ⊥ = cc in absurd no
 scalar_is (Later n) h = let no : ⊥ = cc in absurd no

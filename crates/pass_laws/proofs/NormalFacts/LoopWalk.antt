@@ -7,7 +7,7 @@ use Rattle.last_values.specs.InPlace.{assigned_part, first_text, own_trip_text, 
 use Rattle.last_values.specs.PartsInPlace.{only_where_part, parts_before, parts_behind}
 use Rattle.last_values.specs.declared.behind.NestedLoop.{NestedLoop}
 use Rattle.linear_forms.proofs.Sizes.{both}
-use Rattle.normal_loops.specs.Bodies.{placed, normal_turns, normal_part, normal_parts, normal_branches}
+use Rattle.normal_loops.specs.Bodies.{placed_loop, normal_turns, normal_part, normal_parts, normal_branches}
 use Rattle.normal_loops.specs.Counting.{counting}
 use Rattle.normal_loops.specs.Loops.{with_loop}
 use Rattle.normal_loops.specs.Normal.{is_normal, are_normal, are_normal_branches}
@@ -73,7 +73,7 @@ module _ (n : Nest) (all : List NestedLoop) (Source : Guarded → Type 0) (Fair 
         by false true = tt
         by false false = ((((tt, tt), tt), tt), tt)
 
-    placed_each : (p : Part) → EachLoop Asked ls p → Each_of ls (placed n all round r p)
+    placed_each : (p : Part) → EachLoop Asked ls p → Each_of ls (placed_loop n all round r p)
     placed_each p h = by (stands_behind (length n.symbols) all n.body r.variable)
       where
         by : (b : Bool) → Each_of ls (cond b (p ∷ []) (parts_before n.symbols n.line round r ++ p ∷ parts_behind n.symbols n.line round r))

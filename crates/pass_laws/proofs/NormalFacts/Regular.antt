@@ -1,7 +1,7 @@
 -- What is made of a nest that was found has subscripts that move with its loops.
 use Rattle.std.proofs.Common.{◌≡◌, refl, sym, ap, ◌∙◌, subst, ℕ, ◌≤◌, Bool, List, [], ◌∷◌, ◌++◌, map, length, None}
 use Rattle.std.proofs.lemmas.List.{length-map, map-append}
-use Rattle.array_form.specs.forms.Loops.{Surroundings, variables_of}
+use Rattle.array_form.specs.forms.Loops.{FormSurroundings, form_variables_of}
 use Rattle.array_form.specs.forms.Statements.{hold_at}
 use Rattle.components.proofs.ListLaws.{Each-get}
 use Rattle.emission.specs.emission_forms.Forms.{AreRegular}
@@ -20,33 +20,34 @@ use Rattle.pass_laws.proofs.ReadyNests.Walk.{EachIn, Steps, standing, assigning,
 use Rattle.array_form.specs.holds.Bounds.{is_safe}
 use Rattle.array_form.specs.holds.Holds.{hold_of}
 use Rattle.array_form.specs.holds.Statements.{no_statement}
-use Rattle.array_form.specs.holds.Surroundings.{counted, counted_of, surroundings_of}
+use Rattle.array_form.specs.holds.Surroundings.{counted_loop, counted_of, surroundings_of}
 use Rattle.pass_laws.proofs.NormalFacts.CanonicalPlain.{IsPlainStatement, plain_with_values}
 use Rattle.pass_laws.proofs.NormalFacts.CanonicalSources.{any_loop, found_is_plain}
 use Rattle.pass_laws.proofs.NormalFacts.Moved.{IsRegularFrom, statement_regular, scalar_held}
 use Rattle.pass_laws.specs.normal_facts.Laws.{NormalNestIsRegular}
+use Rattle.tree.specs.declared.width.Width.{Width}
 
 -- ---- one statement
 
 -- a statement that a rule makes canonical over these names is regular where nothing forbids its array form
-abbrev IsRegularHere : Surroundings → Guarded → ℕ → Type 0
+abbrev IsRegularHere : FormSurroundings → Guarded → ℕ → Type 0
 IsRegularHere a g k = (safe : Bool) → hold_at a k g.guard g.left safe ≡ None → IsRegularFrom a k g.guard g.left g.right
 
-abbrev IsRegularMade : Surroundings → Guarded → ℕ → List (List ℕ) → List (List ℕ) → Type 0
+abbrev IsRegularMade : FormSurroundings → Guarded → ℕ → List (List ℕ) → List (List ℕ) → Type 0
 IsRegularMade a g k loops symbols = IsRegularHere a (rewritten_statement (canonising loops symbols) g) k
 
-made_regular : (a : Surroundings) (loops symbols : List (List ℕ)) → variables_of a.loops ≡ loops → a.symbols ≡ symbols
+made_regular : (a : FormSurroundings) (loops symbols : List (List ℕ)) → form_variables_of a.loops ≡ loops → a.symbols ≡ symbols
     → (g : Guarded) → IsPlainStatement g → (k : ℕ) → IsRegularMade a g k loops symbols
 made_regular a loops symbols e f g p k =
     subst (λ xs. IsRegularMade a g k xs symbols) e
-    (subst (λ ys. IsRegularMade a g k (variables_of a.loops) ys) f (λ safe h. statement_regular a k g.guard g.left g.right safe p.left p.right p.guard h))
+    (subst (λ ys. IsRegularMade a g k (form_variables_of a.loops) ys) f (λ safe h. statement_regular a k g.guard g.left g.right safe p.left p.right p.guard h))
 
 -- ---- the loops round a statement
 
 variables : List Loop → List (List ℕ)
 variables ls = map (λ (l : Loop). l.variable) ls
 
-variables_round : (d : ℕ) (ls : List Loop) → variables_of (map (λ l. counted_of d (counted l)) ls) ≡ variables ls
+variables_round : (d : ℕ) (ls : List Loop) → form_variables_of (map (λ l. counted_of d (counted_loop l)) ls) ≡ variables ls
 unfolding variables
 variables_round d [] = refl
 variables_round d (l ∷ ls) = ap (λ xs. l.variable ∷ xs) (variables_round d ls)
@@ -82,7 +83,7 @@ module _ (n m : Nest) (same : m.symbols ≡ n.symbols) where
   in_place ls v g e k from to h =
       let a = surroundings_of m ls in
       let safe = is_safe m (standing ls g) in
-      absurd (scalar_held a k g.guard v safe from (subst (λ d. k ≤ d) (sym (length-map ls (λ l. counted_of (length ls) (counted l)))) to)
+      absurd (scalar_held a k g.guard v safe from (subst (λ d. k ≤ d) (sym (length-map ls (λ l. counted_of (length ls) (counted_loop l)))) to)
       (subst (λ r. hold_at a k g.guard r safe ≡ None) e h))
 
   steps : Steps n IsPlainStatement any_loop Under Asked
@@ -99,7 +100,7 @@ module _ (n m : Nest) (same : m.symbols ≡ n.symbols) where
       let x = Each-get Asked (nest_statements m) all s no_statement level.0 k level.1 level.2 h in
       record { left = x.left; guard = x.guard_is; right = x.right }
 
-pub normal_nest_is_regular : NormalNestIsRegular
-normal_nest_is_regular p n m is h e plain =
+pub normal_nest_is_regular : (width : Width) → NormalNestIsRegular width
+normal_nest_is_regular width p n m is h e plain =
     let made = made_of n m e in
-    made_is_regular n m made.symbols (found_is_plain p n is h) made
+    made_is_regular n m made.symbols (found_is_plain width p n is h) made

@@ -35,7 +35,7 @@ use Rattle.normal_loops.specs.Values.{with_value, in_text, statement_with_values
 use Rattle.nest_rewrite.specs.Statements.{rewritten_statement}
 use Rattle.nest.specs.Plain.{Guarded}
 use Rattle.last_values.specs.normal_forms.NormalLoops.{counters_of}
-use Rattle.last_values.specs.normal_forms.Texts.{quotient, trip_text, counter_first, value_text}
+use Rattle.last_values.specs.normal_forms.Texts.{quotient_text, trip_text, counter_first, variable_text}
 use Rattle.last_values.specs.declared.normal_forms.loops.NormalLoop.{NormalLoop}
 use Rattle.subscripts.specs.Shapes.{IsForm, IsSmall}
 use Rattle.subscripts.specs.declared.affine.Affine.{Affine}
@@ -257,8 +257,8 @@ module _ (es : List Declaration) where
   scalars_are (x ∷ xs) h = (h.0, scalars_are xs h.1)
 
   module _ (symbols : List (List ℕ)) (are : Each (IsIntegerScalar es) symbols) where
-    value_is : (outer : List NormalLoop) (r : NormalLoop) → Each IsTypedLoop outer → IsTypedLoop r → IsNumber (value_text symbols outer r)
-    unfolding value_text
+    value_is : (outer : List NormalLoop) (r : NormalLoop) → Each IsTypedLoop outer → IsTypedLoop r → IsNumber (variable_text symbols outer r)
+    unfolding variable_text
     value_is outer r h t =
         text_is (r.counter ∷ counters_of outer) symbols [] (counter_first r.step r.below) (t.0, counters_are outer h) are tt (counter_is_small r.step r.below t.1.1.step t.1.1.below)
 
@@ -266,8 +266,8 @@ module _ (es : List Declaration) where
     values_are outer [] s h k g = g
     values_are outer (r ∷ rs) s h k g =
         values_are (outer ++ r ∷ []) rs (rewritten_statement (with_value symbols outer r) s) (Each-append IsTypedLoop outer (r ∷ []) h (k.0, tt)) k.1
-        (statement_made (with_value symbols outer r) (raise r.variable (value_text symbols outer r) k.0.1.0 (value_is outer r h k.0))
-        (substituting_keeps r.variable (value_text symbols outer r) k.0.1.0 (value_is outer r h k.0)) (λ l. refl) s g)
+        (statement_made (with_value symbols outer r) (raise r.variable (variable_text symbols outer r) k.0.1.0 (value_is outer r h k.0))
+        (substituting_keeps r.variable (variable_text symbols outer r) k.0.1.0 (value_is outer r h k.0)) (λ l. refl) s g)
 
     pub normal_kinds : (round : List NormalLoop) (s : Guarded) → Each IsTypedLoop round → HasKinds s → HasKinds (normal_statement symbols round s)
     unfolding normal_statement
@@ -276,7 +276,7 @@ module _ (es : List Declaration) where
         (canonising_keeps_profile (counters_of round) symbols es (scalars_are (counters_of round ++ symbols) (Each-append (IsIntegerScalar es) (counters_of round) symbols (counters_are round h) are)))
         (λ l. refl) (statement_with_values symbols [] round s) (values_are [] round s tt h g)
 
-    quotient_is : (e : Expression) (z : ℤ) (n : ℕ) → z ≡ pos n → n ≤ 2 ^ 40 → IsNumber e → IsNumber (quotient e z)
+    quotient_is : (e : Expression) (z : ℤ) (n : ℕ) → z ≡ pos n → n ≤ 2 ^ 40 → IsNumber e → IsNumber (quotient_text e z)
     quotient_is e z n same small h = by (int_eq z (pos 1))
       where
         divided : (y : ℤ) → y ≡ pos n → IsNumber (Binary Div e (Number y))

@@ -9,7 +9,7 @@ use Rattle.nest_order.proofs.orders.Lists.{Each-In, Each-from, In-append, In-lef
 use Rattle.nest_order.proofs.orders.Membership.{map-In}
 use Rattle.nest_order.proofs.orders.Once.{Pairwise-left, Pairwise-right}
 use Rattle.nest_order.specs.orders.Lists.{In, Distinct}
-use Rattle.nest_order.specs.orders.Shapes.{Shape, Single, Shapes, no_shapes, shape, statements, loops, loops_in}
+use Rattle.nest_order.specs.orders.Shapes.{Shape, Single, Shapes, no_shapes, shape, statements, loops_of_shape, loops_of_shapes}
 use Rattle.nest_order.specs.orders.Shapes as shapes
 use Rattle.nest_order.proofs.runs.Loops.{outer_loop}
 use Rattle.nest_order.specs.runs.Nests.{LoopStands, LoopStandsIn}
@@ -77,14 +77,14 @@ numbers_joined [] ys = refl
 numbers_joined (x ∷ xs) ys = ap (λ ks. x.number ∷ ks) (numbers_joined xs ys)
 
 mutual
-  pub loops_are : (k : ℕ) (p : Part) → IsPlain p → loops (shape_of k p) ≡ numbers_of (loops_of p)
+  pub loops_are : (k : ℕ) (p : Part) → IsPlain p → loops_of_shape (shape_of k p) ≡ numbers_of (loops_of p)
   loops_are k (Run s) plain = refl
   loops_are k (Turns l ps) plain = ap (λ ks. l.number ∷ ks) (loops_are_in k ps plain.1)
   loops_are k (Choice bs ps) plain = absurd plain
   loops_are k (Label n) plain = absurd plain
   loops_are k (Jump n) plain = absurd plain
 
-  loops_are_in : (k : ℕ) (ps : Parts) → ArePlain ps → loops_in (shapes_of k ps) ≡ numbers_of (loops_in_parts ps)
+  loops_are_in : (k : ℕ) (ps : Parts) → ArePlain ps → loops_of_shapes (shapes_of k ps) ≡ numbers_of (loops_in_parts ps)
   loops_are_in k no_parts plain = refl
   loops_are_in k (part p ps) plain =
       ap₂ (λ xs ys. xs ++ ys) (loops_are k p plain.0) (loops_are_in (k + size_of p) ps plain.1) ∙ sym (numbers_joined (loops_of p) (loops_in_parts ps))
@@ -103,25 +103,25 @@ numbered (l ∷ ls) k (inr i) = let r = numbered ls k i in record { loop = r.loo
 
 -- none stands twice
 mutual
-  pub round_once : (t : Shape) (round : List ℕ) (l : ℕ) → LoopStands t round l → Distinct (loops t) → Distinct round
+  pub round_once : (t : Shape) (round : List ℕ) (l : ℕ) → LoopStands t round l → Distinct (loops_of_shape t) → Distinct round
   round_once (Single s) round l h d = absurd h
   round_once (shapes.Loop m ts) [] l h d = tt
   round_once (shapes.Loop m ts) (k ∷ round) l h d = (
-    Each-from (λ j. ¬ (k ≡ j)) round (λ j i e. Each-In (λ y. ¬ (m ≡ y)) (loops_in ts) d.0 j (round_in ts round l h.1 d.1 j i) (h.0 ∙ e)),
+    Each-from (λ j. ¬ (k ≡ j)) round (λ j i e. Each-In (λ y. ¬ (m ≡ y)) (loops_of_shapes ts) d.0 j (round_in ts round l h.1 d.1 j i) (h.0 ∙ e)),
     round_once_in ts round l h.1 d.1,
   )
 
-  round_once_in : (ts : Shapes) (round : List ℕ) (l : ℕ) → LoopStandsIn ts round l → Distinct (loops_in ts) → Distinct round
+  round_once_in : (ts : Shapes) (round : List ℕ) (l : ℕ) → LoopStandsIn ts round l → Distinct (loops_of_shapes ts) → Distinct round
   round_once_in no_shapes round l h d = absurd h
-  round_once_in (shape t ts) round l (inl h) d = round_once t round l h (Pairwise-left (λ x y. ¬ (x ≡ y)) (loops t) (loops_in ts) d)
-  round_once_in (shape t ts) round l (inr h) d = round_once_in ts round l h (Pairwise-right (λ x y. ¬ (x ≡ y)) (loops t) (loops_in ts) d)
+  round_once_in (shape t ts) round l (inl h) d = round_once t round l h (Pairwise-left (λ x y. ¬ (x ≡ y)) (loops_of_shape t) (loops_of_shapes ts) d)
+  round_once_in (shape t ts) round l (inr h) d = round_once_in ts round l h (Pairwise-right (λ x y. ¬ (x ≡ y)) (loops_of_shape t) (loops_of_shapes ts) d)
 
-  round_in : (ts : Shapes) (round : List ℕ) (l : ℕ) → LoopStandsIn ts round l → Distinct (loops_in ts) → (j : ℕ) → In j round → In j (loops_in ts)
+  round_in : (ts : Shapes) (round : List ℕ) (l : ℕ) → LoopStandsIn ts round l → Distinct (loops_of_shapes ts) → (j : ℕ) → In j round → In j (loops_of_shapes ts)
   round_in no_shapes round l h d j i = absurd h
   round_in (shape t ts) round l (inl h) d j i =
-      In-left j (loops t) (loops_in ts) (outer_loop t round l j (Pairwise-left (λ x y. ¬ (x ≡ y)) (loops t) (loops_in ts) d) h i).0
+      In-left j (loops_of_shape t) (loops_of_shapes ts) (outer_loop t round l j (Pairwise-left (λ x y. ¬ (x ≡ y)) (loops_of_shape t) (loops_of_shapes ts) d) h i).0
   round_in (shape t ts) round l (inr h) d j i =
-      In-right j (loops t) (loops_in ts) (round_in ts round l h (Pairwise-right (λ x y. ¬ (x ≡ y)) (loops t) (loops_in ts) d) j i)
+      In-right j (loops_of_shape t) (loops_of_shapes ts) (round_in ts round l h (Pairwise-right (λ x y. ¬ (x ≡ y)) (loops_of_shape t) (loops_of_shapes ts) d) j i)
 
 module _ (Asked : List Loop → Loop → Type 0) (all : List Loop) where
   -- the loop with the number k stands in the loops ls and then in those of these numbers

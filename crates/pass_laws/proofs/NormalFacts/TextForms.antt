@@ -11,6 +11,7 @@ use Rattle.std.proofs.lemmas.Bool.{leb-true, le-leb, eqb-true}
 use Rattle.std.proofs.lemmas.Int.{ints}
 use Rattle.std.proofs.lemmas.Slice.Eq.{bytes_eq-Decides}
 use Rattle.meaning.specs.Dialect.{fortran77}
+use Rattle.tree.specs.declared.width.Width.TheVariants.{Plain}
 use Rattle.meaning.specs.Names.{is_among}
 use Rattle.meaning.specs.Value.{value_of}
 use Rattle.tree.specs.Operators.{apply, fits}
@@ -82,12 +83,12 @@ module _ (loops symbols : List (List ℕ)) (few : length loops ≤ 7) where
     is : form_of_part e ≡ Some (form0 coefficients)
     alike : AreAlike coefficients ps
     stuck : Fault
-    no_value : value_of fortran77 e no_store ≡ Err stuck
+    no_value : value_of (fortran77 Plain) e no_store ≡ Err stuck
 
   abbrev IsLimited : List ℤ → Type 0
   IsLimited ps = is_limited (length loops) (form0 ps) ≡ true
 
-  constant_none : (e : Expression) (f : Fault) → value_of fortran77 e no_store ≡ Err f → constant_of e ≡ None
+  constant_none : (e : Expression) (f : Fault) → value_of (fortran77 Plain) e no_store ≡ Err f → constant_of e ≡ None
   constant_none e f h = ap (λ r. as_constant (known r)) h
 
   limited_by : (qs ps : List ℤ) → AreAlike qs ps → IsLimited ps → IsLimited qs
@@ -150,8 +151,8 @@ module _ (loops symbols : List (List ℕ)) (few : length loops ≤ 7) where
       ap (λ c. limited (length loops) (constant_or c (pair_form o e t (form_of_part e) (form_of_part t)))) c
       ∙ ap₂ (λ p q. limited (length loops) (pair_form o e t p q)) h k
 
-  no_pair : (o : Op) (e t : Expression) (f : Fault) → value_of fortran77 e no_store ≡ Err f → value_of fortran77 (Binary o e t) no_store ≡ Err f
-  no_pair o e t f h = ap (λ r. do x ← r; y ← value_of fortran77 t no_store; apply o x y) h
+  no_pair : (o : Op) (e t : Expression) (f : Fault) → value_of (fortran77 Plain) e no_store ≡ Err f → value_of (fortran77 Plain) (Binary o e t) no_store ≡ Err f
+  no_pair o e t f h = ap (λ r. do x ← r; y ← value_of (fortran77 Plain) t no_store; apply o x y) h
 
   sum_text : (e t : Expression) (ps us ws : List ℤ) → IsText e ps → IsText t us → ((k : ℕ) → get_or ws k (pos 0) ≡ get_or ps k (pos 0) +ℤ get_or us k (pos 0))
       → IsLimited ws → IsText (Binary Add e t) ws
@@ -192,7 +193,7 @@ module _ (loops symbols : List (List ℕ)) (few : length loops ≤ 7) where
   negative_text t us ws b w l =
       let qs = map (λ a. negsuc 0 *ℤ a) b.coefficients in
       let alike : AreAlike qs ws = (λ k. multiple_at (negsuc 0) b.coefficients k ∙ (ap (λ q. negsuc 0 *ℤ q) (b.alike k) ∙ sym (w k))) in
-      let none : value_of fortran77 (Unary Neg t) no_store ≡ Err b.stuck = ap (λ r. do x ← r; apply Neg x x) b.no_value in
+      let none : value_of (fortran77 Plain) (Unary Neg t) no_store ≡ Err b.stuck = ap (λ r. do x ← r; apply Neg x x) b.no_value in
       record {
         coefficients = qs;
         is = ap (λ c. limited (length loops) (constant_or c (form_of_sign Neg (form_of_part t)))) (constant_none (Unary Neg t) b.stuck none)

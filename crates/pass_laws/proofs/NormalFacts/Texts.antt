@@ -9,7 +9,7 @@ use Rattle.components.proofs.ListLaws.{Each-append}
 use Rattle.meaning.specs.Reads.{names_in, names_in_each, names_in_subscripts}
 use Rattle.rewrite.specs.Making.{Making, made, made_expressions, made_parts, made_subscript, made_subscripts}
 use Rattle.rewrite.specs.Names.{mentions}
-use Rattle.rewrite.specs.Substituting.{is_scalar, substituting}
+use Rattle.rewrite.specs.Substituting.{is_variable_alone, substituting}
 use Rattle.tree.specs.Plain.{Expression, Number, Logic, Named, Unary, Binary, Apply, Constructor, Spread, Transpose}
 use Rattle.tree.specs.Plain.{Reshape, Reduce, Expressions, no_expressions, expression, Subscript, Only, Section}
 use Rattle.tree.specs.Plain.{Subscripts, no_subscripts, subscript, Reference}
@@ -27,7 +27,7 @@ use Rattle.nest_order.specs.runs.Touched as touched
 use Rattle.nest.specs.Plain.{Guarded}
 use Rattle.nest.specs.declared.parts.Trip.{Trip}
 use Rattle.last_values.specs.normal_forms.NormalLoops.{counters_of}
-use Rattle.last_values.specs.normal_forms.Texts.{quotient, trip_text, counter_first, value_text}
+use Rattle.last_values.specs.normal_forms.Texts.{quotient_text, trip_text, counter_first, variable_text}
 use Rattle.last_values.specs.declared.normal_forms.loops.NormalLoop.{NormalLoop}
 use Rattle.subscripts.specs.declared.affine.Affine.{Affine}
 
@@ -240,7 +240,7 @@ module _ (P : List ℕ → Type 0) where
   -- ---- two rules
 
   substituting_keeps : (x : List ℕ) (by : Expression) → IsOver by → (first e : Expression) → IsOver e → IsOver ((substituting x by).expression first e)
-  substituting_keeps x by h first e k = chosen (is_scalar x e)
+  substituting_keeps x by h first e k = chosen (is_variable_alone x e)
     where
       chosen : (b : Bool) → IsOver (cond b by e)
       chosen true = h
@@ -269,8 +269,8 @@ module _ (P : List ℕ → Type 0) where
   counters_are (r ∷ rs) h = (h.0, counters_are rs h.1)
 
   module _ (symbols : List (List ℕ)) (are : Each P symbols) where
-    value_over : (outer : List NormalLoop) (r : NormalLoop) → CountersAre outer → P r.counter → IsOver (value_text symbols outer r)
-    unfolding value_text
+    value_over : (outer : List NormalLoop) (r : NormalLoop) → CountersAre outer → P r.counter → IsOver (variable_text symbols outer r)
+    unfolding variable_text
     value_over outer r h c = text_over (r.counter ∷ counters_of outer) symbols [] (counter_first r.step r.below) (c, counters_are outer h) are tt
 
     values_over : (outer rs : List NormalLoop) (s : Guarded) → CountersAre outer → CountersAre rs → IsStatementOver s → IsStatementOver (statement_with_values symbols outer rs s)
@@ -278,7 +278,7 @@ module _ (P : List ℕ → Type 0) where
     values_over outer (r ∷ rs) s h k g =
         values_over (outer ++ r ∷ []) rs (rewritten_statement (with_value symbols outer r) s)
         (Each-append (λ (q : NormalLoop). P q.counter) outer (r ∷ []) h (k.0, tt)) k.1
-        (statement_made (with_value symbols outer r) (substituting_keeps r.variable (value_text symbols outer r) (value_over outer r h k.0)) (λ l. refl) s g)
+        (statement_made (with_value symbols outer r) (substituting_keeps r.variable (variable_text symbols outer r) (value_over outer r h k.0)) (λ l. refl) s g)
 
     pub normal_over : (round : List NormalLoop) (s : Guarded) → CountersAre round → IsStatementOver s → IsStatementOver (normal_statement symbols round s)
     unfolding normal_statement
@@ -286,7 +286,7 @@ module _ (P : List ℕ → Type 0) where
         statement_made (in_text symbols round) (canonising_keeps (counters_of round) symbols (counters_are round h) are) (λ l. refl)
         (statement_with_values symbols [] round s) (values_over [] round s tt h g)
 
-    quotient_over : (e : Expression) (z : ℤ) → IsOver e → IsOver (quotient e z)
+    quotient_over : (e : Expression) (z : ℤ) → IsOver e → IsOver (quotient_text e z)
     quotient_over e z h = by (int_eq z (pos 1))
       where
         by : (b : Bool) → IsOver (cond b e (Binary Div e (Number z)))

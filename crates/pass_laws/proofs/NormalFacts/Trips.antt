@@ -24,7 +24,7 @@ use Rattle.nest_order.specs.facts.Facts.{values_from, places_of, HasTrip}
 use Rattle.dependence_graph.specs.nest_graph.Instances.{turns_at}
 use Rattle.dependence_graph.specs.nest_graph.Touched as touched
 use Rattle.nest.specs.declared.parts.Trip.{Trip}
-use Rattle.last_values.specs.normal_forms.Texts.{quotient, trip_text}
+use Rattle.last_values.specs.normal_forms.Texts.{quotient_text, trip_text}
 use Rattle.pass_laws.proofs.NormalNests.Combined.{front_alike}
 use Rattle.subscripts.specs.Forms.{value_at}
 use Rattle.subscripts.specs.declared.affine.Affine.{Affine}
@@ -52,7 +52,7 @@ affine_alike d f g a h e is = record {
 
 -- ---- a trip
 
-same_values : (v : ℕ → ℤ) (k : ℕ) (xs : List (List ℕ)) → touched.values_from v k xs ≡ values_from v k xs
+same_values : (v : ℕ → ℤ) (k : ℕ) (xs : List (List ℕ)) → touched.symbol_values_from v k xs ≡ values_from v k xs
 same_values v k [] = refl
 same_values v k (x ∷ xs) = ap (λ zs. v k ∷ zs) (same_values v (suc k) xs)
 
@@ -79,7 +79,7 @@ by_one (negsuc n) = ap (λ k. neg_ℤ (pos k)) (div-one (suc n))
 
 module _ (counters symbols : List (List ℕ)) (text : Expression) (t : Trip) (divisor : ℕ) (g : Form) (form : form_of counters symbols text ≡ Some g) (by : t.by ≡ pos divisor)
     (value : (v : ℕ → ℤ) (before : List ℕ) → length before ≡ length counters → value_at t.top v (map pos before) ≡ number_at g (places_of v symbols before)) where
-  quotient_is : IsTripOf counters symbols (quotient text t.by) t
+  quotient_is : IsTripOf counters symbols (quotient_text text t.by) t
   quotient_is = either (int_eq t.by (pos 1)) refl
     where
       either : (b : Bool) → int_eq t.by (pos 1) ≡ b → IsTripOf counters symbols (cond b text (Binary Div text (Number t.by))) t

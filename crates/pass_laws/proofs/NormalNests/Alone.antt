@@ -15,7 +15,7 @@ use Rattle.last_values.specs.declared.normal_forms.combinations.Multiple.{Multip
 use Rattle.last_values.specs.declared.normal_forms.loops.NormalLoop.{NormalLoop}
 use Rattle.last_values.specs.declared.normal_forms.places.Place.TheVariants as place
 use Rattle.last_values.specs.normal_forms.Steps.{◌>>=◌}
-use Rattle.last_values.specs.normal_forms.Combinations.{coefficient_in, at, combination, affine_of, number_form, times}
+use Rattle.last_values.specs.normal_forms.Combinations.{coefficient_in, number_of_place, combination, affine_of, number_form, times}
 use Rattle.last_values.specs.normal_forms.NormalLoops.{variables_of, with_counters, bound_form, loop_form, symbol_form, is_zero, is_constant, trip_of, trip_form, is_suitable, plus_number, plus_multiple, sign_of, trip_by, with_forms, forms_by_trip, forms_by_first, forms_of, normal_loop}
 use Rattle.last_values.proofs.NormalForms.Numbers.{none_among_zeros}
 use Rattle.pass_laws.proofs.ReadyNests.LoopForms.{step, bound_zeros, number_at, after_first, after_below, after_value, after_top, after_trip, after_end, from_first}
@@ -54,7 +54,7 @@ bound_has_form symbols e more a h = by (form_of [] symbols e) refl h
     by None e k = let no : ⊥ = cc in absurd no
     by (Some f) e k = record { form = f; is = e }
 
-symbol_past : (n j : ℕ) → n < j → at (symbol_form n) (place.Symbol j) ≡ pos 0
+symbol_past : (n j : ℕ) → n < j → number_of_place (symbol_form n) (place.Symbol j) ≡ pos 0
 symbol_past n j l = by (n == j) refl
   where
     by : (b : Bool) → (n == j) ≡ b → cond b (pos 1) (coefficient_in (replicate 7 (0, pos 0)) j) ≡ pos 0
@@ -62,14 +62,14 @@ symbol_past n j l = by (n == j) refl
     by false e = none_among_zeros 7 j
 
 -- a trip has no further symbols than its own place
-trip_past : (n : ℕ) (a : Affine) (d : ℤ) → ((j : ℕ) → n ≤ j → at a (place.Symbol j) ≡ pos 0) → (j : ℕ) → n + 1 ≤ j → at (trip_form n (trip_of a d)) (place.Symbol j) ≡ pos 0
+trip_past : (n : ℕ) (a : Affine) (d : ℤ) → ((j : ℕ) → n ≤ j → number_of_place a (place.Symbol j) ≡ pos 0) → (j : ℕ) → n + 1 ≤ j → number_of_place (trip_form n (trip_of a d)) (place.Symbol j) ≡ pos 0
 trip_past n a d none j l = by (is_constant a)
   where
-    inner : (b : Bool) → at (cond b a (symbol_form n)) (place.Symbol j) ≡ pos 0
+    inner : (b : Bool) → number_of_place (cond b a (symbol_form n)) (place.Symbol j) ≡ pos 0
     inner true = none j (omega (arith, l))
     inner false = symbol_past n j (omega (arith, l))
 
-    by : (b : Bool) → at (trip_form n (cond b (record { top = number_form (int_div a.constant d); by = pos 1 }) (record { top = a; by = d }))) (place.Symbol j) ≡ pos 0
+    by : (b : Bool) → number_of_place (trip_form n (cond b (record { top = number_form (int_div a.constant d); by = pos 1 }) (record { top = a; by = d }))) (place.Symbol j) ≡ pos 0
     by true = none_among_zeros 8 j
     by false = inner (int_eq d (pos 1))
 
@@ -111,11 +111,11 @@ module _ (symbols : List (List ℕ)) (l : Loop) (r : NormalLoop) where
       let z4 : Zero 0 s4.result = bound_zeros symbols [] l.last (times (negsuc 0) s2.result ∷ []) 0 s4.result s4.is tt (z2, tt) in
       let z7 : Zero 0 s7.result = sum_has_zeros n 0 (times (sign_of l.step) s4.result ∷ []) s7.result s7.is (z4, tt) in
       let top = top_plain n (times (sign_of l.step) s4.result ∷ []) s7.result (nat_abs l.step) s7.is z7 in
-      let past : (j : ℕ) → n + 1 ≤ j → at (trip_form n s5.result) (place.Symbol j) ≡ pos 0
-      = subst (λ (t : Trip). (j : ℕ) → n + 1 ≤ j → at (trip_form n t) (place.Symbol j) ≡ pos 0) trip
+      let past : (j : ℕ) → n + 1 ≤ j → number_of_place (trip_form n s5.result) (place.Symbol j) ≡ pos 0
+      = subst (λ (t : Trip). (j : ℕ) → n + 1 ≤ j → number_of_place (trip_form n t) (place.Symbol j) ≡ pos 0) trip
       (trip_past n s7.result (pos (nat_abs l.step)) (sum_past n (times (sign_of l.step) s4.result ∷ []) s7.result s7.is)) in
       let end = sum_with_more (n + 1) (n + 7) (times (pos 1) s1.result ∷ times l.step (trip_form n s5.result) ∷ []) s6.result s6.is (omega arith) (ap (λ b. b && true) small)
-      (λ j m. nothing (at s1.result (place.Symbol j)) (at (trip_form n s5.result) (place.Symbol j)) l.step (sum_past n c1.terms s1.result c1.is j (omega (arith, m))) (past j m)) in
+      (λ j m. nothing (number_of_place s1.result (place.Symbol j)) (number_of_place (trip_form n s5.result) (place.Symbol j)) l.step (sum_past n c1.terms s1.result c1.is j (omega (arith, m))) (past j m)) in
       subst (HasForms (length symbols)) same
       (forms_alone n is (sum_plain n c1.terms s1.result c1.is z1) (subst (λ (t : Trip). IsPlain n t.top) trip top)
       (subst (λ (t : Trip). trip_of t.top t.by ≡ t) trip (trip_again s7.result (pos (nat_abs l.step)))) end)

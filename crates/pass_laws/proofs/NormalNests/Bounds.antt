@@ -18,12 +18,12 @@ use Rattle.linear_forms.proofs.Sizes.{both}
 use Rattle.linear_forms.proofs.TextsKeep.{text_limited}
 use Rattle.components.specs.Lists.{Each}
 use Rattle.find_nests.specs.bound_limits.Composed as outer
-use Rattle.find_nests.specs.bound_limits.Composed.{Outer, filled, with_multiples, composed, is_among, those_in}
+use Rattle.find_nests.specs.bound_limits.Composed.{Outer, filled, with_multiples, composed, is_loop_among, those_in}
 use Rattle.last_values.specs.declared.normal_forms.loops.NormalLoop.{NormalLoop}
 use Rattle.last_values.specs.declared.normal_forms.places.Place.{Place}
 use Rattle.last_values.specs.declared.normal_forms.places.Place.TheVariants as place
-use Rattle.last_values.specs.normal_forms.Combinations.{at, combined_at, has_small_factor, affine_of, without_loops, times}
-use Rattle.last_values.specs.normal_forms.NormalLoops.{variables_of, values_from, with_counters}
+use Rattle.last_values.specs.normal_forms.Combinations.{number_of_place, combined_at, has_small_factor, affine_of, without_loops, times}
+use Rattle.last_values.specs.normal_forms.NormalLoops.{variables_of, variable_values_from, with_counters}
 use Rattle.last_values.proofs.NormalForms.Numbers.{looked_up}
 use Rattle.pass_laws.proofs.ReadyNests.LoopForms.{without_at}
 use Rattle.pass_laws.proofs.NormalNests.Combined.{IsSame, AddsUpTo, joined_at, sum_at}
@@ -78,17 +78,17 @@ abbrev pub AllAt : Place → (Form → ℤ) → List NormalLoop → List Outer �
 AllAt p q [] [] = Unit {0}
 AllAt p q [] (o ∷ os) = ⊥
 AllAt p q (r ∷ rs) [] = ⊥
-AllAt p q (r ∷ rs) (o ∷ os) = (at r.value p ≡ q o.form) × AllAt p q rs os
+AllAt p q (r ∷ rs) (o ∷ os) = (number_of_place r.value p ≡ q o.form) × AllAt p q rs os
 
 values_total : (p : Place) (q : Form → ℤ) (k : ℕ) (a : Affine) (round : List NormalLoop) (around : List Outer) (cs : List ℤ)
-    → ((i : ℕ) → i < length round → at a (place.Loop (k + i)) ≡ At cs i) → AllAt p q round around → combined_at (values_from k a round) p ≡ total cs around q
+    → ((i : ℕ) → i < length round → number_of_place a (place.Loop (k + i)) ≡ At cs i) → AllAt p q round around → combined_at (variable_values_from k a round) p ≡ total cs around q
 values_total p q k a [] [] cs h s = refl
 values_total p q k a [] (o ∷ os) cs h s = absurd s
 values_total p q k a (r ∷ rs) [] cs h s = absurd s
 values_total p q k a (r ∷ rs) (o ∷ os) cs h s =
-    ap₂ (λ x y. x +ℤ y) (ap₂ (λ x y. x *ℤ y) (ap (λ m. at a (place.Loop m)) (let e : k ≡ k + 0 = omega arith in e) ∙ h 0 (omega arith)) s.0)
+    ap₂ (λ x y. x +ℤ y) (ap₂ (λ x y. x *ℤ y) (ap (λ m. number_of_place a (place.Loop m)) (let e : k ≡ k + 0 = omega arith in e) ∙ h 0 (omega arith)) s.0)
     (values_total p q (k + 1) a rs os (drop 1 cs)
-    (λ i l. ap (λ m. at a (place.Loop m)) (let e : (k + 1) + i ≡ k + suc i = omega arith in e) ∙ h (suc i) (omega (arith, l)) ∙ after_one cs i) s.1)
+    (λ i l. ap (λ m. number_of_place a (place.Loop m)) (let e : (k + 1) + i ≡ k + suc i = omega arith in e) ∙ h (suc i) (omega (arith, l)) ∙ after_one cs i) s.1)
 
 -- ---- the coefficients of symbols
 
@@ -105,7 +105,7 @@ filled_past (suc n) cs zero h = absurd (omega (arith, h))
 filled_past (suc n) [] (suc j) h = filled_past n [] j (omega (arith, h))
 filled_past (suc n) (c ∷ cs) (suc j) h = filled_past n cs j (omega (arith, h))
 
-symbol_at : (d : ℕ) (f : Form) (j : ℕ) → at (without_loops (affine_of d f)) (place.Symbol j) ≡ At (drop d f.coefficients) j
+symbol_at : (d : ℕ) (f : Form) (j : ℕ) → number_of_place (without_loops (affine_of d f)) (place.Symbol j) ≡ At (drop d f.coefficients) j
 symbol_at d f j = looked_up 0 (drop d f.coefficients) (8 - length (terms_from 0 (drop d f.coefficients))) j j (omega arith)
 
 turned_round : (x y u : ℤ) → x ≡ u → y +ℤ (pos 1 *ℤ x +ℤ pos 0) ≡ u +ℤ y
@@ -133,13 +133,13 @@ same_length n [] (o ∷ os) h = absurd h
 same_length n (r ∷ rs) [] h = absurd h
 same_length n (r ∷ rs) (o ∷ os) h = ap suc (same_length n rs os h.1)
 
-pub same_variables : (n : ℕ) (round : List NormalLoop) (around : List Outer) → AllStand n round around → variables_of round ≡ outer.variables_of around
+pub same_variables : (n : ℕ) (round : List NormalLoop) (around : List Outer) → AllStand n round around → variables_of round ≡ outer.outer_variables_of around
 same_variables n [] [] h = refl
 same_variables n [] (o ∷ os) h = absurd h
 same_variables n (r ∷ rs) [] h = absurd h
 same_variables n (r ∷ rs) (o ∷ os) h = ap₂ (λ x xs. x ∷ xs) h.0.variable (same_variables n rs os h.1)
 
-all_at : (n : ℕ) (p : Place) (q : Form → ℤ) → ((a : Affine) (f : Form) → IsSame n a f → at a p ≡ q f) → (round : List NormalLoop) (around : List Outer) → AllStand n round around → AllAt p q round around
+all_at : (n : ℕ) (p : Place) (q : Form → ℤ) → ((a : Affine) (f : Form) → IsSame n a f → number_of_place a p ≡ q f) → (round : List NormalLoop) (around : List Outer) → AllStand n round around → AllAt p q round around
 all_at n p q s [] [] h = tt
 all_at n p q s [] (o ∷ os) h = absurd h
 all_at n p q s (r ∷ rs) [] h = absurd h
@@ -162,11 +162,11 @@ any_later true c h = refl
 any_later false c h = h
 
 -- a loop whose variable is a name passes
-passes : (names : List (List ℕ)) → Each (λ (x : List ℕ). (r : Outer) → bytes_eq r.variable x ≡ true → is_among names r ≡ true) names
+passes : (names : List (List ℕ)) → Each (λ (x : List ℕ). (r : Outer) → bytes_eq r.variable x ≡ true → is_loop_among names r ≡ true) names
 passes names = each names (λ x r h. h)
   where
-    each : (xs : List (List ℕ)) → ((x : List ℕ) (r : Outer) → list_any (λ y. bytes_eq y r.variable) xs ≡ true → is_among names r ≡ true)
-        → Each (λ (x : List ℕ). (r : Outer) → bytes_eq r.variable x ≡ true → is_among names r ≡ true) xs
+    each : (xs : List (List ℕ)) → ((x : List ℕ) (r : Outer) → list_any (λ y. bytes_eq y r.variable) xs ≡ true → is_loop_among names r ≡ true)
+        → Each (λ (x : List ℕ). (r : Outer) → bytes_eq r.variable x ≡ true → is_loop_among names r ≡ true) xs
     each [] h = tt
     each (x ∷ xs) h = (
       λ r e. h x r (any_here (bytes_eq x r.variable) (list_any (λ y. bytes_eq y r.variable) xs) ((bytes_eq-Decides x r.variable).1 (sym ((bytes_eq-Decides r.variable x).0 e)))),
@@ -181,10 +181,10 @@ pub record IsBound (symbols : List (List ℕ)) (round : List NormalLoop) (e : Ex
   pub adds : AddsUpTo (length symbols) (with_counters round (affine_of (length round) form)) f
   pub past : (i : ℕ) → length symbols + 7 ≤ i → At f.coefficients i ≡ pos 0
 
-small_values : (k : ℕ) (a : Affine) (round : List NormalLoop) → ((j : ℕ) → is_small (at a (place.Loop j)) ≡ true)
-    → list_all has_small_factor (values_from k a round ++ times (pos 1) (without_loops a) ∷ []) ≡ true
+small_values : (k : ℕ) (a : Affine) (round : List NormalLoop) → ((j : ℕ) → is_small (number_of_place a (place.Loop j)) ≡ true)
+    → list_all has_small_factor (variable_values_from k a round ++ times (pos 1) (without_loops a) ∷ []) ≡ true
 small_values k a [] h = refl
-small_values k a (r ∷ rs) h = ap (λ b. b && list_all has_small_factor (values_from (k + 1) a rs ++ times (pos 1) (without_loops a) ∷ [])) (h k) ∙ small_values (k + 1) a rs h
+small_values k a (r ∷ rs) h = ap (λ b. b && list_all has_small_factor (variable_values_from (k + 1) a rs ++ times (pos 1) (without_loops a) ∷ [])) (h k) ∙ small_values (k + 1) a rs h
 
 take_small : (n : ℕ) (cs : List ℤ) → all_small cs ≡ true → all_small (take n cs) ≡ true
 take_small zero cs h = refl
@@ -201,7 +201,7 @@ form_small loops symbols e f h = by (nat_le (length loops) 7) h
 
 module _ (symbols : List (List ℕ)) (round : List NormalLoop) (around : List Outer) (stand : AllStand (length symbols) round around) (deep : length round ≤ 7) (e : Expression) where
   abbrev few : List Outer
-  few = filter (is_among (names_in e)) around
+  few = filter (is_loop_among (names_in e)) around
 
   count_marks : (asked : Outer → Bool) (rs : List Outer) → length (map asked rs) ≡ length rs
   count_marks asked rs = length-map rs asked
@@ -215,27 +215,27 @@ module _ (symbols : List (List ℕ)) (round : List NormalLoop) (around : List Ou
       by false h = h
 
   -- over the loops that stand in it, and over all
-  module _ (g f : Form) (spreads : Spreads (map (is_among (names_in e)) around) g f) (is : form_of (variables_of round) symbols e ≡ Some f) where
-    loops_are : (i : ℕ) → i < length round → at (affine_of (length round) f) (place.Loop (0 + i)) ≡ At f.coefficients i
-    loops_are i l = ap (λ m. at (affine_of (length round) f) (place.Loop m)) (let s : 0 + i ≡ i = omega arith in s) ∙ get_or-take (length round) f.coefficients i (pos 0) l
+  module _ (g f : Form) (spreads : Spreads (map (is_loop_among (names_in e)) around) g f) (is : form_of (variables_of round) symbols e ≡ Some f) where
+    loops_are : (i : ℕ) → i < length round → number_of_place (affine_of (length round) f) (place.Loop (0 + i)) ≡ At f.coefficients i
+    loops_are i l = ap (λ m. number_of_place (affine_of (length round) f) (place.Loop m)) (let s : 0 + i ≡ i = omega arith in s) ∙ get_or-take (length round) f.coefficients i (pos 0) l
 
     rest_are : (j : ℕ) → At (drop (length round) f.coefficients) j ≡ At (drop (length few) g.coefficients) j
     rest_are j =
-        ap (λ m. At (drop m f.coefficients) j) (same_length (length symbols) round around stand ∙ sym (count_marks (is_among (names_in e)) around))
-        ∙ spread_rest (map (is_among (names_in e)) around) g.coefficients f.coefficients spreads.coefficients j
-        ∙ ap (λ m. At (drop m g.coefficients) j) (count_few (is_among (names_in e)) around)
+        ap (λ m. At (drop m f.coefficients) j) (same_length (length symbols) round around stand ∙ sym (count_marks (is_loop_among (names_in e)) around))
+        ∙ spread_rest (map (is_loop_among (names_in e)) around) g.coefficients f.coefficients spreads.coefficients j
+        ∙ ap (λ m. At (drop m g.coefficients) j) (count_few (is_loop_among (names_in e)) around)
 
     -- what both are at a place
-    at_place : (p : Place) (q : Form → ℤ) → ((f g : Form) (z : ℤ) → q (sum f (multiple z g)) ≡ q f +ℤ z *ℤ q g) → ((b : Affine) (h : Form) → IsSame (length symbols) b h → at b p ≡ q h)
-        → at (without_loops (affine_of (length round) f)) p ≡ q (outer.without_loops (length symbols) (length few) g)
+    at_place : (p : Place) (q : Form → ℤ) → ((f g : Form) (z : ℤ) → q (sum f (multiple z g)) ≡ q f +ℤ z *ℤ q g) → ((b : Affine) (h : Form) → IsSame (length symbols) b h → number_of_place b p ≡ q h)
+        → number_of_place (without_loops (affine_of (length round) f)) p ≡ q (outer.symbol_terms (length symbols) (length few) g)
         → combined_at (with_counters round (affine_of (length round) f)) p ≡ q (composed (length symbols) few g)
     at_place p q adds same rest =
-        joined_at (values_from 0 (affine_of (length round) f) round) (times (pos 1) (without_loops (affine_of (length round) f)) ∷ []) p
-        ∙ ap (λ z. z +ℤ (pos 1 *ℤ at (without_loops (affine_of (length round) f)) p +ℤ pos 0))
+        joined_at (variable_values_from 0 (affine_of (length round) f) round) (times (pos 1) (without_loops (affine_of (length round) f)) ∷ []) p
+        ∙ ap (λ z. z +ℤ (pos 1 *ℤ number_of_place (without_loops (affine_of (length round) f)) p +ℤ pos 0))
         (values_total p q 0 (affine_of (length round) f) round around f.coefficients loops_are (all_at (length symbols) p q same round around stand)
-        ∙ sym (spread_total (is_among (names_in e)) q around g.coefficients f.coefficients spreads.coefficients))
-        ∙ turned_round (at (without_loops (affine_of (length round) f)) p) (total g.coefficients few q) (q (outer.without_loops (length symbols) (length few) g)) rest
-        ∙ sym (multiples_total q adds (outer.without_loops (length symbols) (length few) g) g.coefficients few)
+        ∙ sym (spread_total (is_loop_among (names_in e)) q around g.coefficients f.coefficients spreads.coefficients))
+        ∙ turned_round (number_of_place (without_loops (affine_of (length round) f)) p) (total g.coefficients few q) (q (outer.symbol_terms (length symbols) (length few) g)) rest
+        ∙ sym (multiples_total q adds (outer.symbol_terms (length symbols) (length few) g) g.coefficients few)
 
     adds_up : AddsUpTo (length symbols) (with_counters round (affine_of (length round) f)) (composed (length symbols) few g)
     adds_up = record {
@@ -253,7 +253,7 @@ module _ (symbols : List (List ℕ)) (round : List NormalLoop) (around : List Ou
       factors = small_values 0 (affine_of (length round) f) round (small_at (take (length round) f.coefficients) (take_small (length round) f.coefficients (form_small (variables_of round) symbols e f is)));
       adds = adds_up;
       past = λ i l.
-          multiples_total (λ (h : Form). At h.coefficients i) (λ x y z. sum_at x y z i) (outer.without_loops (length symbols) (length few) g) g.coefficients few
+          multiples_total (λ (h : Form). At h.coefficients i) (λ x y z. sum_at x y z i) (outer.symbol_terms (length symbols) (length few) g) g.coefficients few
           ∙ ap₂ (λ x y. x +ℤ y) (filled_past (length symbols) (drop (length few) g.coefficients) i (omega (arith, l)))
           (total_zero (λ (h : Form). At h.coefficients i) few g.coefficients (those_past i (forms_past (length symbols) i l round around stand)))
           ∙ no_zeros;
@@ -265,23 +265,23 @@ module _ (symbols : List (List ℕ)) (round : List NormalLoop) (around : List Ou
         those_past : (i : ℕ) → Each (λ (o : Outer). At o.form.coefficients i ≡ pos 0) around → Each (λ (o : Outer). At o.form.coefficients i ≡ pos 0) few
         those_past i h = among around h
           where
-            among : (rs : List Outer) → Each (λ (o : Outer). At o.form.coefficients i ≡ pos 0) rs → Each (λ (o : Outer). At o.form.coefficients i ≡ pos 0) (filter (is_among (names_in e)) rs)
+            among : (rs : List Outer) → Each (λ (o : Outer). At o.form.coefficients i ≡ pos 0) rs → Each (λ (o : Outer). At o.form.coefficients i ≡ pos 0) (filter (is_loop_among (names_in e)) rs)
             among [] h = tt
-            among (r ∷ rs) h = by (is_among (names_in e) r) (among rs h.1)
+            among (r ∷ rs) h = by (is_loop_among (names_in e) r) (among rs h.1)
               where
-                by : (b : Bool) → Each (λ (o : Outer). At o.form.coefficients i ≡ pos 0) (filter (is_among (names_in e)) rs)
-                    → Each (λ (o : Outer). At o.form.coefficients i ≡ pos 0) (cond b (r ∷ filter (is_among (names_in e)) rs) (filter (is_among (names_in e)) rs))
+                by : (b : Bool) → Each (λ (o : Outer). At o.form.coefficients i ≡ pos 0) (filter (is_loop_among (names_in e)) rs)
+                    → Each (λ (o : Outer). At o.form.coefficients i ≡ pos 0) (cond b (r ∷ filter (is_loop_among (names_in e)) rs) (filter (is_loop_among (names_in e)) rs))
                 by true k = (h.0, k)
                 by false k = k
 
-  pub bound_is : (f : Form) → outer.bound_form symbols around e ≡ Some f → IsBound symbols round e f
-  bound_is f h = by (form_of (outer.variables_of few) symbols e) refl h
+  pub bound_is : (f : Form) → outer.composed_bound symbols around e ≡ Some f → IsBound symbols round e f
+  bound_is f h = by (form_of (outer.outer_variables_of few) symbols e) refl h
     where
-      by : (o : Option Form) → form_of (outer.variables_of few) symbols e ≡ o → option_map (composed (length symbols) few) o ≡ Some f → IsBound symbols round e f
+      by : (o : Option Form) → form_of (outer.outer_variables_of few) symbols e ≡ o → option_map (composed (length symbols) few) o ≡ Some f → IsBound symbols round e f
       by None g k = let no : ⊥ = cc in absurd no
       by (Some c) g k =
           let same : composed (length symbols) few c ≡ f = cc in
           let count = same_length (length symbols) round around stand in
-          let w = whole_form (is_among (names_in e)) symbols around e c (omega (arith, deep, count)) (passes (names_in e)) g in
+          let w = whole_form (is_loop_among (names_in e)) symbols around e c (omega (arith, deep, count)) (passes (names_in e)) g in
           let is : form_of (variables_of round) symbols e ≡ Some w.form = ap (λ xs. form_of xs symbols e) (same_variables (length symbols) round around stand) ∙ w.is in
           subst (IsBound symbols round e) same (bound_by c w.form w.spreads is)

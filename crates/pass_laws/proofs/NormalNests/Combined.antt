@@ -19,7 +19,7 @@ use Rattle.find_nests.proofs.BoundLimits.Lists.{get_or-added, get_or-scaled}
 use Rattle.last_values.specs.declared.normal_forms.combinations.Multiple.{Multiple}
 use Rattle.last_values.specs.declared.normal_forms.places.Place.{Place}
 use Rattle.last_values.specs.declared.normal_forms.places.Place.TheVariants as place
-use Rattle.last_values.specs.normal_forms.Combinations.{coefficient_in, at, combined_at, with_number, all_within, seven, no_terms, with_symbols, form_with, has_small_factor, combination, times}
+use Rattle.last_values.specs.normal_forms.Combinations.{coefficient_in, number_of_place, combined_at, with_number, all_within, seven, no_terms, with_symbol_terms, form_with, has_small_factor, combination, times}
 use Rattle.last_values.specs.normal_forms.Numbers.{values_from}
 use Rattle.last_values.proofs.NormalForms.Numbers.{places_of, looked_up}
 use Rattle.pass_laws.proofs.ReadyNests.Sums.{sum_of, symbols-pushed}
@@ -56,7 +56,7 @@ within_all (z ∷ zs) h =
 
 record IsThere (n : ℕ) (f : ℕ → ℤ) : Type 0 where
   terms : Terms
-  is : with_symbols f n 0 no_terms ≡ Some terms
+  is : with_symbol_terms f n 0 no_terms ≡ Some terms
 
 pushed_there : (n : ℕ) (f : ℕ → ℤ) → all_small (values_from n 0 f) ≡ true → not_zero (values_from n 0 f) ≤ 8 → IsThere n f
 pushed_there n f s c =
@@ -88,8 +88,8 @@ has_sum n ts h =
     record {
       form = record { loops = seven (λ k. combined_at ts (place.Loop k)); syms = t.terms.at; constant = combined_at ts place.Constant };
       is =
-          ap (λ b. cond b (form_with (all_within (seven (λ k. combined_at ts (place.Loop k)))) (with_symbols (λ j. combined_at ts (place.Symbol j)) n 0 no_terms) (small_or_none (combined_at ts place.Constant))) None) h.factors
-          ∙ (ap (λ o. form_with o (with_symbols (λ j. combined_at ts (place.Symbol j)) n 0 no_terms) (small_or_none (combined_at ts place.Constant)))
+          ap (λ b. cond b (form_with (all_within (seven (λ k. combined_at ts (place.Loop k)))) (with_symbol_terms (λ j. combined_at ts (place.Symbol j)) n 0 no_terms) (small_or_none (combined_at ts place.Constant))) None) h.factors
+          ∙ (ap (λ o. form_with o (with_symbol_terms (λ j. combined_at ts (place.Symbol j)) n 0 no_terms) (small_or_none (combined_at ts place.Constant)))
           (within_all (seven (λ k. combined_at ts (place.Loop k))) (all_small-seven (λ k. combined_at ts (place.Loop k)) h.loops))
           ∙ (ap (λ o. form_with (Some (seven (λ k. combined_at ts (place.Loop k)))) o (small_or_none (combined_at ts place.Constant))) t.is
           ∙ ap (λ o. form_with (Some (seven (λ k. combined_at ts (place.Loop k)))) (Some t.terms) o) (small_or (combined_at ts place.Constant) h.constant)));
@@ -98,9 +98,9 @@ has_sum n ts h =
 -- ---- a form as a plain form: its places are the symbols, of which there are n, and behind them the loops
 
 pub record IsSame (n : ℕ) (a : Affine) (f : Form) : Type 0 where
-  pub symbols : (j : ℕ) → j < n → at a (place.Symbol j) ≡ At f.coefficients j
-  pub loops : (k : ℕ) → k < 7 → at a (place.Loop k) ≡ At f.coefficients (n + k)
-  pub constant : at a place.Constant ≡ f.constant
+  pub symbols : (j : ℕ) → j < n → number_of_place a (place.Symbol j) ≡ At f.coefficients j
+  pub loops : (k : ℕ) → k < 7 → number_of_place a (place.Loop k) ≡ At f.coefficients (n + k)
+  pub constant : number_of_place a place.Constant ≡ f.constant
 
 -- the same of a sum
 pub record AddsUpTo (n : ℕ) (ts : List Multiple) (f : Form) : Type 0 where
@@ -114,7 +114,7 @@ values_past (suc n) j zero f h = absurd (omega (arith, h))
 values_past (suc n) j (suc i) f h = values_past n (j + 1) i f (omega (arith, h))
 
 -- behind its symbols a sum has none
-pub sum_past : (n : ℕ) (ts : List Multiple) (a : Affine) → combination n ts ≡ Some a → (j : ℕ) → n ≤ j → at a (place.Symbol j) ≡ pos 0
+pub sum_past : (n : ℕ) (ts : List Multiple) (a : Affine) → combination n ts ≡ Some a → (j : ℕ) → n ≤ j → number_of_place a (place.Symbol j) ≡ pos 0
 sum_past n ts a h j l =
     let s = sum_of n ts a h in
     let zeros = looked_up 0 s.symbols (8 - length (terms_from 0 s.symbols)) j j (omega arith) in
@@ -226,16 +226,16 @@ sum_at f g z i = get_or-added f.coefficients (map (λ a. z *ℤ a) g.coefficient
 
 pub one_adds : (n : ℕ) (z : ℤ) (a : Affine) (f : Form) → IsSame n a f → AddsUpTo n (times z a ∷ []) (multiple z f)
 one_adds n z a f s = record {
-  symbols = λ j l. one_number z (at a (place.Symbol j)) (At f.coefficients j) (s.symbols j l) ∙ sym (get_or-scaled z f.coefficients j);
-  loops = λ k l. one_number z (at a (place.Loop k)) (At f.coefficients (n + k)) (s.loops k l) ∙ sym (get_or-scaled z f.coefficients (n + k));
-  constant = one_number z (at a place.Constant) f.constant s.constant;
+  symbols = λ j l. one_number z (number_of_place a (place.Symbol j)) (At f.coefficients j) (s.symbols j l) ∙ sym (get_or-scaled z f.coefficients j);
+  loops = λ k l. one_number z (number_of_place a (place.Loop k)) (At f.coefficients (n + k)) (s.loops k l) ∙ sym (get_or-scaled z f.coefficients (n + k));
+  constant = one_number z (number_of_place a place.Constant) f.constant s.constant;
 }
 
 pub two_add : (n : ℕ) (z : ℤ) (a b : Affine) (f g : Form) → IsSame n a f → IsSame n b g → AddsUpTo n (times (pos 1) a ∷ times z b ∷ []) (sum f (multiple z g))
 two_add n z a b f g s t = record {
-  symbols = λ j l. two_numbers z (at a (place.Symbol j)) (at b (place.Symbol j)) (At f.coefficients j) (At g.coefficients j) (s.symbols j l) (t.symbols j l) ∙ sym (sum_at f g z j);
-  loops = λ k l. two_numbers z (at a (place.Loop k)) (at b (place.Loop k)) (At f.coefficients (n + k)) (At g.coefficients (n + k)) (s.loops k l) (t.loops k l) ∙ sym (sum_at f g z (n + k));
-  constant = two_numbers z (at a place.Constant) (at b place.Constant) f.constant g.constant s.constant t.constant;
+  symbols = λ j l. two_numbers z (number_of_place a (place.Symbol j)) (number_of_place b (place.Symbol j)) (At f.coefficients j) (At g.coefficients j) (s.symbols j l) (t.symbols j l) ∙ sym (sum_at f g z j);
+  loops = λ k l. two_numbers z (number_of_place a (place.Loop k)) (number_of_place b (place.Loop k)) (At f.coefficients (n + k)) (At g.coefficients (n + k)) (s.loops k l) (t.loops k l) ∙ sym (sum_at f g z (n + k));
+  constant = two_numbers z (number_of_place a place.Constant) (number_of_place b place.Constant) f.constant g.constant s.constant t.constant;
 }
 
 -- ---- terms behind others
@@ -245,7 +245,7 @@ joined_at [] us p = nothing (combined_at us p)
   where
     nothing : (z : ℤ) → z ≡ pos 0 +ℤ z
     nothing z = omega (arith, ints)
-joined_at (t ∷ ts) us p = ap (λ z. t.times *ℤ at t.form p +ℤ z) (joined_at ts us p) ∙ grouped (t.times *ℤ at t.form p) (combined_at ts p) (combined_at us p)
+joined_at (t ∷ ts) us p = ap (λ z. t.times *ℤ number_of_place t.form p +ℤ z) (joined_at ts us p) ∙ grouped (t.times *ℤ number_of_place t.form p) (combined_at ts p) (combined_at us p)
   where
     grouped : (x y z : ℤ) → x +ℤ (y +ℤ z) ≡ (x +ℤ y) +ℤ z
     grouped x y z = omega (arith, ints)

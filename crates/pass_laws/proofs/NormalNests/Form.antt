@@ -2,7 +2,7 @@
 use Rattle.std.proofs.Common.{◌≡◌, refl, sym, ap, ◌∙◌, Bool, true, false, cond, List, [], ◌∷◌, ◌++◌, length, Option, Some, None}
 use Rattle.std.specs.Prelude.{IsSome}
 use Rattle.nest.specs.Plain.{Loop, Nest, Part, Turns, Parts, parts}
-use Rattle.find_nests.specs.nest_parts.Numbers.{next}
+use Rattle.find_nests.specs.nest_parts.Numbers.{next_loop_number}
 use Rattle.find_nests.specs.nest_parts.Statements.{source_loop, parts_of_block}
 use Rattle.find_nests.proofs.FoundLaws.{found_nest_is_loop}
 use Rattle.last_values.specs.Behind.{stands_behind}
@@ -60,5 +60,5 @@ found_nest_has_normal_form d p n is h = by (normalised n) refl (normalised_is_th
     by (Some m) e k =
         let f = found_nest_is_loop p n h in
         let q = f.loop.loop in
-        let turns = is_turns n m (source_loop (next q.before) q.loop.variable q.loop.first q.loop.last q.loop.step) (parts (parts_of_block (next q.before) q.loop.body)) (ap (λ (k : Nest). k.body) f.is) e in
+        let turns = is_turns n m (source_loop (next_loop_number q.before) q.loop.variable q.loop.first q.loop.last q.loop.step) (parts (parts_of_block (next_loop_number q.before) q.loop.body)) (ap (λ (k : Nest). k.body) f.is) e in
         record { normal = m; is = e; loop = turns.loop; parts = turns.parts; body = turns.is }

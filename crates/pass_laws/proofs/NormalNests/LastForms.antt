@@ -17,7 +17,7 @@ use Rattle.last_values.specs.declared.normal_forms.last.LastForms.{LastForms}
 use Rattle.last_values.specs.declared.normal_forms.loops.NormalLoop.{NormalLoop}
 use Rattle.last_values.specs.declared.normal_forms.places.Place.TheVariants as place
 use Rattle.last_values.specs.normal_forms.Steps.{◌>>=◌}
-use Rattle.last_values.specs.normal_forms.Combinations.{coefficient_in, at, combined_at, combination, has_small_factor, number_form, seven, times, without_loops}
+use Rattle.last_values.specs.normal_forms.Combinations.{coefficient_in, number_of_place, combined_at, combination, has_small_factor, number_form, seven, times, without_loops}
 use Rattle.last_values.specs.normal_forms.NormalLoops.{is_constant, trip_of, trip_form, plus_multiple}
 use Rattle.last_values.specs.normal_forms.LastValues.{with_trips, last_forms}
 use Rattle.last_values.specs.normal_forms.Numbers.{values_from}
@@ -115,10 +115,10 @@ module _ (n m : ℕ) (a : Affine) (h : IsPlain n a) (more : n ≤ m) where
   ts = times (pos 1) (without_loops a) ∷ []
 
   symbol_at : (j : ℕ) → combined_at ts (place.Symbol j) ≡ At h.symbols j
-  symbol_at j = one_of (at a (place.Symbol j)) ∙ ap (λ us. coefficient_in us j) h.syms ∙ looked_up 0 h.symbols (8 - length (terms_from 0 h.symbols)) j j (omega arith)
+  symbol_at j = one_of (number_of_place a (place.Symbol j)) ∙ ap (λ us. coefficient_in us j) h.syms ∙ looked_up 0 h.symbols (8 - length (terms_from 0 h.symbols)) j j (omega arith)
 
   loop_at : (k : ℕ) → combined_at ts (place.Loop k) ≡ pos 0
-  loop_at k = one_of (at (without_loops a) (place.Loop k)) ∙ without_at a k
+  loop_at k = one_of (number_of_place (without_loops a) (place.Loop k)) ∙ without_at a k
 
   all_values : (i : ℕ) → At (values_from m 0 (λ j. combined_at ts (place.Symbol j))) i ≡ At h.symbols i
   all_values i = by (cases_lt i m)

@@ -17,14 +17,14 @@ use Rattle.nest.specs.Plain.{Loop}
 use Rattle.nest.specs.declared.parts.Trip.{Trip}
 use Rattle.find_nests.specs.bound_limits.Composed as outer
 use Rattle.find_nests.specs.bound_limits.Composed.{Outer}
-use Rattle.find_nests.specs.bound_limits.Limits.{keeps_limits, plus_constant, difference, is_constant, dividend, folded, end_keeps_limits, normal, all_keep_limits}
+use Rattle.find_nests.specs.bound_limits.Limits.{keeps_limits, plus_constant, difference, is_constant_form, dividend, folded, end_keeps_limits, normal, all_keep_limits}
 use Rattle.find_nests.proofs.BoundLimits.Lists.{get_or-scaled, added-nil}
 use Rattle.find_nests.proofs.BoundLimits.LimitLaws.{abs-neg}
 use Rattle.last_values.specs.declared.normal_forms.combinations.Multiple.{Multiple}
 use Rattle.last_values.specs.declared.normal_forms.loops.NormalLoop.{NormalLoop}
 use Rattle.last_values.specs.declared.normal_forms.places.Place.TheVariants as place
 use Rattle.last_values.specs.normal_forms.Steps.{◌>>=◌}
-use Rattle.last_values.specs.normal_forms.Combinations.{coefficient_in, at, combined_at, combination, has_small_factor, affine_of, number_form, times}
+use Rattle.last_values.specs.normal_forms.Combinations.{coefficient_in, number_of_place, combined_at, combination, has_small_factor, affine_of, number_form, times}
 use Rattle.last_values.specs.normal_forms.NormalLoops as loops
 use Rattle.last_values.specs.normal_forms.NormalLoops.{variables_of, with_counters, bound_form, one_at, loop_form, symbol_form, is_zero, has_no_loops, has_no_symbols, trip_of, trip_form, is_undivided, is_suitable, plus_number, plus_multiple, sign_of, trip_by, with_forms, forms_by_trip, forms_by_first, forms_of, normal_loop}
 use Rattle.last_values.specs.normal_forms.Numbers.{values_from}
@@ -37,7 +37,7 @@ use Rattle.pass_laws.proofs.NormalNests.Spread.{At, small_at, no_zero, alike_not
 
 -- ---- simple forms
 
-no_symbol : (j : ℕ) → at (number_form (pos 0)) (place.Symbol j) ≡ pos 0
+no_symbol : (j : ℕ) → number_of_place (number_form (pos 0)) (place.Symbol j) ≡ pos 0
 no_symbol j = none_among_zeros 8 j
 
 number_is : (n : ℕ) (z : ℤ) → IsSame n (number_form z) (constant_form z)
@@ -309,18 +309,18 @@ module _ (n : ℕ) (ts : List Multiple) (a : Affine) (f : Form) (is : combinatio
       no_value j = value_zero n 0 (λ i. combined_at ts (place.Symbol i)) (λ i l. sym ((places_of n ts a is).symbols i (omega (arith, l))) ∙ same.symbols i (omega (arith, l)) ∙ h i) j
 
   -- both are constant, or none is
-  constants_agree : (b c : Bool) → loops.is_constant a ≡ b → is_constant f ≡ c → b ≡ c
+  constants_agree : (b c : Bool) → loops.is_constant a ≡ b → is_constant_form f ≡ c → b ≡ c
   constants_agree true true e g = refl
-  constants_agree true false e g = let yes : is_constant f ≡ true = eq-eqb (not_zero f.coefficients) 0 (no_zero f.coefficients (constant_then_none e)) in let no : ⊥ = cc in absurd no
+  constants_agree true false e g = let yes : is_constant_form f ≡ true = eq-eqb (not_zero f.coefficients) 0 (no_zero f.coefficients (constant_then_none e)) in let no : ⊥ = cc in absurd no
   constants_agree false true e g = let yes : loops.is_constant a ≡ true = none_then_constant (none_by_count f.coefficients (eqb-true (not_zero f.coefficients) 0 g)) in let no : ⊥ = cc in absurd no
   constants_agree false false e g = refl
 
 -- ---- the last value
 
-symbol_here : (n : ℕ) → at (symbol_form n) (place.Symbol n) ≡ pos 1
+symbol_here : (n : ℕ) → number_of_place (symbol_form n) (place.Symbol n) ≡ pos 1
 symbol_here n = ap (λ b. cond b (pos 1) (coefficient_in (replicate 7 (0, pos 0)) n)) (eq-eqb n n refl)
 
-symbol_other : (n j : ℕ) → j < n → at (symbol_form n) (place.Symbol j) ≡ pos 0
+symbol_other : (n j : ℕ) → j < n → number_of_place (symbol_form n) (place.Symbol j) ≡ pos 0
 symbol_other n j l = by (n == j) refl
   where
     by : (b : Bool) → (n == j) ≡ b → cond b (pos 1) (coefficient_in (replicate 7 (0, pos 0)) j) ≡ pos 0
@@ -339,7 +339,7 @@ module _ (n : ℕ) (step : ℤ) (ts : List Multiple) (first : Affine) (f : Form)
   factors t = ap (λ b. b && true) small
 
   -- the trip is a form of n symbols
-  plain_end : (t : Affine) (g : Form) → IsSame n t g → at t (place.Symbol n) ≡ pos 0 → IsWithin n (sum f (multiple step g)) → HasSum (n + 1) (times (pos 1) first ∷ times step t ∷ [])
+  plain_end : (t : Affine) (g : Form) → IsSame n t g → number_of_place t (place.Symbol n) ≡ pos 0 → IsWithin n (sum f (multiple step g)) → HasSum (n + 1) (times (pos 1) first ∷ times step t ∷ [])
   plain_end t g s none w =
       let kept = sum_within n (times (pos 1) first ∷ times step t ∷ []) (sum f (multiple step g)) (factors t) (two_add n step first t f g same s) w in
       let none_here : combined_at (times (pos 1) first ∷ times step t ∷ []) (place.Symbol n) ≡ pos 0 = ap₂ (λ x y. pos 1 *ℤ x +ℤ (step *ℤ y +ℤ pos 0)) (sum_past n ts first is n (omega arith)) none ∙ nothing step in
@@ -411,7 +411,7 @@ pub record IsTurned (symbols : List (List ℕ)) (round : List NormalLoop) (l : L
   pub past : (i : ℕ) → length symbols + 7 ≤ i → At (normal (length symbols + length round) l.step f).coefficients i ≡ pos 0
 
 module _ (symbols : List (List ℕ)) (round : List NormalLoop) (around : List Outer) (l : Loop) (f g : Form) (stand : AllStand (length symbols) round around) (deep : length round < 7)
-    (zeros : HaveZeros (length round) round) (first_is : outer.bound_form symbols around l.first ≡ Some f) (last_is : outer.bound_form symbols around l.last ≡ Some g)
+    (zeros : HaveZeros (length round) round) (first_is : outer.composed_bound symbols around l.first ≡ Some f) (last_is : outer.composed_bound symbols around l.last ≡ Some g)
     (kept : all_keep_limits (length symbols) l.step f g ≡ true) (nonzero : not (is_zero l.step) ≡ true) (small : is_small l.step ≡ true) where
   abbrev n : ℕ
   n = length symbols
@@ -574,9 +574,9 @@ module _ (symbols : List (List ℕ)) (round : List NormalLoop) (around : List Ou
   whole_trip = trip_of made_trip.form (pos (nat_abs z))
 
   has_end : HasSum (n + 1) (times (pos 1) made_first.form ∷ times z (trip_form n whole_trip) ∷ [])
-  has_end = by (loops.is_constant made_trip.form) (is_constant top) refl (constants_agree n trip_terms made_trip.form top made_trip.is made_trip.same top_past (loops.is_constant made_trip.form) (is_constant top) refl refl)
+  has_end = by (loops.is_constant made_trip.form) (is_constant_form top) refl (constants_agree n trip_terms made_trip.form top made_trip.is made_trip.same top_past (loops.is_constant made_trip.form) (is_constant_form top) refl refl)
     where
-      ended : (c : Bool) → is_constant top ≡ c
+      ended : (c : Bool) → is_constant_form top ≡ c
           → cond c (keeps_limits n 0 (plus_constant f (z *ℤ folded z top))) (cond (nat_abs z == 1) (keeps_limits n 0 (sum f (multiple z top))) (keeps_limits n 1 f)) ≡ true
       ended c e = sym (ap (λ b. cond b (keeps_limits n 0 (plus_constant f (z *ℤ folded z top))) (cond (nat_abs z == 1) (keeps_limits n 0 (sum f (multiple z top))) (keeps_limits n 1 f))) e) ∙ limits.3
 
@@ -594,7 +594,7 @@ module _ (symbols : List (List ℕ)) (round : List NormalLoop) (around : List Ou
           let w = one_within n f h in
           divided_end n z first_terms made_first.form f made_first.is made_first.same small w.0 w.1
 
-      by : (b c : Bool) → is_constant top ≡ c → b ≡ c
+      by : (b c : Bool) → is_constant_form top ≡ c → b ≡ c
           → HasSum (n + 1) (times (pos 1) made_first.form ∷ times z (trip_form n (cond b (record { top = number_form (int_div made_trip.form.constant (pos (nat_abs z))); by = pos 1 }) (record { top = made_trip.form; by = pos (nat_abs z) }))) ∷ [])
       by true true e s =
           plain_end n z first_terms made_first.form f made_first.is made_first.same small (number_form (int_div made_trip.form.constant (pos (nat_abs z)))) (constant_form (int_div made_trip.form.constant (pos (nat_abs z))))

@@ -10,6 +10,7 @@ use Rattle.tree.specs.declared.ops.Value.{Value}
 use Rattle.tree.specs.declared.ops.Value.TheVariants.{Int}
 use Rattle.tree.specs.Plain.{Expression, Number, Logic, Named, Unary, Binary, Apply, Constructor, Spread, Transpose, Reshape, Reduce, Expressions, no_expressions, expression, no_subscripts, subscript}
 use Rattle.meaning.specs.Dialect.{fortran77}
+use Rattle.tree.specs.declared.width.Width.TheVariants.{Plain}
 use Rattle.meaning.specs.Reads.{names_in, names_in_each}
 use Rattle.meaning.specs.Store.{cell_at}
 use Rattle.meaning.specs.Value.{value_of, values_of, subscript_values}
@@ -24,21 +25,21 @@ nothing_joined xs ys h k = ap (λ zs. zs ++ ys) h ∙ k
 -- ---- a constant has no names
 
 mutual
-  no_names : (e : Expression) (v : Value) → value_of fortran77 e no_store ≡ Ok v → names_in e ≡ []
+  no_names : (e : Expression) (v : Value) → value_of (fortran77 Plain) e no_store ≡ Ok v → names_in e ≡ []
   no_names (Number n) v h = refl
   no_names (Logic b) v h = refl
   no_names (Named x ps) v h =
-      let p = parted (subscript_values fortran77 ps no_store) (λ is. do c ← cell_at x is no_store; Ok (no_store.held c)) v h in
+      let p = parted (subscript_values (fortran77 Plain) ps no_store) (λ is. do c ← cell_at x is no_store; Ok (no_store.held c)) v h in
       let e = p.second in cc
   no_names (Unary o a) v h =
-      let p = parted (value_of fortran77 a no_store) (λ x. apply o x x) v h in
+      let p = parted (value_of (fortran77 Plain) a no_store) (λ x. apply o x x) v h in
       no_names a p.part p.first
   no_names (Binary o a b) v h =
-      let p = parted (value_of fortran77 a no_store) (λ x. do y ← value_of fortran77 b no_store; apply o x y) v h in
-      let q = parted (value_of fortran77 b no_store) (λ y. apply o p.part y) v p.second in
+      let p = parted (value_of (fortran77 Plain) a no_store) (λ x. do y ← value_of (fortran77 Plain) b no_store; apply o x y) v h in
+      let q = parted (value_of (fortran77 Plain) b no_store) (λ y. apply o p.part y) v p.second in
       nothing_joined (names_in a) (names_in b) (no_names a p.part p.first) (no_names b q.part q.first)
   no_names (Apply f es) v h =
-      let p = parted (values_of fortran77 es no_store) (λ xs. call f xs) v h in
+      let p = parted (values_of (fortran77 Plain) es no_store) (λ xs. call f xs) v h in
       no_names_each es p.part p.first
   no_names (Constructor es ls) v h = cc
   no_names (Spread a k b) v h = cc
@@ -46,11 +47,11 @@ mutual
   no_names (Reshape a es) v h = cc
   no_names (Reduce r a) v h = cc
 
-  no_names_each : (es : Expressions) (vs : List Value) → values_of fortran77 es no_store ≡ Ok vs → names_in_each es ≡ []
+  no_names_each : (es : Expressions) (vs : List Value) → values_of (fortran77 Plain) es no_store ≡ Ok vs → names_in_each es ≡ []
   no_names_each no_expressions vs h = refl
   no_names_each (expression e es) vs h =
-      let p = parted (value_of fortran77 e no_store) (λ x. do xs ← values_of fortran77 es no_store; Ok (x ∷ xs)) vs h in
-      let q = parted (values_of fortran77 es no_store) (λ xs. Ok (p.part ∷ xs)) vs p.second in
+      let p = parted (value_of (fortran77 Plain) e no_store) (λ x. do xs ← values_of (fortran77 Plain) es no_store; Ok (x ∷ xs)) vs h in
+      let q = parted (values_of (fortran77 Plain) es no_store) (λ xs. Ok (p.part ∷ xs)) vs p.second in
       nothing_joined (names_in e) (names_in_each es) (no_names e p.part p.first) (no_names_each es q.part q.first)
 
 -- ---- a linear expression has names of its places alone
@@ -65,7 +66,7 @@ module _ (loops : ℕ) (names : List (List ℕ)) (v : List ℕ) (free : is_among
       by false g more = more g
 
   free_constant : (e : Expression) (z : ℤ) → constant_of e ≡ Some z → is_among (names_in e) v ≡ false
-  free_constant e z h = ap (λ xs. is_among xs v) (no_names e (Int z) (as_constant-is (value_of fortran77 e no_store) z h))
+  free_constant e z h = ap (λ xs. is_among xs v) (no_names e (Int z) (as_constant-is (value_of (fortran77 Plain) e no_store) z h))
 
   free_unit : (ys : List (List ℕ)) (x : List ℕ) (cs : List ℤ) → is_among ys v ≡ false → unit ys x ≡ Some cs → bytes_eq x v ≡ false
   free_unit [] x cs f h = let no : ⊥ = cc in absurd no

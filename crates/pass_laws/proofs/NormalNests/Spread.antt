@@ -13,7 +13,7 @@ use Rattle.meaning.specs.Reads.{names_in}
 use Rattle.linear_forms.specs.Linear.{Form, added, sum, multiple, constant_form, is_small, all_small, not_zero, is_limited, limited, unit, with_zero, with_no_constant, form_of_name, form_of_sign, form_of_product, form_of_two, form_of_pair, constant_of, constant_or, linear, form_of}
 use Rattle.linear_forms.proofs.Sizes.{both}
 use Rattle.components.specs.Lists.{Each}
-use Rattle.find_nests.specs.bound_limits.Composed.{Outer, variables_of}
+use Rattle.find_nests.specs.bound_limits.Composed.{Outer, outer_variables_of}
 use Rattle.find_nests.proofs.BoundLimits.Lists.{get_or-added, get_or-scaled, added-nil}
 
 -- ---- lists of coefficients
@@ -220,10 +220,10 @@ module _ (asked : Outer → Bool) (symbols : List (List ℕ)) where
   Passes x = (r : Outer) → bytes_eq r.variable x ≡ true → asked r ≡ true
 
   abbrev few_names : List Outer → List (List ℕ)
-  few_names rs = variables_of (filter asked rs) ++ symbols
+  few_names rs = outer_variables_of (filter asked rs) ++ symbols
 
   abbrev all_names : List Outer → List (List ℕ)
-  all_names rs = variables_of rs ++ symbols
+  all_names rs = outer_variables_of rs ++ symbols
 
   abbrev marks : List Outer → List Bool
   marks rs = map asked rs
@@ -271,21 +271,21 @@ module _ (asked : Outer → Bool) (symbols : List (List ℕ)) where
       passed true e q w = let yes = p r e in let no : ⊥ = cc in absurd no
       passed false e q w = record { list = pos 0 ∷ w.list; is = ap with_zero w.is; spread = (refl, w.spread) }
 
-      by : (b : Bool) → asked r ≡ b → unit (variables_of (cond b (r ∷ filter asked rs) (filter asked rs)) ++ symbols) x ≡ Some cs
+      by : (b : Bool) → asked r ≡ b → unit (outer_variables_of (cond b (r ∷ filter asked rs) (filter asked rs)) ++ symbols) x ≡ Some cs
           → ((ds : List ℤ) → unit (few_names rs) x ≡ Some ds → WholeUnit (marks rs) (unit (all_names rs) x) ds)
           → WholeUnit (b ∷ marks rs) (unit (all_names (r ∷ rs)) x) cs
       by true e k more = first (bytes_eq r.variable x) refl k more
       by false e k more = passed (bytes_eq r.variable x) refl e (more cs k)
 
-  count_passing : (rs : List Outer) → length (variables_of (filter asked rs)) ≡ passing (marks rs)
+  count_passing : (rs : List Outer) → length (outer_variables_of (filter asked rs)) ≡ passing (marks rs)
   count_passing [] = refl
   count_passing (r ∷ rs) = by (asked r) (count_passing rs)
     where
-      by : (b : Bool) → length (variables_of (filter asked rs)) ≡ passing (marks rs) → length (variables_of (cond b (r ∷ filter asked rs) (filter asked rs))) ≡ passing (b ∷ marks rs)
+      by : (b : Bool) → length (outer_variables_of (filter asked rs)) ≡ passing (marks rs) → length (outer_variables_of (cond b (r ∷ filter asked rs) (filter asked rs))) ≡ passing (b ∷ marks rs)
       by true h = ap suc h
       by false h = h
 
-  count_all : (rs : List Outer) → length (variables_of rs) ≡ length (marks rs)
+  count_all : (rs : List Outer) → length (outer_variables_of rs) ≡ length (marks rs)
   count_all [] = refl
   count_all (r ∷ rs) = ap suc (count_all rs)
 
@@ -336,23 +336,23 @@ module _ (asked : Outer → Bool) (symbols : List (List ℕ)) where
     whole (Reshape a es) f p h = let no : ⊥ = cc in absurd no
     whole (Reduce r a) f p h = let no : ⊥ = cc in absurd no
 
-    pub whole_form : (e : Expression) (f : Form) → length rs ≤ 7 → Each (λ (x : List ℕ). Passes x) (names_in e) → form_of (variables_of (filter asked rs)) symbols e ≡ Some f
-        → Whole (marks rs) (form_of (variables_of rs) symbols e) f
-    whole_form e f few p h = by (nat_le (length (variables_of (filter asked rs))) 7) h
+    pub whole_form : (e : Expression) (f : Form) → length rs ≤ 7 → Each (λ (x : List ℕ). Passes x) (names_in e) → form_of (outer_variables_of (filter asked rs)) symbols e ≡ Some f
+        → Whole (marks rs) (form_of (outer_variables_of rs) symbols e) f
+    whole_form e f few p h = by (nat_le (length (outer_variables_of (filter asked rs))) 7) h
       where
-        here : nat_le (length (variables_of rs)) 7 ≡ true
-        here = le-leb (length (variables_of rs)) 7 (let a = count_all rs in let b = count_marks rs in omega (arith, few, a, b))
+        here : nat_le (length (outer_variables_of rs)) 7 ≡ true
+        here = le-leb (length (outer_variables_of rs)) 7 (let a = count_all rs in let b = count_marks rs in omega (arith, few, a, b))
           where
             count_marks : (qs : List Outer) → length (marks qs) ≡ length qs
             count_marks [] = refl
             count_marks (q ∷ qs) = ap suc (count_marks qs)
 
-        by : (b : Bool) → cond b (linear (length (variables_of (filter asked rs))) (few_names rs) e) None ≡ Some f → Whole (marks rs) (form_of (variables_of rs) symbols e) f
+        by : (b : Bool) → cond b (linear (length (outer_variables_of (filter asked rs))) (few_names rs) e) None ≡ Some f → Whole (marks rs) (form_of (outer_variables_of rs) symbols e) f
         by false k = let no : ⊥ = cc in absurd no
         by true k =
             let w = whole e f p (ap (λ n. linear n (few_names rs) e) (sym (count_passing rs)) ∙ k) in
             record {
               form = w.form;
-              is = ap (λ b. cond b (linear (length (variables_of rs)) (all_names rs) e) None) here ∙ (ap (λ n. linear n (all_names rs) e) (count_all rs) ∙ w.is);
+              is = ap (λ b. cond b (linear (length (outer_variables_of rs)) (all_names rs) e) None) here ∙ (ap (λ n. linear n (all_names rs) e) (count_all rs) ∙ w.is);
               spreads = w.spreads;
             }

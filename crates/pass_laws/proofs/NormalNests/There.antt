@@ -17,13 +17,13 @@ use Rattle.components.proofs.ListLaws.{Each-append}
 use Rattle.nest.specs.Plain.{Loop, Guarded, Nest, Part, Run, Turns, Choice, Label, Jump, Parts, no_parts, part, parts, Branches, no_branches, branch}
 use Rattle.nest_reasons.specs.Symbols.{is_integer_scalar, is_symbol, symbols_of}
 use Rattle.nest_reasons.specs.declared.flaws.Flaw.TheVariants as flaws
-use Rattle.find_nests.specs.nest_parts.Numbers.{next, after, after_arms, after_block}
+use Rattle.find_nests.specs.nest_parts.Numbers.{next_loop_number, number_after, after_arms, after_block}
 use Rattle.find_nests.specs.nest_parts.Statements.{source_loop, parts_of, branches_of, parts_of_block}
 use Rattle.find_nests.specs.bound_limits.Walks.{any_leaves}
 use Rattle.find_nests.specs.declared.reasons.Reason.{Reason}
 use Rattle.find_nests.specs.declared.reasons.Reason.TheVariants.{Bound, Step as Step', Deep}
 use Rattle.find_nests.specs.WalkedReasons.{finds, finds_flaw}
-use Rattle.find_nests.specs.Loops.{SourceLoop, Numbered, Placed, as_statement, loops_in, loops_in_arms, loops_in_block}
+use Rattle.find_nests.specs.Loops.{SourceLoop, Numbered, SurroundedLoop, as_statement, loops_in, loops_in_arms, loops_in_block}
 use Rattle.find_nests.specs.LookedAt.{reason_of}
 use Rattle.find_nests.specs.Found.{body_of, nest_of_loop}
 use Rattle.find_nests.proofs.FoundLaws.{found_nest_is_loop, no_reason_holds}
@@ -77,7 +77,7 @@ module _ (ds : List Declaration) (v : List ℕ) where
     others k (Assignment l mark left right) w i h = (tt, tt)
     others k (Where l mark mask left right) w i h = absurd h
     others k (If l arms rest) w i h = ((others_in_arms k arms w i h.2, others_in_block (after_arms k arms) rest w i h.3), tt)
-    others k (Do l x a b c body) w i h = ((other x w.variables i h.1.free, others_in_block (next k) body (within_loop x w) (there x w.variables v i) h.5), tt)
+    others k (Do l x a b c body) w i h = ((other x w.variables i h.1.free, others_in_block (next_loop_number k) body (within_loop x w) (there x w.variables v i) h.5), tt)
     others k (Label' n) w i h = (tt, tt)
     others k (GoTo l n) w i h = (tt, tt)
     others k (Stop l) w i h = tt
@@ -93,11 +93,11 @@ module _ (ds : List Declaration) (v : List ℕ) where
     others_in_block : (k : ℕ) (b : Block) (w : Surroundings) → Contains w.variables v → IsBlock ds b w → EachInParts any_statement (Other v) (parts (parts_of_block k b))
     others_in_block k no_statements w i h = tt
     others_in_block k (statement c cs) w i h =
-        followed (parts_of k c) (parts_of_block (after k c) cs) (others k c (before_labels (labels_of cs) w) i h.0) (others_in_block (after k c) cs w i h.1)
+        followed (parts_of k c) (parts_of_block (number_after k c) cs) (others k c (before_labels (labels_of cs) w) i h.0) (others_in_block (number_after k c) cs w i h.1)
 
 -- ---- the loops of a program
 
-record IsProper (ds : List Declaration) (q : Placed) : Type 0 where
+record IsProper (ds : List Declaration) (q : SurroundedLoop) : Type 0 where
   round : Surroundings
   body : IsBlock ds q.loop.loop.body (within_loop q.loop.loop.variable round)
 
@@ -111,7 +111,7 @@ module _ (ds : List Declaration) where
         (proper_arms k around arms w h.2) (proper_block (after_arms k arms) around rest w h.3)
     proper k around (Do l x a b c body) w h = (
       record { round = w; body = h.5 },
-      proper_block (next k) (around ++ record { line = l; variable = x; first = a; last = b; step = c; body = body } ∷ []) body (within_loop x w) h.5,
+      proper_block (next_loop_number k) (around ++ record { line = l; variable = x; first = a; last = b; step = c; body = body } ∷ []) body (within_loop x w) h.5,
     )
     proper k around (Label' n) w h = tt
     proper k around (GoTo l n) w h = tt
@@ -130,8 +130,8 @@ module _ (ds : List Declaration) where
     proper_block : (k : ℕ) (around : List SourceLoop) (b : Block) (w : Surroundings) → IsBlock ds b w → Each (IsProper ds) (loops_in_block k around b)
     proper_block k around no_statements w h = tt
     proper_block k around (statement c cs) w h =
-        Each-append (IsProper ds) (loops_in k around c) (loops_in_block (after k c) around cs)
-        (proper k around c (before_labels (labels_of cs) w) h.0) (proper_block (after k c) around cs w h.1)
+        Each-append (IsProper ds) (loops_in k around c) (loops_in_block (number_after k c) around cs)
+        (proper k around c (before_labels (labels_of cs) w) h.0) (proper_block (number_after k c) around cs w h.1)
 
 -- ---- which loops may end behind all loops
 
@@ -289,9 +289,9 @@ found_there p k q none h =
     let bound = neither (finds_flaw flaws.Bound symbols c) (not (finds_flaw flaws.Step symbols c) && any_leaves symbols [] c) (no Bound) in
     let kept : any_leaves symbols [] c ≡ false = ap (λ b. not b && any_leaves symbols [] c) (sym (no Step')) ∙ bound.1 in
     let normal = both (is_normal symbols [] (body_of q)) true (normal_alone symbols q.before c kept (no Deep)) in
-    nest_there (nest_of_loop p k q) (source_loop (next q.before) q.loop.variable q.loop.first q.loop.last q.loop.step) (parts (parts_of_block (next q.before) q.loop.body)) refl normal.0
+    nest_there (nest_of_loop p k q) (source_loop (next_loop_number q.before) q.loop.variable q.loop.first q.loop.last q.loop.step) (parts (parts_of_block (next_loop_number q.before) q.loop.body)) refl normal.0
     (no_symbol q.loop.variable (names_written_in q.loop.body) p.declarations)
-    (others_in_block p.declarations q.loop.variable (next q.before) q.loop.body (within_loop q.loop.variable h.round) (here q.loop.variable h.round.variables) h.body)
+    (others_in_block p.declarations q.loop.variable (next_loop_number q.before) q.loop.body (within_loop q.loop.variable h.round) (here q.loop.variable h.round.variables) h.body)
 
 pub normalised_is_there : NormalisedIsThere
 normalised_is_there d p n is h =

@@ -14,9 +14,9 @@ use Rattle.nest_reasons.specs.Increments.{step_of, suitable, suitable_or_none}
 use Rattle.nest_reasons.specs.Increments as increments
 use Rattle.nest_reasons.specs.Loops.{has_flaw}
 use Rattle.nest_reasons.specs.Walks.{any_loop, any_in_arms, any_in_block}
-use Rattle.find_nests.specs.nest_parts.Numbers.{next, after, after_arms, after_block}
+use Rattle.find_nests.specs.nest_parts.Numbers.{next_loop_number, number_after, after_arms, after_block}
 use Rattle.find_nests.specs.nest_parts.Statements.{source_loop, step_or_zero, parts_of, branches_of, parts_of_block}
-use Rattle.find_nests.specs.bound_limits.Composed.{Outer, bound_form}
+use Rattle.find_nests.specs.bound_limits.Composed.{Outer, composed_bound}
 use Rattle.find_nests.specs.bound_limits.Limits.{normal, all_keep_limits}
 use Rattle.find_nests.specs.bound_limits.Loops.{leaves_with, leaves_limits, normal_or_zero, as_outer}
 use Rattle.find_nests.specs.bound_limits.Walks.{any_leaves, any_leaves_arms, any_leaves_block}
@@ -44,9 +44,9 @@ record IsStep (z : ℤ) : Type 0 where
   small : is_small z ≡ true
 
 step_is : (z w : ℤ) → suitable z ≡ Some w → IsStep w
-step_is z w h = by (increments.is_suitable z) refl h
+step_is z w h = by (increments.is_suitable_increment z) refl h
   where
-    by : (b : Bool) → increments.is_suitable z ≡ b → cond b (Some z) None ≡ Some w → IsStep w
+    by : (b : Bool) → increments.is_suitable_increment z ≡ b → cond b (Some z) None ≡ Some w → IsStep w
     by true e k =
         let same : z ≡ w = cc in
         let p = both (not (int_eq z (pos 0))) (nat_le (nat_abs z) (2 ^ 31)) e in
@@ -106,7 +106,7 @@ module _ (symbols : List (List ℕ)) where
   loop_is : (round : List NormalLoop) (around : List Outer) (names : List (List ℕ)) (k : ℕ) (x : List ℕ) (a b c : Expression) → AreRound round around names
       → leaves_limits symbols around a b c ≡ false → nat_le 7 (length names) ≡ false → IsLoop round around names k x a b c
   loop_is round around names k x a b c h l deep =
-      let q = keeps_all (length symbols) (step_of c) (bound_form symbols around a) (bound_form symbols around b) l in
+      let q = keeps_all (length symbols) (step_of c) (composed_bound symbols around a) (composed_bound symbols around b) l in
       let s = step_found c q.step q.step_is in
       let same = h.names_are in
       let few = leb-false 7 (length names) deep in
@@ -117,7 +117,7 @@ module _ (symbols : List (List ℕ)) where
       (subst (λ z. not (is_zero z) ≡ true) (sym step_same) s.nonzero) (subst (λ z. is_small z ≡ true) (sym step_same) s.small) in
       let is = normal_loop_is symbols round (source_loop k x a b c) t.turns h.zeros t.is in
       let many = one_more round t.turns in
-      let outer_is : normal (length symbols + length round) (step_or_zero (step_of c)) q.first ≡ normal_or_zero (length symbols + length around) (step_of c) (bound_form symbols around a)
+      let outer_is : normal (length symbols + length round) (step_or_zero (step_of c)) q.first ≡ normal_or_zero (length symbols + length around) (step_of c) (composed_bound symbols around a)
       = ap₂ (λ m z. normal (length symbols + m) z q.first) (same_length (length symbols) round around h.stand) step_same
       ∙ sym (ap₂ (λ o p. normal_or_zero (length symbols + length around) o p) q.step_is q.first_is) in
       record {
@@ -161,10 +161,10 @@ module _ (symbols : List (List ℕ)) where
     normal_in k (Do l x a b c body) round around names r h d =
         let p = neither (leaves_limits symbols around a b c) (any_leaves_block symbols (around ++ as_outer symbols around x a c ∷ []) body) h in
         let q = neither (nat_le 7 (length names)) (any_in_block (has_flaw Deep symbols) (names ++ x ∷ []) body) d in
-        let i = loop_is round around names (next k) x a b c r p.0 q.0 in
-        and_true (is_normal_loop (normal_loop symbols round (source_loop (next k) x a b c)) (parts_of_block (next k) body) round) true
-        (ap (λ o. is_normal_loop o (parts_of_block (next k) body) round) i.is
-        ∙ normal_in_block (next k) body (round ++ i.turns ∷ []) (around ++ as_outer symbols around x a c ∷ []) (names ++ x ∷ []) i.inside p.1 q.1)
+        let i = loop_is round around names (next_loop_number k) x a b c r p.0 q.0 in
+        and_true (is_normal_loop (normal_loop symbols round (source_loop (next_loop_number k) x a b c)) (parts_of_block (next_loop_number k) body) round) true
+        (ap (λ o. is_normal_loop o (parts_of_block (next_loop_number k) body) round) i.is
+        ∙ normal_in_block (next_loop_number k) body (round ++ i.turns ∷ []) (around ++ as_outer symbols around x a c ∷ []) (names ++ x ∷ []) i.inside p.1 q.1)
         refl
     normal_in k (Label n) round around names r h d = refl
     normal_in k (GoTo l n) round around names r h d = refl
@@ -189,7 +189,7 @@ module _ (symbols : List (List ℕ)) where
     normal_in_block k (statement c cs) round around names r h d =
         let p = neither (any_leaves symbols around c) (any_leaves_block symbols around cs) h in
         let q = neither (any_loop (has_flaw Deep symbols) names c) (any_in_block (has_flaw Deep symbols) names cs) d in
-        joined round (parts_of k c) (parts_of_block (after k c) cs) (normal_in k c round around names r p.0 q.0) (normal_in_block (after k c) cs round around names r p.1 q.1)
+        joined round (parts_of k c) (parts_of_block (number_after k c) cs) (normal_in k c round around names r p.0 q.0) (normal_in_block (number_after k c) cs round around names r p.1 q.1)
 
   none_round : AreRound [] [] []
   none_round = record { stand = tt; zeros = tt; names_are = refl }

@@ -14,7 +14,7 @@ use Rattle.std.proofs.Math.Nat.{pow-le-pow_right}
 use Rattle.tree.specs.Operators.{fits}
 use Rattle.linear_forms.proofs.Sizes.{both}
 use Rattle.subscripts.specs.declared.affine.Affine.{Affine}
-use Rattle.last_values.specs.normal_forms.Combinations.{at, coefficient_in}
+use Rattle.last_values.specs.normal_forms.Combinations.{number_of_place, coefficient_in}
 use Rattle.last_values.specs.normal_forms.NormalLoops.{is_zero, is_unused, has_no_loops, has_no_symbols, is_constant}
 use Rattle.last_values.specs.normal_forms.Numbers.{products, number_of_form, variable_numbers}
 use Rattle.last_values.specs.declared.normal_forms.loops.NormalLoop.{NormalLoop}
@@ -43,13 +43,13 @@ no_times a x y h = ap (λ z. z *ℤ x) h ∙ (zero-*ℤ x ∙ (sym (zero-*ℤ y)
 
 pub number_same : (n d : ℕ) (x y values : ℕ → ℤ) (a : Affine) → Zero d a → ((k : ℕ) → k < d → x k ≡ y k) → number_of_form n x values a ≡ number_of_form n y values a
 number_same n d x y values a zeros same =
-    ap (λ p. p +ℤ (products n 0 (λ j. at a (place.Symbol j)) values +ℤ at a place.Constant)) (products_same 7 0 (λ k. at a (place.Loop k)) x y each)
+    ap (λ p. p +ℤ (products n 0 (λ j. number_of_place a (place.Symbol j)) values +ℤ number_of_place a place.Constant)) (products_same 7 0 (λ k. number_of_place a (place.Loop k)) x y each)
   where
-    by : (k : ℕ) → k < 7 → (k < d) ⊎ (d ≤ k) → at a (place.Loop k) *ℤ x k ≡ at a (place.Loop k) *ℤ y k
-    by k l (inl h) = ap (λ z. at a (place.Loop k) *ℤ z) (same k h)
-    by k l (inr h) = no_times (at a (place.Loop k)) (x k) (y k) (zeros k h l)
+    by : (k : ℕ) → k < 7 → (k < d) ⊎ (d ≤ k) → number_of_place a (place.Loop k) *ℤ x k ≡ number_of_place a (place.Loop k) *ℤ y k
+    by k l (inl h) = ap (λ z. number_of_place a (place.Loop k) *ℤ z) (same k h)
+    by k l (inr h) = no_times (number_of_place a (place.Loop k)) (x k) (y k) (zeros k h l)
 
-    each : (k : ℕ) → 0 ≤ k → k < 0 + 7 → at a (place.Loop k) *ℤ x k ≡ at a (place.Loop k) *ℤ y k
+    each : (k : ℕ) → 0 ≤ k → k < 0 + 7 → number_of_place a (place.Loop k) *ℤ x k ≡ number_of_place a (place.Loop k) *ℤ y k
     each k l m = by k (omega (arith, m)) (cases_lt k d)
 
 pub numbers_same : (n d : ℕ) (x y values : ℕ → ℤ) (round : List NormalLoop) → HaveZeros d round → ((k : ℕ) → k < d → x k ≡ y k) → variable_numbers n x values round ≡ variable_numbers n y values round
@@ -94,8 +94,8 @@ products_none (suc n) j c x h = ap₂ (λ p q. p +ℤ q) (ap (λ z. z *ℤ x j) 
 pub constant_number : (n : ℕ) (iterations values : ℕ → ℤ) (a : Affine) → is_constant a ≡ true → number_of_form n iterations values a ≡ a.constant
 constant_number n iterations values a h =
     let p = both (has_no_loops a) (has_no_symbols a) h in
-    ap₂ (λ x y. x +ℤ (y +ℤ a.constant)) (products_none 7 0 (λ k. at a (place.Loop k)) iterations (λ k. loops_zero a.loops k p.0))
-    (products_none n 0 (λ j. at a (place.Symbol j)) values (λ j. symbols_zero a.syms j p.1))
+    ap₂ (λ x y. x +ℤ (y +ℤ a.constant)) (products_none 7 0 (λ k. number_of_place a (place.Loop k)) iterations (λ k. loops_zero a.loops k p.0))
+    (products_none n 0 (λ j. number_of_place a (place.Symbol j)) values (λ j. symbols_zero a.syms j p.1))
     ∙ zeros a.constant
   where
     zeros : (z : ℤ) → pos 0 +ℤ (pos 0 +ℤ z) ≡ z

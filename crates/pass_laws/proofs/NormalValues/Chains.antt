@@ -16,7 +16,7 @@ use Rattle.normal_loops.specs.Tests.{test_with_values, normal_test}
 use Rattle.last_values.specs.declared.normal_forms.loops.NormalLoop.{NormalLoop}
 use Rattle.last_values.specs.normal_forms.NormalLoops.{counters_of, variables_of, normal_loop}
 use Rattle.last_values.specs.normal_forms.Numbers.{number_of_form, values_from, variable_numbers}
-use Rattle.last_values.specs.normal_forms.Texts.{value_text}
+use Rattle.last_values.specs.normal_forms.Texts.{variable_text}
 use Rattle.pass_laws.specs.normal_values.Beside.{AreApart, AreNormalLoops, IsBeside, iteration_at}
 use Rattle.pass_laws.specs.normal_values.Laws.{ExpressionBeside}
 use Rattle.pass_laws.proofs.NormalValues.Counters.{values_split, counters_both, counters_there, symbols_there, symbols_other}
@@ -64,7 +64,7 @@ module _ (bits : ℕ) (symbols : List (List ℕ)) (values : ℕ → ℤ) (apart 
   -- each text stands for its loop's variable
   abbrev pub AreStanding : List NormalLoop → List NormalLoop → Type 0
   AreStanding outer [] = ⊤
-  AreStanding outer (r ∷ rs) = ValueStandsFor (alone r.variable (value_text symbols outer r)) bits (between (r ∷ rs)) (between rs) × AreStanding (outer ++ r ∷ []) rs
+  AreStanding outer (r ∷ rs) = ValueStandsFor (alone r.variable (variable_text symbols outer r)) bits (between (r ∷ rs)) (between rs) × AreStanding (outer ++ r ∷ []) rs
 
   counters_between : (outer rs : List NormalLoop) (r : NormalLoop) → outer ++ (r ∷ rs) ≡ round → AreOther (variables_of rs) (counters_of round)
       → HaveValues (counters_of outer) (between rs) (values_from (length outer) 0 it) × HaveValues (r.counter ∷ []) (between rs) (it (length outer) ∷ [])
@@ -79,12 +79,12 @@ module _ (bits : ℕ) (symbols : List (List ℕ)) (values : ℕ → ℤ) (apart 
 
   stands : (outer rs : List NormalLoop) (r : NormalLoop) (l : Loop) → normal_loop symbols outer l ≡ Some r → outer ++ (r ∷ rs) ≡ round → AreOver (length outer) outer → Others rs
       → HaveValues (r.variable ∷ []) s (number_of_form n it values r.value ∷ [])
-      → ValueStandsFor (alone r.variable (value_text symbols outer r)) bits (between (r ∷ rs)) (between rs)
+      → ValueStandsFor (alone r.variable (variable_text symbols outer r)) bits (between (r ∷ rs)) (between rs)
   stands outer rs r l normal whole over others held =
       let counters = counters_between outer rs r whole others.0 in
       let known = mixed_values s t (variables_of rs) symbols (values_from n 0 values) others.1 (symbols_there symbols values apart round is s t free beside) in
       let number = value_text_number (sequential bits) symbols outer l r (loop_made symbols outer l r normal) over (between rs) (mixed_sized s t (variables_of rs) beside.sized beside.sized_beside) it values counters.0 counters.1 known in
-      mixed_stands s t bits r.variable (variables_of rs) (value_text symbols outer r) (Int (number_of_form n it values r.value)) held.0 held.1 number
+      mixed_stands s t bits r.variable (variables_of rs) (variable_text symbols outer r) (Int (number_of_form n it values r.value)) held.0 held.1 number
 
   all_stand : (outer rs : List NormalLoop) → AreNormalLoops symbols outer rs → outer ++ rs ≡ round → AreOver (length outer) outer → Others rs
       → HaveValues (variables_of rs) s (variable_numbers n it values rs) → AreStanding outer rs
@@ -105,7 +105,7 @@ module _ (bits : ℕ) (symbols : List (List ℕ)) (values : ℕ → ℤ) (apart 
   test_kept : (outer rs : List NormalLoop) → AreStanding outer rs → (e : Expression) (v : Value) → value_of (sequential bits) e (between rs) ≡ Ok v → value_of (sequential bits) (test_with_values symbols outer rs e) t ≡ Ok v
   test_kept outer [] h e v k = k
   test_kept outer (r ∷ rs) h e v k =
-      test_kept (outer ++ r ∷ []) rs h.1 _ v (replaced_value bits r.variable (value_text symbols outer r) (between (r ∷ rs)) (between rs) h.0 e v k)
+      test_kept (outer ++ r ∷ []) rs h.1 _ v (replaced_value bits r.variable (variable_text symbols outer r) (between (r ∷ rs)) (between rs) h.0 e v k)
 
 pub expression_is_beside : ExpressionBeside
 unfolding normal_test

@@ -19,7 +19,7 @@ use Rattle.linear_forms.proofs.Sums.{small_is}
 use Rattle.subscripts.specs.declared.affine.Affine.{Affine}
 use Rattle.last_values.specs.declared.normal_forms.combinations.Multiple.{Multiple}
 use Rattle.last_values.specs.declared.normal_forms.places.Place.TheVariants as place
-use Rattle.last_values.specs.normal_forms.Combinations.{at, combined_at, with_number, all_within, seven, no_terms, with_symbols}
+use Rattle.last_values.specs.normal_forms.Combinations.{number_of_place, combined_at, with_number, all_within, seven, no_terms, with_symbol_terms}
 use Rattle.last_values.specs.normal_forms.Combinations.{form_with, has_small_factor, combination, number_form, zero_loops}
 use Rattle.last_values.specs.normal_forms.Numbers.{values_from}
 use Rattle.pass_laws.proofs.NormalValues.Affine.{IsTidy}
@@ -61,22 +61,22 @@ seven_zero f d h (suc (suc (suc (suc (suc (suc (suc k))))))) l = refl
 abbrev more_room : ℕ → ℤ → Terms → Option Terms
 more_room j z t = cond (is_small z && nat_lt t.used 8) (Some (record { at = set t.at t.used (j, z); used = t.used + 1 })) None
 
-symbols_pushed : (f : ℕ → ℤ) (n j : ℕ) (t : Terms) → with_symbols f n j t ≡ all_pushed (terms_from j (values_from n j f)) t
+symbols_pushed : (f : ℕ → ℤ) (n j : ℕ) (t : Terms) → with_symbol_terms f n j t ≡ all_pushed (terms_from j (values_from n j f)) t
 symbols_pushed f zero j t = refl
 symbols_pushed f (suc n) j t =
     by (λ u. symbols_pushed f n (j + 1) u ∙ ap (λ k. all_pushed (terms_from k (values_from n (j + 1) f)) u) (add-one j)) (int_eq (f j) (pos 0)) refl
   where
-    by : ((u : Terms) → with_symbols f n (j + 1) u ≡ all_pushed (terms_from (suc j) (values_from n (j + 1) f)) u) → (b : Bool) → int_eq (f j) (pos 0) ≡ b
-        → then_pushed (pushed j (f j) t) (with_symbols f n (j + 1)) ≡ all_pushed (cond b (terms_from (suc j) (values_from n (j + 1) f)) ((j, f j) ∷ terms_from (suc j) (values_from n (j + 1) f))) t
-    by later true e = ap (λ c. then_pushed (cond c (Some t) (more_room j (f j) t)) (with_symbols f n (j + 1))) e ∙ later t
-    by later false e = then_same (pushed j (f j) t) (with_symbols f n (j + 1)) (all_pushed (terms_from (suc j) (values_from n (j + 1) f))) later
+    by : ((u : Terms) → with_symbol_terms f n (j + 1) u ≡ all_pushed (terms_from (suc j) (values_from n (j + 1) f)) u) → (b : Bool) → int_eq (f j) (pos 0) ≡ b
+        → then_pushed (pushed j (f j) t) (with_symbol_terms f n (j + 1)) ≡ all_pushed (cond b (terms_from (suc j) (values_from n (j + 1) f)) ((j, f j) ∷ terms_from (suc j) (values_from n (j + 1) f))) t
+    by later true e = ap (λ c. then_pushed (cond c (Some t) (more_room j (f j) t)) (with_symbol_terms f n (j + 1))) e ∙ later t
+    by later false e = then_same (pushed j (f j) t) (with_symbol_terms f n (j + 1)) (all_pushed (terms_from (suc j) (values_from n (j + 1) f))) later
 
 record Pushed (es : List ℤ) (t : Terms) : Type 0 where
   at : t.at ≡ padded (terms_from 0 es)
   small : all_small es ≡ true
   few : not_zero es ≤ 8
 
-symbols_are : (f : ℕ → ℤ) (n : ℕ) (t : Terms) → with_symbols f n 0 no_terms ≡ Some t → Pushed (values_from n 0 f) t
+symbols_are : (f : ℕ → ℤ) (n : ℕ) (t : Terms) → with_symbol_terms f n 0 no_terms ≡ Some t → Pushed (values_from n 0 f) t
 symbols_are f n t h =
     let es : List ℤ = values_from n 0 f in
     by (all_pushed (terms_from 0 es) no_terms) (sym (symbols_pushed f n 0 no_terms) ∙ h) (pushes 0 es [] no_terms (record { at = refl; used = refl }) (omega arith))
@@ -97,7 +97,7 @@ module _ (d n : ℕ) (ts : List Multiple) (a : Affine) (none : (k : ℕ) → d �
   abbrev symbol_sum : ℕ → ℤ
   symbol_sum j = combined_at ts (place.Symbol j)
 
-  parted : (ls : Option (List ℤ)) → all_within (seven loop_sum) ≡ ls → (o : Option Terms) → with_symbols symbol_sum n 0 no_terms ≡ o
+  parted : (ls : Option (List ℤ)) → all_within (seven loop_sum) ≡ ls → (o : Option Terms) → with_symbol_terms symbol_sum n 0 no_terms ≡ o
       → (z : Option ℤ) → small_or_none (combined_at ts place.Constant) ≡ z → form_with ls o z ≡ Some a → IsTidy d n a
   parted None e o f z g h = absurd cc
   parted (Some ls) e None f z g h = absurd cc
@@ -123,15 +123,15 @@ module _ (d n : ℕ) (ts : List Multiple) (a : Affine) (none : (k : ℕ) → d �
   unfolding combination
   combination_tidy h = by (list_all has_small_factor ts) h
     where
-      by : (b : Bool) → cond b (form_with (all_within (seven loop_sum)) (with_symbols symbol_sum n 0 no_terms) (small_or_none (combined_at ts place.Constant))) None ≡ Some a → IsTidy d n a
-      by true g = parted (all_within (seven loop_sum)) refl (with_symbols symbol_sum n 0 no_terms) refl (small_or_none (combined_at ts place.Constant)) refl g
+      by : (b : Bool) → cond b (form_with (all_within (seven loop_sum)) (with_symbol_terms symbol_sum n 0 no_terms) (small_or_none (combined_at ts place.Constant))) None ≡ Some a → IsTidy d n a
+      by true g = parted (all_within (seven loop_sum)) refl (with_symbol_terms symbol_sum n 0 no_terms) refl (small_or_none (combined_at ts place.Constant)) refl g
       by false g = absurd cc
 
 -- ---- loops that don't stand in a sum
 
 -- the k-th loop stands in none of these forms
 abbrev pub AreWithout : ℕ → List Multiple → Type 0
-AreWithout k ts = AllByRecursion (λ (t : Multiple). at t.form (place.Loop k) ≡ pos 0) ts
+AreWithout k ts = AllByRecursion (λ (t : Multiple). number_of_place t.form (place.Loop k) ≡ pos 0) ts
 
 pub without_sum : (k : ℕ) (ts : List Multiple) → AreWithout k ts → combined_at ts (place.Loop k) ≡ pos 0
 without_sum k [] h = refl

@@ -16,7 +16,7 @@ use Rattle.subscripts.specs.declared.affine.Affine.{Affine}
 use Rattle.last_values.specs.declared.normal_forms.combinations.Multiple.{Multiple}
 use Rattle.last_values.specs.declared.normal_forms.loops.NormalLoop.{NormalLoop}
 use Rattle.last_values.specs.declared.normal_forms.places.Place.TheVariants as place
-use Rattle.last_values.specs.normal_forms.Combinations.{coefficient_in, at, combined_at, combination, affine_of, number_form}
+use Rattle.last_values.specs.normal_forms.Combinations.{coefficient_in, number_of_place, combined_at, combination, affine_of, number_form}
 use Rattle.last_values.specs.normal_forms.Combinations.{without_loops, times, zero_loops, no_symbols}
 use Rattle.last_values.specs.normal_forms.NormalLoops as loops
 use Rattle.last_values.specs.normal_forms.NormalLoops.{with_counters, one_at, loop_form, symbol_form, is_constant, is_undivided}
@@ -43,7 +43,7 @@ other_loops d k h = seven_zero (one_at d) (suc d) (λ k m. ap (λ b. cond b (pos
 
 module _ (n : ℕ) (iterations values : ℕ → ℤ) where
   -- 1 for one loop
-  one : (k : ℕ) → k < 7 → products 7 0 (λ j. at (loop_form k) (place.Loop j)) iterations ≡ iterations k
+  one : (k : ℕ) → k < 7 → products 7 0 (λ j. number_of_place (loop_form k) (place.Loop j)) iterations ≡ iterations k
   one zero h = omega (arith, ints)
   one (suc zero) h = omega (arith, ints)
   one (suc (suc zero)) h = omega (arith, ints)
@@ -123,7 +123,7 @@ pub over_more : (d : ℕ) (rs : List NormalLoop) (r : NormalLoop) → AreOver d 
 over_more d [] r h g = (g, tt)
 over_more d (q ∷ rs) r h g = (λ k m. h.0 k (omega (arith, m)), over_more d rs r h.1 g)
 
-values_without : (d k : ℕ) → d ≤ k → (j : ℕ) (a : Affine) (rs : List NormalLoop) → AreOver d rs → AreWithout k (loops.values_from j a rs)
+values_without : (d k : ℕ) → d ≤ k → (j : ℕ) (a : Affine) (rs : List NormalLoop) → AreOver d rs → AreWithout k (loops.variable_values_from j a rs)
 values_without d k m j a [] h = tt
 values_without d k m j a (r ∷ rs) h = (h.0 k m, values_without d k m (j + 1) a rs h.1)
 
@@ -138,7 +138,7 @@ module _ (symbols : List (List ℕ)) (round : List NormalLoop) (l : Loop) (r : N
   bound_without f more k m h =
       without_sum k (bound_sum symbols round l f more)
       (without_both k (with_counters round (affine_of d f)) more
-      (without_both k (loops.values_from 0 (affine_of d f) round) (times (pos 1) (without_loops (affine_of d f)) ∷ []) (values_without d k m 0 (affine_of d f) round over) (no_loop k, tt)) h)
+      (without_both k (loops.variable_values_from 0 (affine_of d f) round) (times (pos 1) (without_loops (affine_of d f)) ∷ []) (values_without d k m 0 (affine_of d f) round over) (no_loop k, tt)) h)
 
   pub first_tidy : IsTidy d n r.first
   first_tidy = combination_tidy d n (bound_sum symbols round l made.first_form []) r.first (λ k m. bound_without made.first_form [] k m tt) made.first
@@ -165,10 +165,10 @@ module _ (symbols : List (List ℕ)) (round : List NormalLoop) (l : Loop) (r : N
   pub trip_tidy : IsTidy d n r.trip.top
   trip_tidy = subst (λ (t : Trip). IsTidy d n t.top) made.trip (trip_of_tidy d n (nat_abs l.step) made.top top_tidy)
 
-  trip_form_without : (k : ℕ) → d ≤ k → at (trip_form n r.trip) (place.Loop k) ≡ pos 0
+  trip_form_without : (k : ℕ) → d ≤ k → number_of_place (trip_form n r.trip) (place.Loop k) ≡ pos 0
   trip_form_without k m = by (is_undivided r.trip)
     where
-      by : (b : Bool) → at (cond b r.trip.top (symbol_form n)) (place.Loop k) ≡ pos 0
+      by : (b : Bool) → number_of_place (cond b r.trip.top (symbol_form n)) (place.Loop k) ≡ pos 0
       by true = trip_tidy.none_behind k m
       by false = no_loop k
 

@@ -19,7 +19,7 @@ use Rattle.meaning.specs.Value.{value_of, trip_count}
 use Rattle.linear_forms.proofs.Sizes.{abs-sum, within_fits}
 use Rattle.nest_order.proofs.runs.Ending.{turns_to, count_from_one}
 use Rattle.last_values.specs.normal_forms.NormalLoops.{sign_of}
-use Rattle.last_values.specs.normal_forms.Texts.{quotient}
+use Rattle.last_values.specs.normal_forms.Texts.{quotient_text}
 use Rattle.pass_laws.proofs.NormalLoop.Trips.{same_trip, downward}
 use Rattle.pass_laws.proofs.NormalValues.Forms.{quotient_size}
 
@@ -73,7 +73,7 @@ module _ (lang : Dialect) (s : Store) where
       ∙ (ap (λ b. ranged (cond b (Err ZeroDivide) (Ok (int_div z (pos m))))) (not_nought m other)
       ∙ ap (λ b. cond b (Ok (Int (int_div z (pos m)))) (Err Overflow)) (within_fits (int_div z (pos m)) (omega (arith, size, small))))
 
-  pub quotient_value : (e : Expression) (z d : ℤ) (m : ℕ) → d ≡ pos m → 1 ≤ m → value_of lang e s ≡ Ok (Int z) → nat_abs z < 2 ^ 126 → value_of lang (quotient e d) s ≡ Ok (Int (int_div z d))
+  pub quotient_value : (e : Expression) (z d : ℤ) (m : ℕ) → d ≡ pos m → 1 ≤ m → value_of lang e s ≡ Ok (Int z) → nat_abs z < 2 ^ 126 → value_of lang (quotient_text e d) s ≡ Ok (Int (int_div z d))
   quotient_value e z d m same other h small = by (int_eq d (pos 1)) refl
     where
       by : (b : Bool) → int_eq d (pos 1) ≡ b → value_of lang (cond b e (Binary Div e (Number d))) s ≡ Ok (Int (int_div z d))

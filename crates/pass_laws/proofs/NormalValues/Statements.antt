@@ -31,7 +31,7 @@ use Rattle.nest_order.proofs.runs.Ending.{Assigned, assigned}
 use Rattle.nest_order.proofs.runs.Going.{guarded_went}
 use Rattle.last_values.specs.declared.normal_forms.loops.NormalLoop.{NormalLoop}
 use Rattle.last_values.specs.normal_forms.NormalLoops.{counters_of, variables_of}
-use Rattle.last_values.specs.normal_forms.Texts.{value_text}
+use Rattle.last_values.specs.normal_forms.Texts.{variable_text}
 use Rattle.pass_laws.specs.normal_values.Beside.{AreApart, IsBeside}
 use Rattle.pass_laws.specs.normal_values.Laws.{StatementBeside}
 use Rattle.pass_laws.proofs.NormalValues.Chains.{AreStanding, between, round_stands}
@@ -60,8 +60,8 @@ module _ (bits : ℕ) (symbols : List (List ℕ)) (values : ℕ → ℤ) (apart 
       with_values (outer ++ r ∷ []) rs h.1 (rewritten_statement (with_value symbols outer r) g) (record {
         unguarded = ap (option_map (made (with_value symbols outer r))) k.unguarded;
         name = k.name;
-        right = replaced_value bits r.variable (value_text symbols outer r) (between' (r ∷ rs)) (between' rs) h.0 g.right v k.right;
-        subscripts = replaced_subscripts bits r.variable (value_text symbols outer r) (between' (r ∷ rs)) (between' rs) h.0 g.left.subscripts zs k.subscripts;
+        right = replaced_value bits r.variable (variable_text symbols outer r) (between' (r ∷ rs)) (between' rs) h.0 g.right v k.right;
+        subscripts = replaced_subscripts bits r.variable (variable_text symbols outer r) (between' (r ∷ rs)) (between' rs) h.0 g.left.subscripts zs k.subscripts;
       })
 
   takes_normal : (g : Guarded) → Takes bits (between' round) x v zs g → Takes bits t x v zs (normal_statement symbols round g)

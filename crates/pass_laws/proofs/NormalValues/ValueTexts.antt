@@ -15,7 +15,7 @@ use Rattle.last_values.specs.declared.normal_forms.loops.NormalLoop.{NormalLoop}
 use Rattle.last_values.specs.normal_forms.Combinations.{coefficient_in}
 use Rattle.last_values.specs.normal_forms.NormalLoops.{counters_of}
 use Rattle.last_values.specs.normal_forms.Numbers.{products, number_of_form, values_from}
-use Rattle.last_values.specs.normal_forms.Texts.{counter_first, value_text}
+use Rattle.last_values.specs.normal_forms.Texts.{counter_first, variable_text}
 use Rattle.pass_laws.proofs.NormalValues.Affine.{IsTidy, number_front, tidy_text}
 use Rattle.pass_laws.proofs.NormalValues.Forms.{AreOver, below_tidy, value_number}
 use Rattle.pass_laws.proofs.NormalValues.Points.{values_next}
@@ -103,8 +103,8 @@ module _ (lang : Dialect) (symbols : List (List ℕ)) (outer : List NormalLoop) 
 
   pub value_text_number : HaveValues (counters_of outer) s (values_from (length outer) 0 iterations) → HaveValues (r.counter ∷ []) s (iterations (length outer) ∷ [])
       → HaveValues symbols s (values_from (length symbols) 0 values)
-      → value_of lang (value_text symbols outer r) s ≡ Ok (Int (number_of_form (length symbols) iterations values r.value))
-  unfolding value_text
+      → value_of lang (variable_text symbols outer r) s ≡ Ok (Int (number_of_form (length symbols) iterations values r.value))
+  unfolding variable_text
   value_text_number here own known =
       let n = length symbols in
       let z = iterations d in

@@ -23,10 +23,10 @@ use Rattle.nest_order.proofs.orders.Membership.{In-map}
 use Rattle.nest_order.proofs.shapes.Shapes.{shape_is_nest}
 use Rattle.nest_order.specs.facts.Facts.{HasFacts, HasTrip, counted, places_of}
 use Rattle.nest_order.specs.orders.Lists.{Distinct, In}
-use Rattle.nest_order.specs.orders.Shapes.{loops, statements}
+use Rattle.nest_order.specs.orders.Shapes.{loops_of_shape, statements}
 use Rattle.nest_order.specs.runs.Guarded as guarded
 use Rattle.nest_order.specs.runs.Guarded.{names_of}
-use Rattle.nest_order.specs.runs.Nests.{LoopStands, Nest as Nest'}
+use Rattle.nest_order.specs.runs.Nests.{LoopStands, RunNest as Nest'}
 use Rattle.nest_order.specs.runs.Stores.{IsNestText, Setting}
 use Rattle.nest_order.specs.runs.Touched.{IsPlainAssignment, nth_of}
 use Rattle.nest_order.specs.shapes.Shapes.{guarded_of, loop_numbered, loops_round, numbers_of, shape_of, trip_of_loop, variable_of_loop}
@@ -98,7 +98,7 @@ module _ (around : List (List ℕ)) (deepest : ℕ) (m : Nest) (w : Setting) (h 
   once : Distinct (numbers_of all)
   once = distinct_too (numbers_of all) h.parts.once
 
-  loop_numbers : loops (shape_of 0 m.body) ≡ numbers_of all
+  loop_numbers : loops_of_shape (shape_of 0 m.body) ≡ numbers_of all
   loop_numbers = loops_are 0 m.body h.plain
 
   each_loop : walk.EachLoop (IsPreparedLoop es m.symbols) [] m.body
@@ -139,7 +139,7 @@ module _ (around : List (List ℕ)) (deepest : ℕ) (m : Nest) (w : Setting) (h 
       let r = each_asked (IsPreparedLoop es m.symbols) all [] m.body h.plain each_loop l i in
       record { loop = l; among = i; table = loop_there all l once i; small = within_32 l.number r.asked.number; name = r.asked.variable; counter = r.asked.counter }
 
-  loop_is : (l : ℕ) → In l (loops (shape_of 0 m.body)) → IsLoop l
+  loop_is : (l : ℕ) → In l (loops_of_shape (shape_of 0 m.body)) → IsLoop l
   loop_is l i =
       let r = numbered all l (subst (In l) loop_numbers i) in
       subst IsLoop (sym r.number) (a_loop r.loop r.among)
@@ -150,7 +150,7 @@ module _ (around : List (List ℕ)) (deepest : ℕ) (m : Nest) (w : Setting) (h 
   variable_is : (l : ℕ) (r : IsLoop l) → variable_at l ≡ counter_name l
   variable_is l r = ap variable_of_loop r.table ∙ r.name
 
-  pub counter_at : (l : ℕ) → In l (loops (shape_of 0 m.body)) → IsSomeAnd (declared es (variable_at l)) IsCounter
+  pub counter_at : (l : ℕ) → In l (loops_of_shape (shape_of 0 m.body)) → IsSomeAnd (declared es (variable_at l)) IsCounter
   counter_at l i = let r = loop_is l i in subst (λ x. IsSomeAnd (declared es x) IsCounter) (sym (ap variable_of_loop r.table)) r.counter
 
   -- ---- statements
@@ -165,11 +165,11 @@ module _ (around : List (List ℕ)) (deepest : ℕ) (m : Nest) (w : Setting) (h 
       let r = statement_there m h.plain s i in
       record { standing = r.standing; there = r.is; is = all_in (IsPreparedStatement es m deepest) (nest_statements m) h.parts.statements r.standing r.among }
 
-  abbrev statement_at : ℕ → guarded.Guarded
+  abbrev statement_at : ℕ → guarded.GuardedAssignment
   statement_at s = guarded_of (nth_of (nest_statements m) s)
 
   -- what holds of the statement holds of what stands in the table
-  at_statement : (P : guarded.Guarded → Type 0) (s : ℕ) (r : IsStatement s) → P (assignment r.standing.statement) → P (statement_at s)
+  at_statement : (P : guarded.GuardedAssignment → Type 0) (s : ℕ) (r : IsStatement s) → P (assignment r.standing.statement) → P (statement_at s)
   at_statement P s r k = subst P (sym (ap guarded_of r.there)) k
 
   -- ---- the loops round a loop
@@ -213,7 +213,7 @@ module _ (around : List (List ℕ)) (deepest : ℕ) (m : Nest) (w : Setting) (h 
 
   -- ---- the text of the nest
 
-  own : (s l : ℕ) → In s (statements (shape_of 0 m.body)) → In l (loops (shape_of 0 m.body)) → In (variable_at l) (names_of (statement_at s)) → In l (loops_round (nth_of (nest_statements m) s))
+  own : (s l : ℕ) → In s (statements (shape_of 0 m.body)) → In l (loops_of_shape (shape_of 0 m.body)) → In (variable_at l) (names_of (statement_at s)) → In l (loops_round (nth_of (nest_statements m) s))
   own s l i j k =
       let r = statement_is s i in
       let q = loop_is l j in

@@ -11,6 +11,7 @@ use Rattle.components.specs.Lists as lists
 use Rattle.linear_forms.specs.Linear.{HaveValues}
 use Rattle.meaning.specs.ArrayStatements.{allocated_bounds, free}
 use Rattle.meaning.specs.Dialect.{fortran90}
+use Rattle.tree.specs.declared.width.Width.{Width}
 use Rattle.meaning.specs.Holding.{HasBounds, HoldsProgram}
 use Rattle.meaning.specs.Run.{Going, State, Way, allocates, counts_step, does, does_all, evaluates}
 use Rattle.meaning.specs.Run.{while_going}
@@ -47,12 +48,12 @@ equal x = (bytes_eq-Decides x x).1 refl
 
 -- ---- one statement
 
-allocate_does : (line : ℕ) (x : List ℕ) (es : Expressions) (t : State) (bs : List (ℤ × ℤ)) → t.way ≡ Going
-    → allocated_bounds fortran90 x es t.store ≡ Ok bs
-    → does fortran90 None (Allocate line x es) t
+allocate_does : (width : Width) (line : ℕ) (x : List ℕ) (es : Expressions) (t : State) (bs : List (ℤ × ℤ)) → t.way ≡ Going
+    → allocated_bounds (fortran90 width) x es t.store ≡ Ok bs
+    → does (fortran90 width) None (Allocate line x es) t
     ≡ record t { store = allocated x bs t.store; steps = t.steps + 1; way = Going }
 unfolding while_going evaluates counts_step allocates
-allocate_does line x es t bs w e = rw (w, e) refl
+allocate_does width line x es t bs w e = rw (w, e) refl
 
 -- ---- the numbers of extents
 
@@ -74,16 +75,16 @@ value_is (Err f) z e = let no : ⊥ = cc in absurd no
 value_is (Ok (Truth b)) z e = let no : ⊥ = cc in absurd no
 value_is (Ok (Int y)) z e = let same : y ≡ z = cc in ap (λ (x : ℤ). Ok (Int x)) same
 
-values_are : (symbols : List (List ℕ)) (v : ℕ → ℤ) (es : List Expression) (zs : List ℤ) (s : Store)
+values_are : (width : Width) (symbols : List (List ℕ)) (v : ℕ → ℤ) (es : List Expression) (zs : List ℤ) (s : Store)
     → AreNumbers symbols v es zs → HaveValues symbols s (values_from v 0 symbols)
-    → values_of fortran90 (expressions es) s ≡ Ok (map Int zs)
-values_are symbols v [] [] s h k = refl
-values_are symbols v [] (z ∷ zs) s h k = absurd h
-values_are symbols v (e ∷ es) [] s h k = absurd h
-values_are symbols v (e ∷ es) (z ∷ zs) s h k =
-    ap (λ (r : Result Value Fault). do x ← r; xs ← values_of fortran90 (expressions es) s; Ok (x ∷ xs))
-    (value_is (value_of fortran90 e s) z (h.0 fortran90 s k))
-    ∙ ap (λ (r : Result (List Value) Fault). do xs ← r; Ok (Int z ∷ xs)) (values_are symbols v es zs s h.1 k)
+    → values_of (fortran90 width) (expressions es) s ≡ Ok (map Int zs)
+values_are width symbols v [] [] s h k = refl
+values_are width symbols v [] (z ∷ zs) s h k = absurd h
+values_are width symbols v (e ∷ es) [] s h k = absurd h
+values_are width symbols v (e ∷ es) (z ∷ zs) s h k =
+    ap (λ (r : Result Value Fault). do x ← r; xs ← values_of (fortran90 width) (expressions es) s; Ok (x ∷ xs))
+    (value_is (value_of (fortran90 width) e s) z (h.0 (fortran90 width) s k))
+    ∙ ap (λ (r : Result (List Value) Fault). do xs ← r; Ok (Int z ∷ xs)) (values_are width symbols v es zs s h.1 k)
 
 numbers_back : (zs : List ℤ) → as_numbers (map Int zs) ≡ Ok zs
 numbers_back [] = refl
@@ -92,12 +93,12 @@ numbers_back (z ∷ zs) = ap (λ (r : Result (List ℤ) Fault). do ys ← r; Ok 
 abbrev pub from_one : ℤ → ℤ × ℤ
 from_one n = (pos 1, n)
 
-bounds_are : (symbols : List (List ℕ)) (v : ℕ → ℤ) (x : List ℕ) (es : List Expression) (zs : List ℤ) (s : Store)
+bounds_are : (width : Width) (symbols : List (List ℕ)) (v : ℕ → ℤ) (x : List ℕ) (es : List Expression) (zs : List ℤ) (s : Store)
     → AreNumbers symbols v es zs → HaveValues symbols s (values_from v 0 symbols) → s.bounds x ≡ None
-    → allocated_bounds fortran90 x (expressions es) s ≡ Ok (map from_one zs)
-bounds_are symbols v x es zs s h k none =
+    → allocated_bounds (fortran90 width) x (expressions es) s ≡ Ok (map from_one zs)
+bounds_are width symbols v x es zs s h k none =
     ap (λ (r : Result (List Value) Fault). do vs ← r; ns ← as_numbers vs; free (s.bounds x) ns)
-    (values_are symbols v es zs s h k)
+    (values_are width symbols v es zs s h k)
     ∙ ap (λ (r : Result (List ℤ) Fault). do ns ← r; free (s.bounds x) ns) (numbers_back zs)
     ∙ ap (λ (o : Option (List (ℤ × ℤ))). free o zs) none
 
@@ -158,7 +159,7 @@ pub record IsMadeArray (q : Program) (symbols : List (List ℕ)) (deepest : ℕ)
   pub extents : All (IsPreparedExtent q.declarations symbols deepest) es
   pub apart : (y : List ℕ) → In y symbols → ¬ (x ≡ y)
 
-module _ (q : Program) (symbols : List (List ℕ)) (deepest : ℕ) (v : ℕ → ℤ) (line : ℕ) (wide : AreOf64Bits v) where
+module _ (width : Width) (q : Program) (symbols : List (List ℕ)) (deepest : ℕ) (v : ℕ → ℤ) (line : ℕ) (wide : AreOf64Bits v) where
   abbrev pub IsArray : Made → Type 0
   IsArray a = IsMadeArray q symbols deepest a.name a.extents
 
@@ -177,9 +178,9 @@ module _ (q : Program) (symbols : List (List ℕ)) (deepest : ℕ) (v : ℕ → 
     pub going : state.way ≡ Going
     pub rest : state ≡ record t { store = state.store; steps = state.steps }
     pub others : IsSameBut (arrays_of ms) t.store state.store
-    pub program : HoldsProgram fortran90 q state.store
+    pub program : HoldsProgram (fortran90 width) q state.store
     pub there : lists.Each (λ (a : Made). IsThere state.store a.name a.extents) ms
-    pub runs : (b : Block) → does_all fortran90 None (allocations_then line ms b) t ≡ does_all fortran90 None b state
+    pub runs : (b : Block) → does_all (fortran90 width) None (allocations_then line ms b) t ≡ does_all (fortran90 width) None b state
 
   -- the first one, with these extents, and others
   record CameWith (x : List ℕ) (es : List Expression) (ms : List Made) (t : State) : Type 0 where
@@ -187,13 +188,13 @@ module _ (q : Program) (symbols : List (List ℕ)) (deepest : ℕ) (v : ℕ → 
     going : state.way ≡ Going
     rest : state ≡ record t { store = state.store; steps = state.steps }
     others : IsSameBut (name_of_array x es ++ arrays_of ms) t.store state.store
-    program : HoldsProgram fortran90 q state.store
+    program : HoldsProgram (fortran90 width) q state.store
     first : IsThere state.store x es
     there : lists.Each (λ (a : Made). IsThere state.store a.name a.extents) ms
-    runs : (b : Block) → does_all fortran90 None (allocation_then line x es (allocations_then line ms b)) t
-        ≡ does_all fortran90 None b state
+    runs : (b : Block) → does_all (fortran90 width) None (allocation_then line x es (allocations_then line ms b)) t
+        ≡ does_all (fortran90 width) None b state
 
-  scalar_there : (s : Store) (x : List ℕ) → HoldsProgram fortran90 q s
+  scalar_there : (s : Store) (x : List ℕ) → HoldsProgram (fortran90 width) q s
       → IsSomeAnd (declared q.declarations x) (λ (d : Declaration). d.extent ≡ Given []) → IsThere s x []
   scalar_there s x h d = by (declared q.declarations x) (s.bounds x) (h.bounds x) d
     where
@@ -222,12 +223,12 @@ module _ (q : Program) (symbols : List (List ℕ)) (deepest : ℕ) (v : ℕ → 
 
   -- where the later ones come to be from any store
   abbrev pub LaterCome : List Made → Type 0
-  LaterCome ms = (t : State) → t.way ≡ Going → HoldsProgram fortran90 q t.store → Have t.store
+  LaterCome ms = (t : State) → t.way ≡ Going → HoldsProgram (fortran90 width) q t.store → Have t.store
       → lists.Each (λ (a : Made). IsFreeArray t.store a.name a.extents) ms → Came ms t
 
   allocate_first : (x : List ℕ) (es : List Expression) (ms : List Made) (t : State) → LaterCome ms
       → IsMadeArray q symbols deepest x es → lists.Each (λ y. ¬ (x ≡ y)) (names_of ms)
-      → t.way ≡ Going → HoldsProgram fortran90 q t.store → Have t.store → IsFreeArray t.store x es
+      → t.way ≡ Going → HoldsProgram (fortran90 width) q t.store → Have t.store → IsFreeArray t.store x es
       → lists.Each (λ (a : Made). IsFreeArray t.store a.name a.extents) ms → CameWith x es ms t
   allocate_first x [] ms t later own apart going program have none free =
       let r = later t going program have free in
@@ -244,8 +245,8 @@ module _ (q : Program) (symbols : List (List ℕ)) (deepest : ℕ) (v : ℕ → 
   allocate_first x (e ∷ es) ms t later own apart going program have none free =
       let n = extent_numbers q.declarations symbols deepest v (e ∷ es) wide own.extents in
       let bs = map from_one n.0 in
-      let given : allocated_bounds fortran90 x (expressions (e ∷ es)) t.store ≡ Ok bs
-      = bounds_are symbols v x (e ∷ es) n.0 t.store n.1 have none in
+      let given : allocated_bounds (fortran90 width) x (expressions (e ∷ es)) t.store ≡ Ok bs
+      = bounds_are width symbols v x (e ∷ es) n.0 t.store n.1 have none in
       let store : Store = allocated x bs t.store in
       let t1 : State = record t { store = store; steps = t.steps + 1; way = Going } in
       let bounds : (y : List ℕ) → ¬ (x ≡ y) → store.bounds y ≡ t.store.bounds y
@@ -254,7 +255,7 @@ module _ (q : Program) (symbols : List (List ℕ)) (deepest : ℕ) (v : ℕ → 
       = λ c k. ap (λ (b : Bool). cond b (nought_like (t.store.held c)) (t.store.held c)) (unequal x c.name k) in
       let count : length bs ≡ length (e ∷ es)
       = length-map n.0 from_one ∙ as_many symbols v (e ∷ es) n.0 n.1 in
-      let holds = allocated_holds fortran90 q x bs t.store
+      let holds = allocated_holds (fortran90 width) q x bs t.store
       (fits (declared q.declarations x) (length (e ∷ es)) bs own.declaration count) program in
       let more = have_kept symbols (values_from v 0 symbols) t.store store (λ y i. bounds y (own.apart y i))
       (λ c i. held c (own.apart c.name i)) have in
@@ -278,7 +279,7 @@ module _ (q : Program) (symbols : List (List ℕ)) (deepest : ℕ) (v : ℕ → 
             (by_numbers symbols v (e ∷ es) n.0 n.1);
         there = r.there;
         runs = λ b.
-            ap (does_all fortran90 None (allocations_then line ms b)) (allocate_does line x (expressions (e ∷ es)) t bs going given)
+            ap (does_all (fortran90 width) None (allocations_then line ms b)) (allocate_does width line x (expressions (e ∷ es)) t bs going given)
             ∙ r.runs b;
       }
 

@@ -5,6 +5,7 @@ use Rattle.std.specs.Option.{IsSomeAnd}
 use Rattle.components.specs.Lists as lists
 use Rattle.linear_forms.specs.Linear.{HaveValues}
 use Rattle.meaning.specs.Dialect.{fortran90}
+use Rattle.tree.specs.declared.width.Width.{Width}
 use Rattle.meaning.specs.Holding.{HasBounds, HoldsProgram}
 use Rattle.meaning.specs.Run.{Going, State, does_all}
 use Rattle.meaning.specs.Store.{Store}
@@ -72,9 +73,9 @@ extent_alone : (o : Option Declaration) (P : Declaration → Type 0) (x : Extent
 extent_alone None P x h = absurd h
 extent_alone (Some d) P x h = h.1
 
-module _ (q : Program) (around : List (List ℕ)) (deepest : ℕ) (m : Nest) (v : ℕ → ℤ)
+module _ (width : Width) (q : Program) (around : List (List ℕ)) (deepest : ℕ) (m : Nest) (v : ℕ → ℤ)
     (h : IsPrepared q.declarations around deepest m) (wide : AreOf64Bits v) where
-  is_array : (a : Made) → In a m.made → IsArray q m.symbols deepest v m.line wide a
+  is_array : (a : Made) → In a m.made → IsArray width q m.symbols deepest v m.line wide a
   is_array a i =
       let p = all_in (IsPreparedMade q.declarations m.symbols deepest) m.made h.parts.made a i in
       record {
@@ -88,12 +89,12 @@ module _ (q : Program) (around : List (List ℕ)) (deepest : ℕ) (m : Nest) (v 
       }
 
   there_each : (t : State) → HasMade m v t.store
-      → lists.Each (λ (a : Made). IsThere q m.symbols deepest v m.line wide t.store a.name a.extents) m.made
+      → lists.Each (λ (a : Made). IsThere width q m.symbols deepest v m.line wide t.store a.name a.extents) m.made
   there_each t made =
-      each_from (λ (a : Made). IsThere q m.symbols deepest v m.line wide t.store a.name a.extents) m.made
+      each_from (λ (a : Made). IsThere width q m.symbols deepest v m.line wide t.store a.name a.extents) m.made
       (λ a i. all_in (λ (a : Made). IsSomeAnd (t.store.bounds a.name) (AreBoundsBy m.symbols v a.extents)) m.made made a i)
 
-  module _ (t : State) (program : HoldsProgram fortran90 q t.store) (symbols : HoldSymbols m.symbols v t.store)
+  module _ (t : State) (program : HoldsProgram (fortran90 width) q t.store) (symbols : HoldSymbols m.symbols v t.store)
       (free : AreFree (made_arrays m) t.store) (going : t.way ≡ Going) where
     have : HaveValues m.symbols t.store (values_from v 0 m.symbols)
     have =
@@ -104,24 +105,24 @@ module _ (q : Program) (around : List (List ℕ)) (deepest : ℕ) (m : Nest) (v 
           symbols k y e ∙ ap (λ i. Int (v i)) (let f : k ≡ 0 + k = omega arith in f),
         ))
 
-    free_each : lists.Each (λ (a : Made). IsFreeArray q m.symbols deepest v m.line wide t.store a.name a.extents) m.made
+    free_each : lists.Each (λ (a : Made). IsFreeArray width q m.symbols deepest v m.line wide t.store a.name a.extents) m.made
     free_each =
-        each_from (λ (a : Made). IsFreeArray q m.symbols deepest v m.line wide t.store a.name a.extents) m.made
+        each_from (λ (a : Made). IsFreeArray width q m.symbols deepest v m.line wide t.store a.name a.extents) m.made
         (λ a i. by a i a.extents refl)
       where
         by : (a : Made) → In a m.made → (es : List Expression) → a.extents ≡ es
-            → IsFreeArray q m.symbols deepest v m.line wide t.store a.name es
+            → IsFreeArray width q m.symbols deepest v m.line wide t.store a.name es
         by a i [] is = tt
         by a i (e ∷ es) is =
             all_in (λ x. t.store.bounds x ≡ None) (made_arrays m) free a.name (array_in m.made a e es i is)
 
-    came : Came q m.symbols deepest v m.line wide m.made t
+    came : Came width q m.symbols deepest v m.line wide m.made t
     came =
-        allocate_all q m.symbols deepest v m.line wide m.made
-        (each_from (IsArray q m.symbols deepest v m.line wide) m.made is_array) h.parts.made_once t going program have
+        allocate_all width q m.symbols deepest v m.line wide m.made
+        (each_from (IsArray width q m.symbols deepest v m.line wide) m.made is_array) h.parts.made_once t going program have
         free_each
 
-    is_allocated : IsAllocated q m v t
+    is_allocated : IsAllocated width q m v t
     is_allocated = record {
       state = came.state;
       going = came.going;
@@ -135,11 +136,11 @@ module _ (q : Program) (around : List (List ℕ)) (deepest : ℕ) (m : Nest) (v 
     }
 
   abbrev IsGone : State → List ℕ → Type 0
-  IsGone t x = (does_all fortran90 None (deallocations m.line m.made) t).store.bounds x ≡ None
+  IsGone t x = (does_all (fortran90 width) None (deallocations m.line m.made) t).store.bounds x ≡ None
 
-  is_deallocated : (t : State) → HasMade m v t.store → t.way ≡ Going → IsDeallocated m t
+  is_deallocated : (t : State) → HasMade m v t.store → t.way ≡ Going → IsDeallocated width m t
   is_deallocated t made going =
-      let r = deallocate_all m.symbols v m.line m.made h.parts.made_once t going (there_each t made) in
+      let r = deallocate_all width m.symbols v m.line m.made h.parts.made_once t going (there_each t made) in
       record {
         going = r.going;
         rest = r.rest;
@@ -149,9 +150,9 @@ module _ (q : Program) (around : List (List ℕ)) (deepest : ℕ) (m : Nest) (v 
             (each_from (IsGone t) (made_arrays m) (λ x i. r.free x (In-Contains x (made_arrays m) i)));
       }
 
-pub arrays_are_allocated : ArraysAreAllocated
-arrays_are_allocated q around deepest m v t declarations h wide program symbols free going =
-    is_allocated q around deepest m v h wide t program symbols free going
+pub arrays_are_allocated : (width : Width) → ArraysAreAllocated width
+arrays_are_allocated width q around deepest m v t declarations h wide program symbols free going =
+    is_allocated width q around deepest m v h wide t program symbols free going
 
-pub arrays_are_deallocated : ArraysAreDeallocated
-arrays_are_deallocated q around deepest m v t h wide made going = is_deallocated q around deepest m v h wide t made going
+pub arrays_are_deallocated : (width : Width) → ArraysAreDeallocated width
+arrays_are_deallocated width q around deepest m v t h wide made going = is_deallocated width q around deepest m v h wide t made going

@@ -10,12 +10,12 @@ use Rattle.last_values.specs.InPlace.{assigned_part, end_part, first_text, own_t
 use Rattle.last_values.specs.PartsInPlace.{only_where_part, parts_before, parts_behind}
 use Rattle.last_values.specs.declared.behind.NestedLoop.{NestedLoop}
 use Rattle.linear_forms.proofs.Sizes.{both}
-use Rattle.normal_loops.specs.Bodies.{normal_branches, normal_part, normal_parts, normal_turns, placed}
+use Rattle.normal_loops.specs.Bodies.{normal_branches, normal_part, normal_parts, normal_turns, placed_loop}
 use Rattle.normal_loops.specs.Counting.{counting}
 use Rattle.normal_loops.specs.Loops.{nested, nested_in_branches}
 use Rattle.normal_loops.specs.Normal.{are_normal, are_normal_branches, is_normal}
 use Rattle.normal_loops.specs.Loops.{nested_in_parts, nested_loops, with_loop}
-use Rattle.nest_order.specs.orders.Shapes.{loops}
+use Rattle.nest_order.specs.orders.Shapes.{loops_of_shape}
 use Rattle.nest.specs.Bodies.{loops_in_branches, loops_in_parts, loops_of, nest_loops}
 use Rattle.nest.specs.Plain.{Branches, Choice, Jump, Label, Loop, Nest, Part, Parts, Run, Turns, branch}
 use Rattle.nest.specs.Plain.{no_branches, no_parts, part, parts}
@@ -94,7 +94,7 @@ module _ (symbols : List (List ℕ)) (line : ℕ) (round : List NormalLoop) (r :
       by false false = refl
 
 module _ (n : Nest) (all : List NestedLoop) where
-  placed_loops : (round : List NormalLoop) (r : NormalLoop) (p : Part) → loops_in_parts (parts (placed n all round r p)) ≡ loops_of p
+  placed_loops : (round : List NormalLoop) (r : NormalLoop) (p : Part) → loops_in_parts (parts (placed_loop n all round r p)) ≡ loops_of p
   placed_loops round r p = by (stands_behind (length n.symbols) all n.body r.variable)
     where
       by : (b : Bool) → loops_in_parts (parts (cond b (p ∷ []) (parts_before n.symbols n.line round r ++ p ∷ parts_behind n.symbols n.line round r))) ≡ loops_of p

@@ -11,9 +11,9 @@ use Rattle.last_values.specs.normal_forms.NormalLoops.{counter_name}
 use Rattle.nest.specs.Bodies.{nest_loops}
 use Rattle.nest.specs.Plain.{Loop, Nest}
 use Rattle.nest_order.specs.orders.Lists.{Distinct, In}
-use Rattle.nest_order.specs.orders.Shapes.{loops}
+use Rattle.nest_order.specs.orders.Shapes.{loops_of_shape}
 use Rattle.nest_order.specs.runs.Guarded.{variable_cell}
-use Rattle.nest_order.specs.runs.Nests.{is_one_of, is_variable}
+use Rattle.nest_order.specs.runs.Nests.{is_one_of, is_nest_variable}
 use Rattle.nest_order.specs.shapes.Shapes.{loop_numbered, numbers_of, shape_of, variable_of_loop}
 use Rattle.emission.specs.graph_orders.Nests.{run_nest}
 use Rattle.pass_laws.proofs.NormalFacts.LoopWalk as walk
@@ -43,7 +43,7 @@ module _ (es : List Declaration) (around : List (List ℕ)) (deepest : ℕ) (m :
       ap variable_of_loop (loop_there all l once i)
       ∙ (each_asked (IsPreparedLoop es m.symbols) all [] m.body h.plain each_loop l i).asked.variable
 
-  counter_at : (k : ℕ) → In k (loops (shape_of 0 m.body)) → variable_at k ≡ counter_name k
+  counter_at : (k : ℕ) → In k (loops_of_shape (shape_of 0 m.body)) → variable_at k ≡ counter_name k
   counter_at k i =
       let r = numbered all k (subst (In k) (loops_are 0 m.body h.plain) i) in
       subst (λ j. variable_at j ≡ counter_name j) (sym r.number) (counter_of r.loop r.among)
@@ -63,5 +63,5 @@ module _ (es : List Declaration) (around : List (List ℕ)) (deepest : ℕ) (m :
         ap₂ (λ a b. (a && pointwise int_eq [] c.subscripts) || b) (other_name k (f k (inl refl)))
         (none_of ks (λ j i. f j (inr i)))
 
-    pub no_variable : is_variable (run_nest m) c ≡ false
-    no_variable = none_of (loops (shape_of 0 m.body)) counter_at
+    pub no_variable : is_nest_variable (run_nest m) c ≡ false
+    no_variable = none_of (loops_of_shape (shape_of 0 m.body)) counter_at

@@ -4,8 +4,9 @@ use Rattle.std.proofs.Common.{Option, Some, None, Ok, Contains}
 use Rattle.std.specs.Option.{IsSomeAnd}
 use Rattle.components.specs.Lists as lists
 use Rattle.meaning.specs.Dialect.{fortran90}
+use Rattle.tree.specs.declared.width.Width.{Width}
 use Rattle.meaning.specs.Run.{Going, State, Way, counts_step, deallocates, does, does_all, evaluates, while_going}
-use Rattle.meaning.specs.Store.{Store, bounds_in, bounds_of, with_bounds}
+use Rattle.meaning.specs.Store.{Store, bounds_in, stored_bounds, with_bounds}
 use Rattle.meaning_laws.proofs.profiles.Lists.{cases_of, here, nowhere, there}
 use Rattle.nest.specs.Allocations.{deallocation_then, deallocations}
 use Rattle.nest.specs.Plain.{Made}
@@ -14,14 +15,14 @@ use Rattle.pass_laws.proofs.PreparedRuns.Allocating.{arrays_of, equal, names_of,
 use Rattle.pass_laws.specs.prepared_runs.Allocations.{IsSameBut, name_of_array}
 use Rattle.tree.specs.Plain.{Deallocate, Expression}
 
-deallocate_does : (line : ℕ) (x : List ℕ) (t : State) (bs : List (ℤ × ℤ)) → t.way ≡ Going
-    → bounds_of x t.store ≡ Ok bs
-    → does fortran90 None (Deallocate line x) t
+deallocate_does : (width : Width) (line : ℕ) (x : List ℕ) (t : State) (bs : List (ℤ × ℤ)) → t.way ≡ Going
+    → stored_bounds x t.store ≡ Ok bs
+    → does (fortran90 width) None (Deallocate line x) t
     ≡ record t { store = with_bounds x None t.store; steps = t.steps + 1; way = Going }
 unfolding while_going evaluates counts_step deallocates
-deallocate_does line x t bs w e = rw (w, e) refl
+deallocate_does width line x t bs w e = rw (w, e) refl
 
-module _ (symbols : List (List ℕ)) (v : ℕ → ℤ) (line : ℕ) where
+module _ (width : Width) (symbols : List (List ℕ)) (v : ℕ → ℤ) (line : ℕ) where
   abbrev pub IsThere : Store → List ℕ → List Expression → Type 0
   IsThere s x es = IsSomeAnd (s.bounds x) (AreBoundsBy symbols v es)
 
@@ -60,12 +61,12 @@ module _ (symbols : List (List ℕ)) (v : ℕ → ℤ) (line : ℕ) where
 
   abbrev pub LaterGo : List Made → Type 0
   LaterGo ms = (t : State) → t.way ≡ Going → lists.Each (λ (a : Made). IsThere t.store a.name a.extents) ms
-      → Went ms t (does_all fortran90 None (deallocations line ms) t)
+      → Went ms t (does_all (fortran90 width) None (deallocations line ms) t)
 
   deallocate_first : (x : List ℕ) (es : List Expression) (ms : List Made) (t : State) → LaterGo ms
       → lists.Each (λ y. ¬ (x ≡ y)) (names_of ms) → t.way ≡ Going → IsThere t.store x es
       → lists.Each (λ (a : Made). IsThere t.store a.name a.extents) ms
-      → WentWith x es ms t (does_all fortran90 None (deallocation_then line x es (deallocations line ms)) t)
+      → WentWith x es ms t (does_all (fortran90 width) None (deallocation_then line x es (deallocations line ms)) t)
   deallocate_first x [] ms t later apart going own each =
       let r = later t going each in
       record { going = r.going; rest = r.rest; others = r.others; free = r.free }
@@ -73,13 +74,13 @@ module _ (symbols : List (List ℕ)) (v : ℕ → ℤ) (line : ℕ) where
       let b = bounds_there (t.store.bounds x) (e ∷ es) own in
       let store : Store = with_bounds x None t.store in
       let t1 : State = record t { store = store; steps = t.steps + 1; way = Going } in
-      let u : State = does_all fortran90 None (deallocations line ms) t1 in
+      let u : State = does_all (fortran90 width) None (deallocations line ms) t1 in
       let bounds : (y : List ℕ) → ¬ (x ≡ y) → store.bounds y ≡ t.store.bounds y
       = λ y k. ap (λ (b : Bool). cond b None (t.store.bounds y)) (unequal x y k) in
       let none : store.bounds x ≡ None = ap (λ (b : Bool). cond b None (t.store.bounds x)) (equal x) in
       let r = later t1 refl (remain ms t.store store x apart bounds each) in
-      subst (λ (w : State). WentWith x (e ∷ es) ms t (does_all fortran90 None (deallocations line ms) w))
-      (sym (deallocate_does line x t b.0 going b.1))
+      subst (λ (w : State). WentWith x (e ∷ es) ms t (does_all (fortran90 width) None (deallocations line ms) w))
+      (sym (deallocate_does width line x t b.0 going b.1))
       (record {
         going = r.going;
         rest = r.rest ∙ ap (λ (y : Way). record t { store = u.store; steps = u.steps; way = y }) (sym going);

@@ -27,9 +27,9 @@ use Rattle.nest_order.proofs.runs.Going.{guarded_went}
 use Rattle.nest_order.proofs.runs.Results.{each_of}
 use Rattle.nest_order.proofs.runs.Runs.{effected}
 use Rattle.nest_order.proofs.runs.Variables.{Near-put, cell_name}
-use Rattle.nest_order.specs.runs.Guarded.{Guarded, dialect, names_of, sequential}
+use Rattle.nest_order.specs.runs.Guarded.{GuardedAssignment, dialect, names_of, sequential}
 use Rattle.nest_order.specs.runs.Laws.{GoesOnNear}
-use Rattle.nest_order.specs.runs.Nests.{Near, Nest, is_variable}
+use Rattle.nest_order.specs.runs.Nests.{Near, RunNest, is_nest_variable}
 use Rattle.nest_order.specs.runs.Quiet.{AreQuiet, IsQuiet}
 use Rattle.pass_laws.specs.prepared_nests.After.{AreEndings, IsEnding}
 use Rattle.pass_laws.specs.prepared_runs.Unlabelled.{HasNoLabel, IsNoLabel}
@@ -109,7 +109,7 @@ module _ (P : List ℕ → Type 0) where
 
 -- ---- runs
 
-module _ (bits : ℕ) (n : Nest) (P : List ℕ → Type 0) (apart : (c : Cell) → P c.name → is_variable n c ≡ false) where
+module _ (bits : ℕ) (n : RunNest) (P : List ℕ → Type 0) (apart : (c : Cell) → P c.name → is_nest_variable n c ≡ false) where
   alike : (s t : Store) → Near n s t → (x : List ℕ) → P x → Alike bits s t x
   alike s t near x h =
       (near.bounds x, λ is c e. near.held c (apart c (subst P (sym (cell_name (s.bounds x) x is c e).0) h)))
@@ -131,7 +131,7 @@ module _ (bits : ℕ) (n : Nest) (P : List ℕ → Type 0) (apart : (c : Cell) �
         → GoesOnNear n (does (sequential bits) None (Assignment line mark left right) s)
         (does (dialect bits arrays) None (Assignment line mark left right) u)
     assignment_ends line mark left right s u over h going =
-        let g : Guarded = record { guard = None; left = left; right = right } in
+        let g : GuardedAssignment = record { guard = None; left = left; right = right } in
         let a = effected bits line mark g s going in
         let same = effect_alike bits s.store u.store g
         (each_of (Alike bits s.store u.store) (names_of g)

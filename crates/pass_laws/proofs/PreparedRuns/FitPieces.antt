@@ -8,7 +8,7 @@ use Rattle.std.proofs.lemmas.List.{length-drop, length-map}
 use Rattle.array_form.specs.holds.Bounds.{is_safe}
 use Rattle.array_form.specs.profile.Laws.{ArrayFormIsOfProfile, IsGuard, rise}
 use Rattle.array_form.specs.profile.Settings.{IsWritable}
-use Rattle.array_form.specs.forms.Following.{has_none}
+use Rattle.array_form.specs.forms.Following.{has_no_loop}
 use Rattle.array_form.specs.forms.Loops as forms
 use Rattle.array_form.specs.forms.Statements.{loops_from}
 use Rattle.dependence_graph.specs.declared.graphs.Edge.{Edge}
@@ -48,7 +48,7 @@ use Rattle.pass_laws.proofs.NormalFacts.MadeStatements.{counter_same}
 use Rattle.last_values.specs.normal_forms.NormalLoops.{counter_name}
 use Rattle.meaning_laws.proofs.profiles.Lists.{cases_of}
 use Rattle.pass_laws.proofs.PreparedRuns.Blocks.{first_without, one_is, then_is}
-use Rattle.array_form.specs.holds.Surroundings.{counted_of, counted}
+use Rattle.array_form.specs.holds.Surroundings.{counted_of, counted_loop}
 use Rattle.emission.specs.emission_pieces.Shapes.{edges_of}
 
 -- ---- a statement, and a loop
@@ -134,10 +134,10 @@ whole_part n = record {
   below = λ s i. (Each-In (λ (s : ℕ). (0 ≤ s) × (s < n)) (range_with_len 0 n) (part_from n 0 n (omega arith)) s i).1;
 }
 
-some_loops : (a : forms.Surroundings) (k : ℕ) → k - 1 < length a.loops → has_none (loops_from a k) ≡ false
+some_loops : (a : forms.FormSurroundings) (k : ℕ) → k - 1 < length a.loops → has_no_loop (loops_from a k) ≡ false
 some_loops a k h = by (loops_from a k) (length-drop (k - 1) a.loops)
   where
-    by : (ls : List forms.Loop) → length ls ≡ length a.loops - (k - 1) → has_none ls ≡ false
+    by : (ls : List forms.FormLoop) → length ls ≡ length a.loops - (k - 1) → has_no_loop ls ≡ false
     by [] e = absurd (omega arith)
     by (l ∷ ls) e = refl
 
@@ -269,7 +269,7 @@ module _ (forms_are : ArrayFormIsOfProfile) (ds : List Declaration) (m : Nest) (
       let deep = fit.deep s within in
       let none = none_held d s within h may in
       let moves = regular (suc d) s (level_is d s within h) none in
-      let many = length-map (loops_at m s) (λ (l : Loop). counted_of (length (loops_at m s)) (counted l)) in
+      let many = length-map (loops_at m s) (λ (l : Loop). counted_of (length (loops_at m s)) (counted_loop l)) in
       forms_are ds a (suc d) x.statement.line (Some (mark_of m s (suc d))) x.statement.guard x.statement.left x.statement.right f.kind v
       (fit.writable s within) f.line_is (mark_is s (suc d) within (small_level (suc d) (omega (arith, deep, h))))
       f.guard_is f.left_is f.right_is (free_left d v s r within) f.left_depth f.right_depth
@@ -287,7 +287,7 @@ module _ (forms_are : ArrayFormIsOfProfile) (ds : List Declaration) (m : Nest) (
         each cs (λ s i. f s (In-right s b (concat cs) i)) (distinct_right b (concat cs) once),
       )
 
-  to_in : (s : ℕ) (xs : List ℕ) → lists.In s xs → In s xs
+  to_in : (s : ℕ) (xs : List ℕ) → lists.IsMember s xs → In s xs
   to_in s [] i = i
   to_in s (x ∷ xs) (inl e) = inl e
   to_in s (x ∷ xs) (inr i) = inr (to_in s xs i)

@@ -11,6 +11,7 @@ use Rattle.meaning.specs.Agreement.{MomentsAgree}
 use Rattle.meaning.specs.Reads.{names_in_block}
 use Rattle.meaning.specs.Blocks.{outermost}
 use Rattle.meaning.specs.Dialect.{fortran77}
+use Rattle.tree.specs.declared.width.Width.{Width}
 use Rattle.meaning.specs.Holding.{HasBounds, HoldsProgram}
 use Rattle.meaning.specs.Profile77.{IsDeclaration, IsProgram77}
 use Rattle.meaning.specs.Relined.{AlikeButLine, way_without_line}
@@ -64,6 +65,8 @@ use Rattle.pass_laws.proofs.PreparedRuns.Symbols.{IsNumber, have_values, holds_n
 use Rattle.pass_laws.proofs.PreparedRuns.Symbols.{value_there, values_in}
 use Rattle.pass_laws.specs.prepared_runs.Laws.{NormalNestGoesOnAsLoop}
 use Rattle.pass_laws.specs.prepared_runs.Running.{loops_then_after}
+use Rattle.tree.specs.Widths.{bits_of}
+use Rattle.meaning.proofs.Widths.{narrowest, widest}
 
 -- ---- stores and moments
 
@@ -190,11 +193,11 @@ bare_block n none =
 
 -- ---- names
 
-pub short_name : (p : Program) → IsProgram77 fortran77 p → (x : List ℕ) → Contains (names_of p) x → length x ≤ 6
-short_name p program x i =
+pub short_name : (width : Width) (p : Program) → IsProgram77 (fortran77 width) p → (x : List ℕ) → Contains (names_of p) x → length x ≤ 6
+short_name width p program x i =
     let d = is_declared p.declarations x i in
     let f = declarations.found p.declarations x d.0 d.1 in
-    let is = all_at (IsDeclaration fortran77) p.declarations d.0 program.declarations.each f.among in
+    let is = all_at (IsDeclaration (fortran77 width)) p.declarations d.0 program.declarations.each f.among in
     subst (λ (y : List ℕ). length y ≤ 6) f.name is.name.within
 
 counter_bounds : (o : Option Declaration) (b : Option (List (ℤ × ℤ))) → IfSome o (λ (e : Declaration). HasBounds e.extent b)
@@ -202,7 +205,7 @@ counter_bounds : (o : Option Declaration) (b : Option (List (ℤ × ℤ))) → I
 counter_bounds None b h g = absurd g
 counter_bounds (Some e) b h g = subst (λ x. HasBounds x b) g.scalar h
 
-module _ (p r : Program) (n m : Nest) (found : IsFoundNest p n) (program : IsProgram77 fortran77 p)
+module _ (width : Width) (p r : Program) (n m : Nest) (found : IsFoundNest p n) (program : IsProgram77 (fortran77 width) p)
     (is_nest : Contains (found_in p) (InNest n)) (made : normalised n ≡ Some m)
     (add : AddMadeNames p.declarations r.declarations)
     (counters : All (λ (l : Loop). IsSomeAnd (declared r.declarations l.variable) IsCounter) (nest_loops m)) where
@@ -210,7 +213,7 @@ module _ (p r : Program) (n m : Nest) (found : IsFoundNest p n) (program : IsPro
   c = as_statement found.loop.loop.loop
 
   source : IsBranchedSource n
-  source = found_nest_is_branched_source p n program is_nest
+  source = found_nest_is_branched_source width p n program is_nest
 
   is : texts.IsMadeOf n m
   is = texts.made_of n m made
@@ -254,15 +257,15 @@ module _ (p r : Program) (n m : Nest) (found : IsFoundNest p n) (program : IsPro
       (block_known p.declarations (statement c no_statements) stands.round (stands.is, tt))
 
   apart : (x : List ℕ) → Contains (names_of p) x → is_among (counters_in n) x ≡ false
-  apart x i = no_counter n m parts x (short_name p program x i)
+  apart x i = no_counter n m parts x (short_name width p program x i)
 
   declared_counters : All (λ x. IsSomeAnd (declared r.declarations x) IsCounter) (counters_in n)
   declared_counters =
       subst (All (λ x. IsSomeAnd (declared r.declarations x) IsCounter)) (variables_are_counters n m parts)
       (All-map (λ x. IsSomeAnd (declared r.declarations x) IsCounter) (λ (l : Loop). l.variable) (nest_loops m) counters)
 
-  module _ (s t : State) (holds : HoldsProgram fortran77 r t.store) (sized : HoldsSized t.store) (alike : GoOnAlike p s t)
-      (sound : IsSound (does fortran77 None c s).way) where
+  module _ (s t : State) (holds : HoldsProgram (fortran77 width) r t.store) (sized : HoldsSized t.store) (alike : GoOnAlike p s t)
+      (sound : IsSound (does (fortran77 width) None c s).way) where
     abbrev s0 : State
     s0 = record s { store = t.store }
 
@@ -270,15 +273,15 @@ module _ (p r : Program) (n m : Nest) (found : IsFoundNest p n) (program : IsPro
     values = values_in n.symbols t.store
 
     abbrev first : State
-    first = does_all fortran77 None (block_of_nest n) s0
+    first = does_all (fortran77 width) None (block_of_nest n) s0
 
     abbrev second : State
-    second = does_all fortran77 None (block_of_nest m) t
+    second = does_all (fortran77 width) None (block_of_nest m) t
 
     known : HaveValues n.symbols t.store (values_from (length n.symbols) 0 values)
     known =
         have_values n.symbols values t.store
-        (λ k x e. value_there n.symbols t.store k x e (holds_number fortran77 r t.store x holds (symbol_number k x e)))
+        (λ k x e. value_there n.symbols t.store k x e (holds_number (fortran77 width) r t.store x holds (symbol_number k x e)))
 
     scalars : All (λ x. t.store.bounds x ≡ Some []) (counters_in n)
     scalars k d i =
@@ -287,29 +290,29 @@ module _ (p r : Program) (n m : Nest) (found : IsFoundNest p n) (program : IsPro
 
     -- ---- the loop, and the nest's loop
 
-    moments : MomentsAgree p (does fortran77 None c s) (does fortran77 None c s0)
-    moments = statements_keep_agreement fortran77 None p (statement c no_statements) s s0 known_names
+    moments : MomentsAgree p (does (fortran77 width) None c s) (does (fortran77 width) None c s0)
+    moments = statements_keep_agreement (fortran77 width) None p (statement c no_statements) s s0 known_names
         (record { store = alike.agree; written = refl; input = refl; had_value = refl; steps = refl; way = refl })
 
-    runs : AlikeButLine (does fortran77 None c s0) first × ((does fortran77 None c s0).had_value ≡ first.had_value)
-    runs = found_nest_runs fortran77 p n found program fortran77 None s0
+    runs : AlikeButLine (does (fortran77 width) None c s0) first × ((does (fortran77 width) None c s0).had_value ≡ first.had_value)
+    runs = found_nest_runs (fortran77 width) p n found program (fortran77 width) None s0
 
     first_sound : IsSound first.way
-    first_sound = sound_beside (does fortran77 None c s0).way first.way runs.0.way (subst IsSound moments.way sound)
+    first_sound = sound_beside (does (fortran77 width) None c s0).way first.way runs.0.way (subst IsSound moments.way sound)
 
-    alone : first ≡ does fortran77 None (statement_of_part n.line n.body) s0
-    alone = ap (λ (b : Block). does_all fortran77 None b s0) old_block
+    alone : first ≡ does (fortran77 width) None (statement_of_part n.line n.body) s0
+    alone = ap (λ (b : Block). does_all (fortran77 width) None b s0) old_block
 
     first_goes : first.way ≡ Going
     first_goes =
         ap (λ (u : State). u.way) alone
-        ∙ no_jump (does fortran77 None (statement_of_part n.line n.body) s0).way
-        ((part_on 31 n.line n.body).at s0 (λ g. ways.going_on s.way alike.going)
+        ∙ no_jump (does (fortran77 width) None (statement_of_part n.line n.body) s0).way
+        ((part_on (bits_of width) n.line n.body).at s0 (λ g. ways.going_on s.way alike.going)
         (subst (λ (u : State). IsSound u.way) alone first_sound))
-        (ways.lands 31 n.line n.body [] source.jumps s0 (ways.going_comes _ s.way alike.going))
+        (ways.lands (bits_of width) n.line n.body [] source.jumps s0 (ways.going_comes _ s.way alike.going))
 
-    loop_goes : (does fortran77 None c s).way ≡ Going
-    loop_goes = moments.way ∙ going_beside (does fortran77 None c s0).way first.way runs.0.way first_goes
+    loop_goes : (does (fortran77 width) None c s).way ≡ Going
+    loop_goes = moments.way ∙ going_beside (does (fortran77 width) None c s0).way first.way runs.0.way first_goes
 
     -- ---- the normal form
 
@@ -318,13 +321,13 @@ module _ (p r : Program) (n m : Nest) (found : IsFoundNest p n) (program : IsPro
 
     both : GoOnButCounters n first second
     both =
-        found_nest_keeps_meaning 31 p n m values s0 t (omega arith) (omega arith) program is_nest made
+        found_nest_keeps_meaning width (bits_of width) p n m values s0 t (narrowest width) (widest width) program is_nest made
         (record { way = alike.going; way_beside = t_goes; stores = record { bounds = λ x h. refl; held = λ d h. refl } })
         sized sized known scalars first_goes
 
-    agree : Agree p (does fortran77 None c s).store second.store
-    agree = agree_on p (does fortran77 None c s).store first.store second.store
-        (subst (λ (u : Store). Agree p (does fortran77 None c s).store u) runs.0.store moments.store)
+    agree : Agree p (does (fortran77 width) None c s).store second.store
+    agree = agree_on p (does (fortran77 width) None c s).store first.store second.store
+        (subst (λ (u : Store). Agree p (does (fortran77 width) None c s).store u) runs.0.store moments.store)
         (record {
           bounds = λ x i. sym (both.stores.bounds x (apart x i));
           held = λ d i here. sym (both.stores.held d (apart d.name i));
@@ -335,38 +338,38 @@ module _ (p r : Program) (n m : Nest) (found : IsFoundNest p n) (program : IsPro
 
     loop_lines : SameLines s0 first
     loop_lines =
-        quiet_statements_keep_lines fortran77 None (block_of_nest n) s0
+        quiet_statements_keep_lines (fortran77 width) None (block_of_nest n) s0
         (subst AreQuiet (sym old_block) (part_quiet n.line n.body, tt))
 
     normal_lines : SameLines t second
     normal_lines =
-        quiet_statements_keep_lines fortran77 None (block_of_nest m) t
+        quiet_statements_keep_lines (fortran77 width) None (block_of_nest m) t
         (subst AreQuiet (sym new_block) (part_quiet m.line m.body, endings_quiet m.after ends))
 
-    written : second.written ≡ (does fortran77 None c s).written
+    written : second.written ≡ (does (fortran77 width) None c s).written
     written =
         normal_lines.written ∙ (ap (λ (u : State). u.written) alike.rest
         ∙ sym (moments.written ∙ (runs.0.written ∙ loop_lines.written)))
 
-    input : second.input ≡ (does fortran77 None c s).input
+    input : second.input ≡ (does (fortran77 width) None c s).input
     input =
         normal_lines.input ∙ (ap (λ (u : State). u.input) alike.rest
         ∙ sym (moments.input ∙ (runs.0.input ∙ loop_lines.input)))
 
-    had_value : second.had_value ≡ (does fortran77 None c s).had_value
+    had_value : second.had_value ≡ (does (fortran77 width) None c s).had_value
     had_value =
         normal_lines.had_value ∙ (ap (λ (u : State). u.had_value) alike.rest
         ∙ sym (moments.had_value ∙ (runs.1 ∙ loop_lines.had_value)))
 
-    goes_on : GoOnAlike p (does fortran77 None c s) second
+    goes_on : GoOnAlike p (does (fortran77 width) None c s) second
     goes_on = record {
       going = loop_goes;
       agree = agree;
-      rest = with_rest second (does fortran77 None c s) written input had_value (both.way_beside ∙ sym loop_goes);
+      rest = with_rest second (does (fortran77 width) None c s) written input had_value (both.way_beside ∙ sym loop_goes);
     }
 
-pub normal_nest_goes_on_as_loop : NormalNestGoesOnAsLoop
-normal_nest_goes_on_as_loop p r n m found s t program is_nest made add counters holds sized alike sound =
-    subst (λ (b : Block). GoOnAlike p (does fortran77 None (as_statement found.loop.loop.loop) s)
-    (does_all fortran77 None b t)) (new_block p r n m found program is_nest made add counters)
-    (goes_on p r n m found program is_nest made add counters s t holds sized alike sound)
+pub normal_nest_goes_on_as_loop : (width : Width) → NormalNestGoesOnAsLoop width
+normal_nest_goes_on_as_loop width p r n m found s t program is_nest made add counters holds sized alike sound =
+    subst (λ (b : Block). GoOnAlike p (does (fortran77 width) None (as_statement found.loop.loop.loop) s)
+    (does_all (fortran77 width) None b t)) (new_block width p r n m found program is_nest made add counters)
+    (goes_on width p r n m found program is_nest made add counters s t holds sized alike sound)

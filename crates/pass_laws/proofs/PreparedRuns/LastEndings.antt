@@ -4,8 +4,8 @@ use Rattle.std.specs.Prelude.{length}
 use Rattle.std.specs.List.{flat_map}
 use Rattle.tree.specs.Plain.{Expression, Statement, block}
 use Rattle.last_values.specs.Behind.{stands_behind}
-use Rattle.last_values.specs.ValuesBehind.{left_behind, or_none, values_behind}
-use Rattle.last_values.specs.Endings.{Texts, after_statements, assigned, ending, last_texts, only_where, where_all_hold}
+use Rattle.last_values.specs.ValuesBehind.{left_behind, statements_or_none, values_behind}
+use Rattle.last_values.specs.Endings.{Texts, after_statements, assigned, loop_ending, last_texts, only_where, where_all_hold}
 use Rattle.last_values.specs.Endings.{with_last_forms}
 use Rattle.last_values.specs.declared.behind.NestedLoop.{NestedLoop}
 use Rattle.last_values.specs.declared.normal_forms.last.LastForms.{LastForms}
@@ -27,7 +27,7 @@ joined_all : {A : Type 0} (f : A → List Statement) → ((x : A) → AreEndings
 joined_all f h [] = tt
 joined_all f h (x ∷ xs) = joined (f x) (flat_map f xs) (h x) (joined_all f h xs)
 
-ending_is : (line : ℕ) (v : List ℕ) (trip : Trip) (t : Texts) → AreEndings (block (ending line v trip t))
+ending_is : (line : ℕ) (v : List ℕ) (trip : Trip) (t : Texts) → AreEndings (block (loop_ending line v trip t))
 ending_is line v trip t = by (is_positive trip) (is_known trip)
   where
     by : (b c : Bool) → AreEndings (block (cond b (assigned line v t.end ∷ []) (cond c (assigned line v t.first ∷ [])
@@ -40,19 +40,19 @@ where_is : (line : ℕ) (ts : List Expression) (cs : List Statement) → AreEndi
 where_is line [] cs h = h
 where_is line (t ∷ ts) cs h = (((h, tt), tt), tt)
 
-behind_is : (symbols : List (List ℕ)) (line : ℕ) (round : List NormalLoop) (r : NormalLoop) → AreEndings (block (or_none (after_statements symbols line round r)))
+behind_is : (symbols : List (List ℕ)) (line : ℕ) (round : List NormalLoop) (r : NormalLoop) → AreEndings (block (statements_or_none (after_statements symbols line round r)))
 unfolding after_statements
 behind_is symbols line round r = by (have_plain_trips round) (last_forms (length symbols) round r)
   where
-    by : (b : Bool) (o : Option LastForms) → AreEndings (block (or_none (cond b (with_last_forms symbols line round r o) None)))
+    by : (b : Bool) (o : Option LastForms) → AreEndings (block (statements_or_none (cond b (with_last_forms symbols line round r o) None)))
     by true None = tt
-    by true (Some f) = where_is line (tests_of symbols round) (ending line r.variable f.trip (last_texts symbols round f)) (ending_is line r.variable f.trip (last_texts symbols round f))
+    by true (Some f) = where_is line (tests_of symbols round) (loop_ending line r.variable f.trip (last_texts symbols round f)) (ending_is line r.variable f.trip (last_texts symbols round f))
     by false o = tt
 
 left_is : (n : Nest) (l : NestedLoop) → AreEndings (block (left_behind n.symbols n.line (loops_in n) n.body l))
 left_is n l = by (stands_behind (length n.symbols) (loops_in n) n.body l.turns.variable)
   where
-    by : (b : Bool) → AreEndings (block (cond b (or_none (after_statements n.symbols n.line l.round l.turns)) []))
+    by : (b : Bool) → AreEndings (block (cond b (statements_or_none (after_statements n.symbols n.line l.round l.turns)) []))
     by true = behind_is n.symbols n.line l.round l.turns
     by false = tt
 

@@ -1,9 +1,9 @@
 -- What is emitted for a nest reads and writes no lines, and no label stands in it.
 use Rattle.std.proofs.Common.{ℕ, suc, Bool, true, false, cond, Option, List, [], ◌∷◌, ◌≡◌, refl, Some, None}
-use Rattle.array_form.specs.forms.Loops.{Surroundings, names_of}
+use Rattle.array_form.specs.forms.Loops.{FormSurroundings, form_names_of}
 use Rattle.array_form.specs.forms.Forms.{form}
 use Rattle.array_form.specs.forms.Statements.{array_assignment, guarded_by, guarded_form, left_form, loops_assigned}
-use Rattle.array_form.specs.forms.Statements.{loops_from, right_form, stand_in_guard, tests_of}
+use Rattle.array_form.specs.forms.Statements.{loops_from, right_form, stand_in_guard, form_tests_of}
 use Rattle.emission.specs.emission_pieces.Nests.{loops_at, standing_at}
 use Rattle.emission.specs.emission_pieces.Pieces.{Formed, Kept, Piece, Pieces, Turning, block_of_piece, block_of_pieces}
 use Rattle.emission.specs.emission_pieces.Pieces.{kept_assignment, mark_of, no_pieces, piece}
@@ -41,7 +41,7 @@ of_kept P line None c h k = h
 of_kept P line (Some e) c h k = k e
 
 -- and what is so of a WHERE too is so of an array form
-pub of_form : (P : Statement → Type 0) (a : Surroundings) (k line : ℕ) (mark : Option Mark) (guard : Option Expression) (left : Reference) (right : Expression)
+pub of_form : (P : Statement → Type 0) (a : FormSurroundings) (k line : ℕ) (mark : Option Mark) (guard : Option Expression) (left : Reference) (right : Expression)
     → P (array_assignment a k line mark left right) → ((mask : Expression) → P (Where line mark mask (left_form a k left) (right_form a k left right)))
     → ((test : Expression) → P (If line (arm test (statement (array_assignment a k line mark left right) no_statements) no_arms) no_statements)) → P (guarded_form a k line mark guard left right)
 of_form P a k line mark None left right x y z = x
@@ -63,7 +63,7 @@ conditions_no_label line [] c h = (h, tt)
 conditions_no_label line (e ∷ es) c h = (tt, tt)
 
 module _ (n : Nest) where
-  abbrev around : ℕ → Surroundings
+  abbrev around : ℕ → FormSurroundings
   around s = surroundings_of n (loops_at n s)
 
   abbrev own : ℕ → Guarded
@@ -73,7 +73,7 @@ module _ (n : Nest) where
     piece_quiet : (k : ℕ) (p : Piece) → AreQuiet (block_of_piece n k p)
     piece_quiet k (Kept s) = (of_kept IsQuiet (own s).line (own s).guard (kept_assignment n s) tt (λ e. (((tt, tt), tt), tt)), tt)
     piece_quiet k (Formed s) =
-        conditions_quiet (own s).line (tests_of (names_of (around s)) (loops_from (around s) k)) (guarded_form (around s) k (own s).line (Some (mark_of n s k)) (own s).guard (own s).left (own s).right)
+        conditions_quiet (own s).line (form_tests_of (form_names_of (around s)) (loops_from (around s) k)) (guarded_form (around s) k (own s).line (Some (mark_of n s k)) (own s).guard (own s).left (own s).right)
         (of_form IsQuiet (around s) k (own s).line (Some (mark_of n s k)) (own s).guard (own s).left (own s).right tt (λ e. tt) (λ e. (((tt, tt), tt), tt)))
     piece_quiet k (Turning l ps) = (pieces_quiet (suc k) ps, tt)
 
@@ -84,7 +84,7 @@ module _ (n : Nest) where
   piece_no_label : (k : ℕ) (p : Piece) → HasNoLabel (block_of_piece n k p)
   piece_no_label k (Kept s) = (of_kept IsNoLabel (own s).line (own s).guard (kept_assignment n s) tt (λ e. tt), tt)
   piece_no_label k (Formed s) =
-      conditions_no_label (own s).line (tests_of (names_of (around s)) (loops_from (around s) k)) (guarded_form (around s) k (own s).line (Some (mark_of n s k)) (own s).guard (own s).left (own s).right)
+      conditions_no_label (own s).line (form_tests_of (form_names_of (around s)) (loops_from (around s) k)) (guarded_form (around s) k (own s).line (Some (mark_of n s k)) (own s).guard (own s).left (own s).right)
       (of_form IsNoLabel (around s) k (own s).line (Some (mark_of n s k)) (own s).guard (own s).left (own s).right tt (λ e. tt) (λ e. tt))
   piece_no_label k (Turning l ps) = (tt, tt)
 

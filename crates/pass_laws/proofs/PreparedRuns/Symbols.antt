@@ -19,7 +19,7 @@ use Rattle.tree.specs.declared.ops.Value.TheVariants.{Int, Truth}
 use Rattle.linear_forms.specs.Laws.{HoldsSized}
 use Rattle.linear_forms.specs.Linear.{HaveValues}
 use Rattle.linear_forms.proofs.Sizes.{both}
-use Rattle.nest_reasons.specs.Symbols.{is_integer, is_integer_scalar, is_scalar, is_symbol, symbols_of}
+use Rattle.nest_reasons.specs.Symbols.{is_integer, is_integer_scalar, is_scalar_extent, is_symbol, symbols_of}
 use Rattle.nest_order.specs.runs.Guarded.{variable_cell}
 use Rattle.nest_order.specs.runs.Touched.{nth_of}
 use Rattle.last_values.specs.normal_forms.Numbers.{values_from}
@@ -40,14 +40,14 @@ module _ (ds : List Declaration) (ordered : IsInByteOrder (names ds)) where
   integer_kind Integer h = refl
   integer_kind Logical h = let no : ⊥ = cc in absurd no
 
-  scalar_extent : (e : Extent) → is_scalar e ≡ true → e ≡ Given []
+  scalar_extent : (e : Extent) → is_scalar_extent e ≡ true → e ≡ Given []
   scalar_extent (Given []) h = refl
   scalar_extent (Given (b ∷ bs)) h = let no : ⊥ = cc in absurd no
   scalar_extent (Later n) h = let no : ⊥ = cc in absurd no
 
   number_is : (d : Declaration) → Contains ds d → is_integer_scalar d ≡ true → IsNumber ds d.name
   number_is d among h =
-      let b = both (is_integer d.kind) (is_scalar d.extent) h in
+      let b = both (is_integer d.kind) (is_scalar_extent d.extent) h in
       record { declaration = d; is = once ds d ordered among; kind = integer_kind d.kind b.0; extent = scalar_extent d.extent b.1 }
 
   among_symbols : (x : List ℕ) (written : List (List ℕ)) (cs : List Declaration) → ((d : Declaration) → Contains cs d → Contains ds d)

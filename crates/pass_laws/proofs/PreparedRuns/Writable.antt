@@ -23,7 +23,7 @@ use Rattle.nest.specs.declared.parts.Trip.{Trip}
 use Rattle.pass_laws.proofs.NormalFacts.MadeStatements.{variables_of_loops}
 use Rattle.meaning_laws.specs.profiles.Profiles.{AddMadeNames}
 use Rattle.pass_laws.proofs.ReadyNests.Lists.{Each-Contains}
-use Rattle.array_form.specs.holds.Surroundings.{counted, counted_of, is_spread_name, is_titled_spread, may_spread, spread_name}
+use Rattle.array_form.specs.holds.Surroundings.{counted_loop, counted_of, is_spread_name, is_titled_spread, may_spread, spread_name}
 use Rattle.array_form.specs.holds.Surroundings.{surroundings_of}
 use Rattle.pass_laws.proofs.PreparedNests.Normal.MadeNames.{not_hidden, spread_is_source}
 use Rattle.pass_laws.proofs.PreparedRuns.FitPieces.{IsFitLoop}
@@ -51,7 +51,7 @@ spread_free es m a h =
 
 -- ---- trips
 
-record IsLimitedLoop (n k : ℕ) (l : forms.Loop) : Type 0 where
+record IsLimitedLoop (n k : ℕ) (l : forms.FormLoop) : Type 0 where
   limited : is_limited n l.trip.form ≡ true
   short : length l.trip.form.coefficients ≤ n + k
   least : 1 ≤ l.trip.divisor
@@ -68,7 +68,7 @@ positive : (z : ℤ) (k : ℕ) → z ≡ pos k → 1 ≤ k → 1 ≤ nat_abs z
 positive z k e h = subst (λ (z : ℤ). 1 ≤ nat_abs z) (sym e) h
 
 limited_loops : (es : List Declaration) (symbols : List (List ℕ)) (n depth : ℕ) (ls : List Loop) → n ≤ 7 → HaveKnown symbols depth ls → Each (IsFitLoop es) ls
-    → Each (IsLimitedLoop n (length symbols)) (map (λ (l : Loop). counted_of n (counted l)) ls)
+    → Each (IsLimitedLoop n (length symbols)) (map (λ (l : Loop). counted_of n (counted_loop l)) ls)
 limited_loops es symbols n depth [] few h f = tt
 limited_loops es symbols n depth (l ∷ ls) few h f =
     let t = h.1 in
@@ -86,20 +86,20 @@ limited_loops es symbols n depth (l ∷ ls) few h f =
 -- ---- all
 
 pub writable_is : (es : List Declaration) (m : Nest) (ls : List Loop) → AddMadeNames m.declarations es → IsFree es (codes "TRANSPOSE") → IsFree es (codes "RESHAPE") → length ls ≤ 7
-    → trips.AreDistinct (forms.names_of (surroundings_of m ls)) → Each (IsIntegerScalar es) (variables_of_loops ls) → Each (IsIntegerScalar es) m.symbols → HaveKnown m.symbols 0 ls
+    → trips.AreDistinct (forms.form_names_of (surroundings_of m ls)) → Each (IsIntegerScalar es) (variables_of_loops ls) → Each (IsIntegerScalar es) m.symbols → HaveKnown m.symbols 0 ls
     → Each (IsFitLoop es) ls → IsWritable es (surroundings_of m ls)
 writable_is es m ls a transpose reshape few distinct integers symbols known fit =
-    let all = map (λ (l : Loop). counted_of (length ls) (counted l)) ls in
-    let many : length all ≡ length ls = length-map ls (λ (l : Loop). counted_of (length ls) (counted l)) in
+    let all = map (λ (l : Loop). counted_of (length ls) (counted_loop l)) ls in
+    let many : length all ≡ length ls = length-map ls (λ (l : Loop). counted_of (length ls) (counted_loop l)) in
     let names = variables_counted (length ls) ls in
     let loops = limited_loops es m.symbols (length ls) 0 ls few known fit in
-    let long : length (forms.names_of (surroundings_of m ls)) ≡ length ls + length m.symbols =
-    length-append (forms.variables_of all) m.symbols ∙ ap (λ k. k + length m.symbols) (length-map all (λ (l : forms.Loop). l.variable) ∙ many) in
+    let long : length (forms.form_names_of (surroundings_of m ls)) ≡ length ls + length m.symbols =
+    length-append (forms.form_variables_of all) m.symbols ∙ ap (λ k. k + length m.symbols) (length-map all (λ (l : forms.FormLoop). l.variable) ∙ many) in
     record {
       few = omega (arith, many, few);
       distinct = distinct;
-      integers = λ x c. Each-Contains (IsIntegerScalar es) (forms.variables_of all ++ m.symbols) x
-          (Each-append (IsIntegerScalar es) (forms.variables_of all) m.symbols (subst (Each (IsIntegerScalar es)) (sym names) integers) symbols) c;
+      integers = λ x c. Each-Contains (IsIntegerScalar es) (forms.form_variables_of all ++ m.symbols) x
+          (Each-append (IsIntegerScalar es) (forms.form_variables_of all) m.symbols (subst (Each (IsIntegerScalar es)) (sym names) integers) symbols) c;
       limits = λ l c. subst (λ k. is_limited k l.trip.form ≡ true) (sym many) (Each-Contains (IsLimitedLoop (length ls) (length m.symbols)) all l loops c).limited;
       short = λ l c. subst (λ k. length l.trip.form.coefficients ≤ k) (sym long) (Each-Contains (IsLimitedLoop (length ls) (length m.symbols)) all l loops c).short;
       divisors = λ l c. let d = Each-Contains (IsLimitedLoop (length ls) (length m.symbols)) all l loops c in (d.least, d.most);

@@ -3,14 +3,14 @@ use Rattle.std.proofs.Common.{◌≡◌, sym, ap, ◌∙◌, subst, ℕ, suc, �
 use Rattle.std.specs.Prelude.{nat_lt}
 use Rattle.std.proofs.lemmas.Bool.Decides.{Decides-ltb}
 use Rattle.tree.specs.Plain.{Statement, Assignment, Where, If, Do, Label, GoTo, Stop, Read, Print, Allocate, Deallocate, Arms, no_arms, arm, Block, no_statements, statement}
-use Rattle.meaning.specs.Blocks.{statements_of, statements_in_arms, statements_in}
+use Rattle.meaning.specs.Blocks.{statement_count_of, statement_count_in_arms, statement_count_in}
 use Rattle.components.specs.Lists.{Each, Distinct}
 use Rattle.components.proofs.ListLaws.{Each-append}
 use Rattle.nest.specs.Plain.{Nest, parts}
 use Rattle.nest.specs.Bodies.{loops_of, loops_in_parts, loops_in_branches, nest_loops}
-use Rattle.find_nests.specs.nest_parts.Numbers.{next, after, after_arms, after_block}
+use Rattle.find_nests.specs.nest_parts.Numbers.{next_loop_number, number_after, after_arms, after_block}
 use Rattle.find_nests.specs.nest_parts.Statements.{parts_of, branches_of, parts_of_block}
-use Rattle.find_nests.specs.Loops.{SourceLoop, Numbered, Placed, loops_in, loops_in_arms, loops_in_block}
+use Rattle.find_nests.specs.Loops.{SourceLoop, Numbered, SurroundedLoop, loops_in, loops_in_arms, loops_in_block}
 use Rattle.find_nests.specs.Found.{body_of}
 use Rattle.find_nests.proofs.FoundLaws.{found_nest_is_loop}
 use Rattle.pass_laws.specs.ready_nests.Distinct.{numbers_of, FoundLoopsAreDistinct}
@@ -43,10 +43,10 @@ distinct low high (x ∷ xs) h = (others x x high xs (omega arith) h.1, distinct
 
 -- ---- the numbers of the loops of statements
 
-next_is : (k : ℕ) → k < 4294967295 → next k ≡ k + 1
+next_is : (k : ℕ) → k < 4294967295 → next_loop_number k ≡ k + 1
 next_is k h = ap (λ b. cond b (k + 1) k) ((Decides-ltb k 4294967295).1 h)
 
-next_within : (k : ℕ) → next k ≤ k + 1
+next_within : (k : ℕ) → next_loop_number k ≤ k + 1
 next_within k = by (nat_lt k 4294967295)
   where
     by : (b : Bool) → cond b (k + 1) k ≤ k + 1
@@ -55,11 +55,11 @@ next_within k = by (nat_lt k 4294967295)
 
 -- no more than there are statements
 mutual
-  few : (k : ℕ) (c : Statement) → after k c ≤ k + statements_of c
+  few : (k : ℕ) (c : Statement) → number_after k c ≤ k + statement_count_of c
   few k (Assignment l mark left right) = omega arith
   few k (Where l mark mask left right) = omega arith
   few k (If l arms other) = let a = few_in_arms k arms in let b = few_in_block (after_arms k arms) other in omega (arith, a, b)
-  few k (Do l x a b c body) = let m = few_in_block (next k) body in let e = next_within k in omega (arith, m, e)
+  few k (Do l x a b c body) = let m = few_in_block (next_loop_number k) body in let e = next_within k in omega (arith, m, e)
   few k (Label n) = omega arith
   few k (GoTo l n) = omega arith
   few k (Stop l) = omega arith
@@ -68,13 +68,13 @@ mutual
   few k (Allocate l x es) = omega arith
   few k (Deallocate l x) = omega arith
 
-  few_in_arms : (k : ℕ) (arms : Arms) → after_arms k arms ≤ k + statements_in_arms arms
+  few_in_arms : (k : ℕ) (arms : Arms) → after_arms k arms ≤ k + statement_count_in_arms arms
   few_in_arms k no_arms = omega arith
   few_in_arms k (arm test body arms) = let a = few_in_block k body in let b = few_in_arms (after_block k body) arms in omega (arith, a, b)
 
-  few_in_block : (k : ℕ) (b : Block) → after_block k b ≤ k + statements_in b
+  few_in_block : (k : ℕ) (b : Block) → after_block k b ≤ k + statement_count_in b
   few_in_block k no_statements = omega arith
-  few_in_block k (statement c cs) = let a = few k c in let b = few_in_block (after k c) cs in omega (arith, a, b)
+  few_in_block k (statement c cs) = let a = few k c in let b = few_in_block (number_after k c) cs in omega (arith, a, b)
 
 abbrev numbers_at : ℕ → Statement → List ℕ
 numbers_at k c = numbers_of (loops_in_parts (parts (parts_of k c)))
@@ -87,7 +87,7 @@ numbers_in_block k b = numbers_of (loops_in_parts (parts (parts_of_block k b)))
 
 -- they climb from the number of the last loop before
 mutual
-  climb : (k : ℕ) (c : Statement) → k + statements_of c < 4294967295 → Climbs k (after k c) (numbers_at k c)
+  climb : (k : ℕ) (c : Statement) → k + statement_count_of c < 4294967295 → Climbs k (number_after k c) (numbers_at k c)
   climb k (Assignment l mark left right) h = omega arith
   climb k (Where l mark mask left right) h = omega arith
   climb k (If l arms other) h =
@@ -99,8 +99,8 @@ mutual
       (climb_in_arms k arms (omega (arith, h))) (climb_in_block (after_arms k arms) other (omega (arith, h, a))))
   climb k (Do l x a b c body) h =
       let e = next_is k (omega (arith, h)) in
-      let ps = loops_in_parts (parts (parts_of_block (next k) body)) in
-      (omega (arith, e), subst (Climbs (next k) (after_block (next k) body)) (sym (numbers_alone ps)) (climb_in_block (next k) body (omega (arith, h, e))))
+      let ps = loops_in_parts (parts (parts_of_block (next_loop_number k) body)) in
+      (omega (arith, e), subst (Climbs (next_loop_number k) (after_block (next_loop_number k) body)) (sym (numbers_alone ps)) (climb_in_block (next_loop_number k) body (omega (arith, h, e))))
   climb k (Label n) h = omega arith
   climb k (GoTo l n) h = omega arith
   climb k (Stop l) h = omega arith
@@ -109,7 +109,7 @@ mutual
   climb k (Allocate l x es) h = omega arith
   climb k (Deallocate l x) h = omega arith
 
-  climb_in_arms : (k : ℕ) (arms : Arms) → k + statements_in_arms arms < 4294967295 → Climbs k (after_arms k arms) (numbers_in_arms k arms)
+  climb_in_arms : (k : ℕ) (arms : Arms) → k + statement_count_in_arms arms < 4294967295 → Climbs k (after_arms k arms) (numbers_in_arms k arms)
   climb_in_arms k no_arms h = omega arith
   climb_in_arms k (arm test body arms) h =
       let a = few_in_block k body in
@@ -119,25 +119,25 @@ mutual
       (joined k (after_block k body) (after_arms (after_block k body) arms) (numbers_in_block k body) (numbers_in_arms (after_block k body) arms)
       (climb_in_block k body (omega (arith, h))) (climb_in_arms (after_block k body) arms (omega (arith, h, a))))
 
-  climb_in_block : (k : ℕ) (b : Block) → k + statements_in b < 4294967295 → Climbs k (after_block k b) (numbers_in_block k b)
+  climb_in_block : (k : ℕ) (b : Block) → k + statement_count_in b < 4294967295 → Climbs k (after_block k b) (numbers_in_block k b)
   climb_in_block k no_statements h = omega arith
   climb_in_block k (statement c cs) h =
       let a = few k c in
       let ps = parts_of k c in
-      let qs = parts_of_block (after k c) cs in
-      subst (Climbs k (after_block (after k c) cs))
+      let qs = parts_of_block (number_after k c) cs in
+      subst (Climbs k (after_block (number_after k c) cs))
       (sym (ap numbers_of (loops_joined ps qs) ∙ numbers_joined (loops_in_parts (parts ps)) (loops_in_parts (parts qs))))
-      (joined k (after k c) (after_block (after k c) cs) (numbers_at k c) (numbers_in_block (after k c) cs)
-      (climb k c (omega (arith, h))) (climb_in_block (after k c) cs (omega (arith, h, a))))
+      (joined k (number_after k c) (after_block (number_after k c) cs) (numbers_at k c) (numbers_in_block (number_after k c) cs)
+      (climb k c (omega (arith, h))) (climb_in_block (number_after k c) cs (omega (arith, h, a))))
 
 -- ---- the loops of a program
 
 -- no number up to the end of a loop is above this one
-abbrev Below : ℕ → Placed → Type 0
-Below most q = q.loop.before + suc (statements_in q.loop.loop.body) ≤ most
+abbrev Below : ℕ → SurroundedLoop → Type 0
+Below most q = q.loop.before + suc (statement_count_in q.loop.loop.body) ≤ most
 
 mutual
-  below : (most k : ℕ) (around : List SourceLoop) (c : Statement) → k + statements_of c ≤ most → Each (Below most) (loops_in k around c)
+  below : (most k : ℕ) (around : List SourceLoop) (c : Statement) → k + statement_count_of c ≤ most → Each (Below most) (loops_in k around c)
   below most k around (Assignment l mark left right) h = tt
   below most k around (Where l mark mask left right) h = tt
   below most k around (If l arms other) h =
@@ -147,7 +147,7 @@ mutual
   below most k around (Do l x a b c body) h =
       let e = next_within k in (
         omega (arith, h),
-        below_in_block most (next k) (around ++ record { line = l; variable = x; first = a; last = b; step = c; body = body } ∷ []) body (omega (arith, h, e)),
+        below_in_block most (next_loop_number k) (around ++ record { line = l; variable = x; first = a; last = b; step = c; body = body } ∷ []) body (omega (arith, h, e)),
       )
   below most k around (Label n) h = tt
   below most k around (GoTo l n) h = tt
@@ -157,30 +157,30 @@ mutual
   below most k around (Allocate l x es) h = tt
   below most k around (Deallocate l x) h = tt
 
-  below_in_arms : (most k : ℕ) (around : List SourceLoop) (arms : Arms) → k + statements_in_arms arms ≤ most → Each (Below most) (loops_in_arms k around arms)
+  below_in_arms : (most k : ℕ) (around : List SourceLoop) (arms : Arms) → k + statement_count_in_arms arms ≤ most → Each (Below most) (loops_in_arms k around arms)
   below_in_arms most k around no_arms h = tt
   below_in_arms most k around (arm test body arms) h =
       let a = few_in_block k body in
       Each-append (Below most) (loops_in_block k around body) (loops_in_arms (after_block k body) around arms)
       (below_in_block most k around body (omega (arith, h))) (below_in_arms most (after_block k body) around arms (omega (arith, h, a)))
 
-  below_in_block : (most k : ℕ) (around : List SourceLoop) (b : Block) → k + statements_in b ≤ most → Each (Below most) (loops_in_block k around b)
+  below_in_block : (most k : ℕ) (around : List SourceLoop) (b : Block) → k + statement_count_in b ≤ most → Each (Below most) (loops_in_block k around b)
   below_in_block most k around no_statements h = tt
   below_in_block most k around (statement c cs) h =
       let a = few k c in
-      Each-append (Below most) (loops_in k around c) (loops_in_block (after k c) around cs)
-      (below most k around c (omega (arith, h))) (below_in_block most (after k c) around cs (omega (arith, h, a)))
+      Each-append (Below most) (loops_in k around c) (loops_in_block (number_after k c) around cs)
+      (below most k around c (omega (arith, h))) (below_in_block most (number_after k c) around cs (omega (arith, h, a)))
 
-loop_distinct : (l : Numbered) → l.before + suc (statements_in l.loop.body) < 4294967295 → Distinct (numbers_of (loops_of (body_of l)))
+loop_distinct : (l : Numbered) → l.before + suc (statement_count_in l.loop.body) < 4294967295 → Distinct (numbers_of (loops_of (body_of l)))
 loop_distinct l h =
     let e = next_is l.before (omega (arith, h)) in
-    distinct l.before (after_block (next l.before) l.loop.body) (numbers_of (loops_of (body_of l)))
-    (omega (arith, e), climb_in_block (next l.before) l.loop.body (omega (arith, h, e)))
+    distinct l.before (after_block (next_loop_number l.before) l.loop.body) (numbers_of (loops_of (body_of l)))
+    (omega (arith, e), climb_in_block (next_loop_number l.before) l.loop.body (omega (arith, h, e)))
 
 pub found_loops_are_distinct : FoundLoopsAreDistinct
 found_loops_are_distinct d p n is h =
     let f = found_nest_is_loop p n h in
-    let most : statements_in p.body < 2147483648 = is.few in
-    let l : f.loop.loop.before + suc (statements_in f.loop.loop.loop.body) ≤ statements_in p.body =
-    Each-Contains (Below (statements_in p.body)) (loops_in_block 0 [] p.body) f.loop (below_in_block (statements_in p.body) 0 [] p.body (omega arith)) f.stands in
+    let most : statement_count_in p.body < 2147483648 = is.few in
+    let l : f.loop.loop.before + suc (statement_count_in f.loop.loop.loop.body) ≤ statement_count_in p.body =
+    Each-Contains (Below (statement_count_in p.body)) (loops_in_block 0 [] p.body) f.loop (below_in_block (statement_count_in p.body) 0 [] p.body (omega arith)) f.stands in
     subst (λ (m : Nest). Distinct (numbers_of (nest_loops m))) (sym f.is) (loop_distinct f.loop.loop (omega (arith, most, l)))

@@ -18,8 +18,8 @@ use Rattle.last_values.specs.declared.normal_forms.combinations.Multiple.{Multip
 use Rattle.last_values.specs.declared.normal_forms.loops.NormalLoop.{NormalLoop}
 use Rattle.last_values.specs.declared.normal_forms.places.Place.TheVariants as place
 use Rattle.last_values.specs.normal_forms.Steps.{◌>>=◌}
-use Rattle.last_values.specs.normal_forms.Combinations.{at, combination, affine_of, number_form, without_loops, times, seven}
-use Rattle.last_values.specs.normal_forms.NormalLoops.{counter_name, variables_of, values_from, with_counters, bound_form, one_at, loop_form, is_zero, is_constant, trip_of, trip_form, is_suitable, plus_number, plus_multiple, sign_of, trip_by, with_forms, forms_by_trip, forms_by_first, forms_of, normal_loop}
+use Rattle.last_values.specs.normal_forms.Combinations.{number_of_place, combination, affine_of, number_form, without_loops, times, seven}
+use Rattle.last_values.specs.normal_forms.NormalLoops.{counter_name, variables_of, variable_values_from, with_counters, bound_form, one_at, loop_form, is_zero, is_constant, trip_of, trip_form, is_suitable, plus_number, plus_multiple, sign_of, trip_by, with_forms, forms_by_trip, forms_by_first, forms_of, normal_loop}
 use Rattle.pass_laws.proofs.ReadyNests.Sums.{Zero, sum_is_form, sum_small, number_is_form, small_quotient, sum_has_zeros}
 
 -- the values of the variables have no loops from this place on
@@ -35,7 +35,7 @@ HaveZeros-later d e (r ∷ round) h z = (Zero-later d e r.value h z.0, HaveZeros
 
 -- ---- simple forms
 
-pub without_at : (a : Affine) (k : ℕ) → at (without_loops a) (place.Loop k) ≡ pos 0
+pub without_at : (a : Affine) (k : ℕ) → number_of_place (without_loops a) (place.Loop k) ≡ pos 0
 without_at a zero = refl
 without_at a (suc zero) = refl
 without_at a (suc (suc zero)) = refl
@@ -45,7 +45,7 @@ without_at a (suc (suc (suc (suc (suc zero))))) = refl
 without_at a (suc (suc (suc (suc (suc (suc zero)))))) = refl
 without_at a (suc (suc (suc (suc (suc (suc (suc k))))))) = refl
 
-pub number_at : (z : ℤ) (k : ℕ) → at (number_form z) (place.Loop k) ≡ pos 0
+pub number_at : (z : ℤ) (k : ℕ) → number_of_place (number_form z) (place.Loop k) ≡ pos 0
 number_at z zero = refl
 number_at z (suc zero) = refl
 number_at z (suc (suc zero)) = refl
@@ -77,7 +77,7 @@ loop_zeros d k l m = seven-at (one_at d) k m ∙ other_loop d k l
 
 -- ---- bounds
 
-values_zeros : (d k : ℕ) (a : Affine) (round : List NormalLoop) → HaveZeros d round → Each (λ (t : Multiple). Zero d t.form) (values_from k a round)
+values_zeros : (d k : ℕ) (a : Affine) (round : List NormalLoop) → HaveZeros d round → Each (λ (t : Multiple). Zero d t.form) (variable_values_from k a round)
 values_zeros d k a [] h = tt
 values_zeros d k a (r ∷ rs) h = (h.0, values_zeros d (k + 1) a rs h.1)
 
@@ -90,7 +90,7 @@ bound_zeros symbols round e more d a h z others = by (form_of (variables_of roun
     by None g = let no : ⊥ = cc in absurd no
     by (Some f) g =
         let b = affine_of (length round) f in
-        let vs = values_from 0 b round in
+        let vs = variable_values_from 0 b round in
         sum_has_zeros (length symbols) d ((vs ++ times (pos 1) (without_loops b) ∷ []) ++ more) a g
         (Each-append (λ (t : Multiple). Zero d t.form) (vs ++ times (pos 1) (without_loops b) ∷ []) more
         (Each-append (λ (t : Multiple). Zero d t.form) vs (times (pos 1) (without_loops b) ∷ []) (values_zeros d 0 b round z) (λ k l m. without_at b k, tt))

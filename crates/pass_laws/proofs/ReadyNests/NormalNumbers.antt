@@ -9,7 +9,7 @@ use Rattle.last_values.specs.Behind.{stands_behind}
 use Rattle.last_values.specs.InPlace.{assigned_part, first_text, own_trip_text, end_part}
 use Rattle.last_values.specs.PartsInPlace.{only_where_part, parts_before, parts_behind}
 use Rattle.last_values.specs.declared.behind.NestedLoop.{NestedLoop}
-use Rattle.normal_loops.specs.Bodies.{placed, normal_turns, normal_part, normal_parts, normal_branches}
+use Rattle.normal_loops.specs.Bodies.{placed_loop, normal_turns, normal_part, normal_parts, normal_branches}
 use Rattle.normal_loops.specs.Counting.{counting}
 use Rattle.normal_loops.specs.Loops.{with_loop}
 use Rattle.pass_laws.specs.ready_nests.Distinct.{numbers_of, NormalLoopsAreThose}
@@ -47,7 +47,7 @@ unfolding counting
 counting_number symbols round l r = refl
 
 module _ (n : Nest) (ls : List NestedLoop) where
-  placed_numbers : (round : List NormalLoop) (r : NormalLoop) (p : Part) → Numbers (placed n ls round r p) ≡ numbers_of (loops_of p)
+  placed_numbers : (round : List NormalLoop) (r : NormalLoop) (p : Part) → Numbers (placed_loop n ls round r p) ≡ numbers_of (loops_of p)
   placed_numbers round r p = by (stands_behind (length n.symbols) ls n.body r.variable)
     where
       by : (b : Bool) → Numbers (cond b (p ∷ []) (parts_before n.symbols n.line round r ++ p ∷ parts_behind n.symbols n.line round r)) ≡ numbers_of (loops_of p)

@@ -15,7 +15,7 @@ use Rattle.nest_rewrite.specs.Statements.{rewritten_statement}
 use Rattle.dependence_graph.specs.nest_graph.Ready.{subscript_count}
 use Rattle.dependence_graph.specs.nest_graph.References.{references_of, references_in, references_in_subscripts, references_in_guard}
 use Rattle.last_values.specs.normal_forms.NormalLoops.{counter_name, counters_of, normal_loop}
-use Rattle.last_values.specs.normal_forms.Texts.{quotient, trip_text, counter_first, value_text}
+use Rattle.last_values.specs.normal_forms.Texts.{quotient_text, trip_text, counter_first, variable_text}
 use Rattle.last_values.specs.declared.normal_forms.loops.NormalLoop.{NormalLoop}
 use Rattle.last_values.specs.InPlace.{first_text, own_trip_text, end_text}
 use Rattle.normal_loops.specs.Values.{with_value, in_text, statement_with_values, normal_statement}
@@ -55,8 +55,8 @@ module _ (rank : List ℕ → ℕ) where
   counters_are (r ∷ rs) h = (h.0.0, counters_are rs h.1)
 
   module _ (symbols : List (List ℕ)) (scalars : AreScalars rank symbols) where
-    value_ranks : (outer : List NormalLoop) (r : NormalLoop) → HaveScalars outer → rank r.counter ≡ 0 → HasRanks rank (value_text symbols outer r)
-    unfolding value_text
+    value_ranks : (outer : List NormalLoop) (r : NormalLoop) → HaveScalars outer → rank r.counter ≡ 0 → HasRanks rank (variable_text symbols outer r)
+    unfolding variable_text
     value_ranks outer r h c = text_ranks rank (r.counter ∷ counters_of outer) symbols [] (counter_first r.step r.below) (c, counters_are outer h) scalars tt
 
     values_ranks : (outer rs : List NormalLoop) (s : Guarded) → HaveScalars outer → HaveScalars rs → IsRankedStatement rank s → IsRankedStatement rank (statement_with_values symbols outer rs s)
@@ -64,7 +64,7 @@ module _ (rank : List ℕ → ℕ) where
     values_ranks outer (r ∷ rs) s h k g =
         values_ranks (outer ++ r ∷ []) rs (rewritten_statement (with_value symbols outer r) s)
         (Each-append (λ (q : NormalLoop). (rank q.counter ≡ 0) × (rank q.variable ≡ 0)) outer (r ∷ []) h (k.0, tt)) k.1
-        (statement_made (with_value symbols outer r) (substituting_keeps rank r.variable (value_text symbols outer r) (value_ranks outer r h k.0.0)) (λ l. refl) s g)
+        (statement_made (with_value symbols outer r) (substituting_keeps rank r.variable (variable_text symbols outer r) (value_ranks outer r h k.0.0)) (λ l. refl) s g)
 
     normal_ranks : (round : List NormalLoop) (s : Guarded) → HaveScalars round → IsRankedStatement rank s → IsRankedStatement rank (normal_statement symbols round s)
     unfolding normal_statement
@@ -74,7 +74,7 @@ module _ (rank : List ℕ → ℕ) where
 
     -- ---- last values in place
 
-    quotient_ranks : (e : Expression) (z : ℤ) → HasRanks rank e → HasRanks rank (quotient e z)
+    quotient_ranks : (e : Expression) (z : ℤ) → HasRanks rank e → HasRanks rank (quotient_text e z)
     quotient_ranks e z h = by (int_eq z (pos 1))
       where
         by : (b : Bool) → HasRanks rank (cond b e (Binary Div e (Number z)))

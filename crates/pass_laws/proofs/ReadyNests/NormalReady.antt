@@ -8,7 +8,7 @@ use Rattle.meaning.specs.Profile77.{IsProgram77}
 use Rattle.components.specs.Lists.{Each, Distinct}
 use Rattle.nest.specs.Plain.{Nest}
 use Rattle.nest.specs.Bodies.{Standing, nest_statements}
-use Rattle.find_nests.specs.nest_parts.Numbers.{next}
+use Rattle.find_nests.specs.nest_parts.Numbers.{next_loop_number}
 use Rattle.dependence_graph.specs.nest_graph.Ready.{IsElement, IsReadyStatement, HaveEqualRank}
 use Rattle.dependence_graph.specs.nest_graph.References.{references_of}
 use Rattle.find_nests.specs.Found.{InNest, found_in}
@@ -45,7 +45,7 @@ found_body d p n is h =
     let within = few_symbols p.declarations f.loop.loop.loop.variable f.loop.loop.loop.body in
     subst (HasRankedBody p.declarations) (sym f.is)
     (record {
-      body = (l.variable, l.body (next f.loop.loop.before));
+      body = (l.variable, l.body (next_loop_number f.loop.loop.before));
       symbols = symbols_are_scalars p.declarations d is.declarations f.loop.loop.loop.variable f.loop.loop.loop.body;
       few = omega (arith, most, within);
     })

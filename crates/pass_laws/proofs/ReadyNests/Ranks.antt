@@ -10,11 +10,11 @@ use Rattle.linear_forms.specs.Texts.{with_place, with_symbols, places_behind, te
 use Rattle.linear_forms.specs.Canonical.{text_or, canonical_text, canonising}
 use Rattle.rewrite.specs.Making.{Making, made, made_expressions, made_loops, made_subscripts, made_subscript}
 use Rattle.rewrite.specs.Names.{mentions}
-use Rattle.rewrite.specs.Substituting.{is_scalar, substituting}
+use Rattle.rewrite.specs.Substituting.{is_variable_alone, substituting}
 use Rattle.components.specs.Lists.{Each}
 use Rattle.components.proofs.ListLaws.{Each-append}
 use Rattle.dependence_graph.specs.nest_graph.Ready.{AreElements, subscript_count}
-use Rattle.dependence_graph.specs.nest_graph.References.{is_among, has_none, own_reference, references_in, references_in_all, references_in_subscript, references_in_subscripts}
+use Rattle.dependence_graph.specs.nest_graph.References.{is_among, has_no_subscript, own_reference, references_in, references_in_all, references_in_subscript, references_in_subscripts}
 
 module _ (rank : List ℕ → ℕ) where
   -- each name has as many subscripts as its rank, of which none is a section
@@ -163,7 +163,7 @@ module _ (rank : List ℕ → ℕ) where
   -- ---- two rules
 
   pub substituting_keeps : (x : List ℕ) (by : Expression) → HasRanks by → (first e : Expression) → HasRanks e → HasRanks ((substituting x by).expression first e)
-  substituting_keeps x by h first e k = chosen (is_scalar x e)
+  substituting_keeps x by h first e k = chosen (is_variable_alone x e)
     where
       chosen : (b : Bool) → HasRanks (cond b by e)
       chosen true = h
@@ -187,7 +187,7 @@ module _ (rank : List ℕ → ℕ) where
 
   module _ (loops : List (List ℕ)) where
     own : (x : List ℕ) (ss : Subscripts) → subscript_count ss ≡ rank x → HaveRanks ss → Each Fits (own_reference loops x ss)
-    own x ss c h = by (has_none ss) (is_among loops x)
+    own x ss c h = by (has_no_subscript ss) (is_among loops x)
       where
         fits : Fits (record { name = x; subscripts = ss })
         fits = record { elements = are_elements ss h; count = c }

@@ -19,11 +19,11 @@ use Rattle.meaning_laws.proofs.profiles.Names.{found, once}
 use Rattle.components.specs.Lists.{Each}
 use Rattle.components.proofs.ListLaws.{Each-append}
 use Rattle.nest.specs.Plain.{Loop, Guarded, Part, parts}
-use Rattle.nest_reasons.specs.Symbols.{is_integer, is_scalar, is_integer_scalar, is_symbol, symbols_of}
+use Rattle.nest_reasons.specs.Symbols.{is_integer, is_scalar_extent, is_integer_scalar, is_symbol, symbols_of}
 use Rattle.rewrite.specs.Names.{names_written_in}
-use Rattle.find_nests.specs.nest_parts.Numbers.{next, after, after_arms, after_block}
+use Rattle.find_nests.specs.nest_parts.Numbers.{next_loop_number, number_after, after_arms, after_block}
 use Rattle.find_nests.specs.nest_parts.Statements.{parts_of, branches_of, parts_of_block}
-use Rattle.find_nests.specs.Loops.{SourceLoop, Placed, loops_in, loops_in_arms, loops_in_block}
+use Rattle.find_nests.specs.Loops.{SourceLoop, SurroundedLoop, loops_in, loops_in_arms, loops_in_block}
 use Rattle.dependence_graph.specs.nest_graph.Ready.{subscript_count}
 use Rattle.last_values.specs.normal_forms.NormalLoops.{counter_name}
 use Rattle.pass_laws.proofs.ReadyNests.Ranks.{HasRanks, HaveRanksEach, HaveRanks, IsRanked, AreScalars}
@@ -118,7 +118,7 @@ module _ (ds : List Declaration) where
     parts_ranked k (Assignment l mark left right) w h = (assigned l left right w h.2, tt)
     parts_ranked k (Where l mark mask left right) w h = absurd h
     parts_ranked k (If l arms other) w h = ((parts_ranked_arms k arms w h.2, parts_ranked_block (after_arms k arms) other w h.3), tt)
-    parts_ranked k (Do l x a b c body) w h = ((scalar x w.variables h.1, parts_ranked_block (next k) body (within_loop x w) h.5), tt)
+    parts_ranked k (Do l x a b c body) w h = ((scalar x w.variables h.1, parts_ranked_block (next_loop_number k) body (within_loop x w) h.5), tt)
     parts_ranked k (Label n) w h = (tt, tt)
     parts_ranked k (GoTo l n) w h = (tt, tt)
     parts_ranked k (Stop l) w h = tt
@@ -134,12 +134,12 @@ module _ (ds : List Declaration) where
     parts_ranked_block : (k : ℕ) (b : Block) (w : Surroundings) → IsBlock ds b w → EachInParts (IsRankedStatement (rank_in ds)) (HasScalar (rank_in ds)) (parts (parts_of_block k b))
     parts_ranked_block k no_statements w h = tt
     parts_ranked_block k (statement c cs) w h =
-        followed (parts_of k c) (parts_of_block (after k c) cs) (parts_ranked k c (before_labels (labels_of cs) w) h.0) (parts_ranked_block (after k c) cs w h.1)
+        followed (parts_of k c) (parts_of_block (number_after k c) cs) (parts_ranked k c (before_labels (labels_of cs) w) h.0) (parts_ranked_block (number_after k c) cs w h.1)
 
   -- ---- the loops of a program
 
   -- a loop whose variable is a scalar, and whose body has ranks, whichever number it gets
-  pub record IsRankedLoop (q : Placed) : Type 0 where
+  pub record IsRankedLoop (q : SurroundedLoop) : Type 0 where
     pub variable : rank_in ds q.loop.loop.variable ≡ 0
     pub body : (k : ℕ) → EachInParts (IsRankedStatement (rank_in ds)) (HasScalar (rank_in ds)) (parts (parts_of_block k q.loop.loop.body))
 
@@ -152,7 +152,7 @@ module _ (ds : List Declaration) where
         (loops_ranked_arms k around arms w h.2) (loops_ranked_block (after_arms k arms) around other w h.3)
     loops_ranked k around (Do l x a b c body) w h = (
       record { variable = scalar x w.variables h.1; body = λ m. parts_ranked_block m body (within_loop x w) h.5 },
-      loops_ranked_block (next k) (around ++ record { line = l; variable = x; first = a; last = b; step = c; body = body } ∷ []) body (within_loop x w) h.5,
+      loops_ranked_block (next_loop_number k) (around ++ record { line = l; variable = x; first = a; last = b; step = c; body = body } ∷ []) body (within_loop x w) h.5,
     )
     loops_ranked k around (Label n) w h = tt
     loops_ranked k around (GoTo l n) w h = tt
@@ -171,8 +171,8 @@ module _ (ds : List Declaration) where
     pub loops_ranked_block : (k : ℕ) (around : List SourceLoop) (b : Block) (w : Surroundings) → IsBlock ds b w → Each IsRankedLoop (loops_in_block k around b)
     loops_ranked_block k around no_statements w h = tt
     loops_ranked_block k around (statement c cs) w h =
-        Each-append IsRankedLoop (loops_in k around c) (loops_in_block (after k c) around cs)
-        (loops_ranked k around c (before_labels (labels_of cs) w) h.0) (loops_ranked_block (after k c) around cs w h.1)
+        Each-append IsRankedLoop (loops_in k around c) (loops_in_block (number_after k c) around cs)
+        (loops_ranked k around c (before_labels (labels_of cs) w) h.0) (loops_ranked_block (number_after k c) around cs w h.1)
 
   -- ---- the ranks of names
 
@@ -200,14 +200,14 @@ module _ (ds : List Declaration) where
             let long = length-append (codes "FV_LOOP_") (decimal k) in
             absurd (omega (arith, short, same, long))
 
-    no_dimensions : (x : Extent) → is_scalar x ≡ true → length (dimensions x) ≡ 0
+    no_dimensions : (x : Extent) → is_scalar_extent x ≡ true → length (dimensions x) ≡ 0
     no_dimensions (Given []) h = refl
     no_dimensions (Given (b ∷ bs)) h = let no : ⊥ = cc in absurd no
     no_dimensions (Later n) h = refl
 
     symbol_rank : (c : Declaration) → Contains ds c → is_integer_scalar c ≡ true → rank_in ds c.name ≡ 0
     symbol_rank c among h =
-        ap rank_or_zero (once ds c are.ordered among) ∙ no_dimensions c.extent (both (is_integer c.kind) (is_scalar c.extent) h).1
+        ap rank_or_zero (once ds c are.ordered among) ∙ no_dimensions c.extent (both (is_integer c.kind) (is_scalar_extent c.extent) h).1
 
     symbols_ranks : (x : List ℕ) (written : List (List ℕ)) (cs : List Declaration) → ((c : Declaration) → Contains cs c → Contains ds c)
         → AreScalars (rank_in ds) (map (λ (c : Declaration). c.name) (filter (is_symbol x written) cs))

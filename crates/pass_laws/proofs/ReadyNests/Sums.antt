@@ -21,7 +21,7 @@ use Rattle.find_nests.proofs.BoundLimits.LimitLaws.{abs-quotient}
 use Rattle.dependence_graph.proofs.dep_graph.Shapes.{affine_is_form}
 use Rattle.last_values.specs.declared.normal_forms.combinations.Multiple.{Multiple}
 use Rattle.last_values.specs.declared.normal_forms.places.Place.TheVariants as place
-use Rattle.last_values.specs.normal_forms.Combinations.{at, combined_at, with_number, all_within, seven, no_terms, with_symbols, form_with, has_small_factor, combination, number_form}
+use Rattle.last_values.specs.normal_forms.Combinations.{number_of_place, combined_at, with_number, all_within, seven, no_terms, with_symbol_terms, form_with, has_small_factor, combination, number_form}
 use Rattle.last_values.specs.normal_forms.Numbers.{values_from}
 use Rattle.last_values.proofs.NormalForms.Numbers.{places_of}
 use Rattle.components.specs.Lists.{Each}
@@ -52,17 +52,17 @@ within_is (z ∷ zs) ys h = by (λ vs g. within_is zs vs g) (small_or_none z) re
 abbrev more_room : ℕ → ℤ → Terms → Option Terms
 more_room j z t = cond (is_small z && nat_lt t.used 8) (Some (record { at = set t.at t.used (j, z); used = t.used + 1 })) None
 
-pub symbols-pushed : (f : ℕ → ℤ) (n j : ℕ) (t : Terms) → with_symbols f n j t ≡ all_pushed (terms_from j (values_from n j f)) t
+pub symbols-pushed : (f : ℕ → ℤ) (n j : ℕ) (t : Terms) → with_symbol_terms f n j t ≡ all_pushed (terms_from j (values_from n j f)) t
 symbols-pushed f zero j t = refl
 symbols-pushed f (suc n) j t =
     by (λ u. symbols-pushed f n (j + 1) u ∙ ap (λ k. all_pushed (terms_from k (values_from n (j + 1) f)) u) (add-one j)) (int_eq (f j) (pos 0)) refl
   where
-    by : ((u : Terms) → with_symbols f n (j + 1) u ≡ all_pushed (terms_from (suc j) (values_from n (j + 1) f)) u) → (b : Bool) → int_eq (f j) (pos 0) ≡ b
-        → then_pushed (pushed j (f j) t) (with_symbols f n (j + 1)) ≡ all_pushed (cond b (terms_from (suc j) (values_from n (j + 1) f)) ((j, f j) ∷ terms_from (suc j) (values_from n (j + 1) f))) t
-    by later true e = ap (λ c. then_pushed (cond c (Some t) (more_room j (f j) t)) (with_symbols f n (j + 1))) e ∙ later t
-    by later false e = then_same (pushed j (f j) t) (with_symbols f n (j + 1)) (all_pushed (terms_from (suc j) (values_from n (j + 1) f))) later
+    by : ((u : Terms) → with_symbol_terms f n (j + 1) u ≡ all_pushed (terms_from (suc j) (values_from n (j + 1) f)) u) → (b : Bool) → int_eq (f j) (pos 0) ≡ b
+        → then_pushed (pushed j (f j) t) (with_symbol_terms f n (j + 1)) ≡ all_pushed (cond b (terms_from (suc j) (values_from n (j + 1) f)) ((j, f j) ∷ terms_from (suc j) (values_from n (j + 1) f))) t
+    by later true e = ap (λ c. then_pushed (cond c (Some t) (more_room j (f j) t)) (with_symbol_terms f n (j + 1))) e ∙ later t
+    by later false e = then_same (pushed j (f j) t) (with_symbol_terms f n (j + 1)) (all_pushed (terms_from (suc j) (values_from n (j + 1) f))) later
 
-symbols_of : (f : ℕ → ℤ) (n : ℕ) (t : Terms) → with_symbols f n 0 no_terms ≡ Some t → Outcome 0 (values_from n 0 f) [] (Some t)
+symbols_of : (f : ℕ → ℤ) (n : ℕ) (t : Terms) → with_symbol_terms f n 0 no_terms ≡ Some t → Outcome 0 (values_from n 0 f) [] (Some t)
 symbols_of f n t h =
     let es : List ℤ = values_from n 0 f in
     let all = pushes 0 es [] no_terms (record { at = refl; used = refl }) (omega arith) in
@@ -82,7 +82,7 @@ pub record IsSum (n : ℕ) (ts : List Multiple) (a : Affine) : Type 0 where
 
 module _ (n : ℕ) (ts : List Multiple) (a : Affine) where
   parted : (ls : Option (List ℤ)) → all_within (seven (λ k. combined_at ts (place.Loop k))) ≡ ls
-      → (o : Option Terms) → with_symbols (λ j. combined_at ts (place.Symbol j)) n 0 no_terms ≡ o
+      → (o : Option Terms) → with_symbol_terms (λ j. combined_at ts (place.Symbol j)) n 0 no_terms ≡ o
       → (z : Option ℤ) → small_or_none (combined_at ts place.Constant) ≡ z → form_with ls o z ≡ Some a → IsSum n ts a
   parted None e o f z g h = let no : ⊥ = cc in absurd no
   parted (Some ls) e None f z g h = let no : ⊥ = cc in absurd no
@@ -108,8 +108,8 @@ module _ (n : ℕ) (ts : List Multiple) (a : Affine) where
   unfolding combination
   sum_of h = by (list_all has_small_factor ts) h
     where
-      by : (b : Bool) → cond b (form_with (all_within (seven (λ k. combined_at ts (place.Loop k)))) (with_symbols (λ j. combined_at ts (place.Symbol j)) n 0 no_terms) (small_or_none (combined_at ts place.Constant))) None ≡ Some a → IsSum n ts a
-      by true g = parted (all_within (seven (λ k. combined_at ts (place.Loop k)))) refl (with_symbols (λ j. combined_at ts (place.Symbol j)) n 0 no_terms) refl (small_or_none (combined_at ts place.Constant)) refl g
+      by : (b : Bool) → cond b (form_with (all_within (seven (λ k. combined_at ts (place.Loop k)))) (with_symbol_terms (λ j. combined_at ts (place.Symbol j)) n 0 no_terms) (small_or_none (combined_at ts place.Constant))) None ≡ Some a → IsSum n ts a
+      by true g = parted (all_within (seven (λ k. combined_at ts (place.Loop k)))) refl (with_symbol_terms (λ j. combined_at ts (place.Symbol j)) n 0 no_terms) refl (small_or_none (combined_at ts place.Constant)) refl g
       by false g = let no : ⊥ = cc in absurd no
 
 -- ---- fronts of lists
@@ -144,7 +144,7 @@ front_at (suc d) (l ∷ ls) h (suc k) = front_at d ls (λ j m. h (suc j) (omega 
 
 -- no loop from this place on has a coefficient
 abbrev pub Zero : ℕ → Affine → Type 0
-Zero d a = (k : ℕ) → d ≤ k → k < 7 → at a (place.Loop k) ≡ pos 0
+Zero d a = (k : ℕ) → d ≤ k → k < 7 → number_of_place a (place.Loop k) ≡ pos 0
 
 limits_from : (d : ℕ) (f : Form) → all_small f.coefficients ≡ true → is_small f.constant ≡ true → not_zero (drop d f.coefficients) ≤ 8 → is_limited d f ≡ true
 limits_from d f a b c =
@@ -180,7 +180,7 @@ sum_is_form n d ts a h few none = form_of_sum n d ts a few (sum_of n ts a h) non
 pub sum_small : (n : ℕ) (ts : List Multiple) (a : Affine) → combination n ts ≡ Some a → is_small a.constant ≡ true
 sum_small n ts a h = (sum_of n ts a h).constant
 
-none_at : (k : ℕ) → at (number_form (pos 0)) (place.Loop k) ≡ pos 0
+none_at : (k : ℕ) → number_of_place (number_form (pos 0)) (place.Loop k) ≡ pos 0
 none_at zero = refl
 none_at (suc zero) = refl
 none_at (suc (suc zero)) = refl
@@ -217,11 +217,11 @@ small_quotient z n h =
 
 -- ---- which loops have a coefficient in a sum
 
-sum_zero : (ts : List Multiple) (k : ℕ) → Each (λ (t : Multiple). at t.form (place.Loop k) ≡ pos 0) ts → combined_at ts (place.Loop k) ≡ pos 0
+sum_zero : (ts : List Multiple) (k : ℕ) → Each (λ (t : Multiple). number_of_place t.form (place.Loop k) ≡ pos 0) ts → combined_at ts (place.Loop k) ≡ pos 0
 sum_zero [] k h = refl
 sum_zero (t ∷ ts) k h = ap₂ (λ x y. t.times *ℤ x +ℤ y) h.0 (sum_zero ts k h.1) ∙ ap (λ z. z +ℤ pos 0) (*ℤ-zero t.times)
 
-zeros_at : (d k : ℕ) (ts : List Multiple) → d ≤ k → k < 7 → Each (λ (t : Multiple). Zero d t.form) ts → Each (λ (t : Multiple). at t.form (place.Loop k) ≡ pos 0) ts
+zeros_at : (d k : ℕ) (ts : List Multiple) → d ≤ k → k < 7 → Each (λ (t : Multiple). Zero d t.form) ts → Each (λ (t : Multiple). number_of_place t.form (place.Loop k) ≡ pos 0) ts
 zeros_at d k [] l m h = tt
 zeros_at d k (t ∷ ts) l m h = (h.0 k l m, zeros_at d k ts l m h.1)
 

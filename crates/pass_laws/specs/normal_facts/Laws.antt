@@ -3,6 +3,7 @@ use Rattle.std.specs.Prelude.{◌≡◌, ◌≤◌, ◌^◌, ℕ, nat_abs, Some,
 use Rattle.tree.specs.Plain.{Declaration, Given, Program}
 use Rattle.tree.specs.declared.ops.Kind.TheVariants.{Integer}
 use Rattle.meaning.specs.Dialect.{fortran77}
+use Rattle.tree.specs.declared.width.Width.{Width}
 use Rattle.meaning.specs.Holding.{HasBounds}
 use Rattle.meaning.specs.Profile77.{IsProgram77}
 use Rattle.meaning.specs.Typed.{declared}
@@ -18,6 +19,7 @@ use Rattle.nest_order.specs.shapes.Shapes.{IsPlain}
 use Rattle.nest.specs.Bodies.{nest_loops}
 use Rattle.nest.specs.Plain.{Loop, Nest}
 use Rattle.meaning_laws.specs.profiles.Profiles.{AddMadeNames}
+use Rattle.tree.specs.Widths.{bits_of}
 
 -- an INTEGER scalar
 pub record IsCounter (e : Declaration) : Type 0 where
@@ -33,18 +35,18 @@ pub record IsSettingOf (p : Program) (m : Nest) (w : Setting) : Type 0 where
       → IfSome (declared w.program.declarations x) (λ (e : Declaration). HasBounds e.extent (w.bounds x))
   pub values : (k : ℕ) (x : List ℕ) → nth_of m.symbols k ≡ Some x → nat_abs (w.values k) ≤ 2 ^ 63
 
-abbrev pub NormalNestHasFacts : Type 0
-NormalNestHasFacts = (p : Program) (n m : Nest) (w : Setting)
-    → IsProgram77 fortran77 p → Contains (found_in p) (InNest n) → normalised n ≡ Some m
-    → IsPlain m.body → IsSettingOf p m w → HasFacts 31 (run_nest m) w
+abbrev pub NormalNestHasFacts : (width : Width) → Type 0
+NormalNestHasFacts width = (p : Program) (n m : Nest) (w : Setting)
+    → IsProgram77 (fortran77 width) p → Contains (found_in p) (InNest n) → normalised n ≡ Some m
+    → IsPlain m.body → IsSettingOf p m w → HasFacts (bits_of width) (run_nest m) w
 
-abbrev pub NormalNestIsRegular : Type 0
-NormalNestIsRegular = (p : Program) (n m : Nest)
-    → IsProgram77 fortran77 p → Contains (found_in p) (InNest n) → normalised n ≡ Some m
+abbrev pub NormalNestIsRegular : (width : Width) → Type 0
+NormalNestIsRegular width = (p : Program) (n m : Nest)
+    → IsProgram77 (fortran77 width) p → Contains (found_in p) (InNest n) → normalised n ≡ Some m
     → IsPlain m.body → AreRegular m
 
 -- what array forms ask beside
-abbrev pub NormalNestHasFormFacts : Type 0
-NormalNestHasFormFacts = (p : Program) (n m : Nest) (w : Setting)
-    → IsProgram77 fortran77 p → Contains (found_in p) (InNest n) → normalised n ≡ Some m
+abbrev pub NormalNestHasFormFacts : (width : Width) → Type 0
+NormalNestHasFormFacts width = (p : Program) (n m : Nest) (w : Setting)
+    → IsProgram77 (fortran77 width) p → Contains (found_in p) (InNest n) → normalised n ≡ Some m
     → IsPlain m.body → IsSettingOf p m w → HasFormFacts m w

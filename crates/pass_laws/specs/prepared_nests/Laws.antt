@@ -4,6 +4,7 @@ use Rattle.tree.specs.Names.{IsSourceName}
 use Rattle.tree.specs.Plain.{Declaration, Program}
 use Rattle.meaning.specs.Blocks.{Surroundings}
 use Rattle.meaning.specs.Dialect.{fortran77}
+use Rattle.tree.specs.declared.width.Width.{Width}
 use Rattle.meaning.specs.Profile77.{IsProgram77, IsStatement}
 use Rattle.meaning.specs.Typed.{declared}
 use Rattle.meaning.specs.Typed77.{deepest}
@@ -61,27 +62,30 @@ normal_depth = deepest + (7 * 35 + 18)
 
 -- n is a nest of p, and m its normal form; es has the names of p, the variables of m's loops, and maybe further made
 -- names; the loops round the nest have variables that FORTRAN 77 has
-abbrev pub NormalNestHasParts : Type 0
-NormalNestHasParts = (p : Program) (n m : Nest) (es : List Declaration) (w : Surroundings) (found : IsFoundNest p n)
-    → IsProgram77 fortran77 p → Contains (found_in p) (InNest n) → normalised n ≡ Some m
+abbrev pub NormalNestHasParts : (width : Width) → Type 0
+NormalNestHasParts width = (p : Program) (n m : Nest) (es : List Declaration) (w : Surroundings)
+    (found : IsFoundNest p n)
+    → IsProgram77 (fortran77 width) p → Contains (found_in p) (InNest n) → normalised n ≡ Some m
     → AddMadeNames p.declarations es
     → All (λ (l : Loop). IsSomeAnd (declared es l.variable) IsCounter) (nest_loops m)
     → n.number < 2 ^ 32 → All IsSourceName w.variables
     → IsStatement p.declarations (as_statement found.loop.loop.loop) w → AreMadeParts es w.variables normal_depth m
 
 -- so it is prepared with its IFs and jumps
-abbrev pub NormalNestIsBranched : Type 0
-NormalNestIsBranched = (p : Program) (n m : Nest) (es : List Declaration) (w : Surroundings) (found : IsFoundNest p n)
-    → IsProgram77 fortran77 p → Contains (found_in p) (InNest n) → normalised n ≡ Some m
+abbrev pub NormalNestIsBranched : (width : Width) → Type 0
+NormalNestIsBranched width = (p : Program) (n m : Nest) (es : List Declaration) (w : Surroundings)
+    (found : IsFoundNest p n)
+    → IsProgram77 (fortran77 width) p → Contains (found_in p) (InNest n) → normalised n ≡ Some m
     → AddMadeNames p.declarations es
     → All (λ (l : Loop). IsSomeAnd (declared es l.variable) IsCounter) (nest_loops m)
     → n.number < 2 ^ 32 → All IsSourceName w.variables
     → IsStatement p.declarations (as_statement found.loop.loop.loop) w → IsBranched es w.variables normal_depth m
 
 -- and without them where it has loops and statements alone
-abbrev pub NormalNestIsPrepared : Type 0
-NormalNestIsPrepared = (p : Program) (n m : Nest) (es : List Declaration) (w : Surroundings) (found : IsFoundNest p n)
-    → IsProgram77 fortran77 p → Contains (found_in p) (InNest n) → normalised n ≡ Some m → HasLoopsAlone m.body
+abbrev pub NormalNestIsPrepared : (width : Width) → Type 0
+NormalNestIsPrepared width = (p : Program) (n m : Nest) (es : List Declaration) (w : Surroundings)
+    (found : IsFoundNest p n)
+    → IsProgram77 (fortran77 width) p → Contains (found_in p) (InNest n) → normalised n ≡ Some m → HasLoopsAlone m.body
     → AddMadeNames p.declarations es
     → All (λ (l : Loop). IsSomeAnd (declared es l.variable) IsCounter) (nest_loops m)
     → n.number < 2 ^ 32 → All IsSourceName w.variables

@@ -1,7 +1,6 @@
 -- Nests that passes are given and make: loops from 1 by 1 with linear trips, in which assignments of scalars stand in
 -- canonical text, by declarations that have all names that passes made.
-use Rattle.std.specs.Prelude.{◌≡◌, ℕ, ◌≤◌, ◌<◌, ◌^◌, nat_abs, Some, IfSome, IsSomeAnd, All, Contains}
-use Rattle.std.specs.Prelude.{List, [], length}
+use Rattle.std.specs.Prelude.{◌≡◌, ℕ, ◌≤◌, ◌<◌, ◌^◌, nat_abs, Some, IfSome, IsSomeAnd, All, Contains, List, [], length}
 use Rattle.tree.specs.Names.{IsSourceName}
 use Rattle.tree.specs.Plain.{Declaration}
 use Rattle.meaning.specs.Labels.{IsLine}

@@ -25,7 +25,7 @@ use Rattle.pass_laws.specs.prepared_nests.Loops.{variables_of_loops}
 -- ---- what stands in a statement
 
 -- without its line
-abbrev pub assignment : Guarded → runs.Guarded
+abbrev pub assignment : Guarded → runs.GuardedAssignment
 assignment g = record { guard = g.guard; left = g.left; right = g.right }
 
 abbrev pub guard_or_none : Option Expression → List Expression

@@ -3,6 +3,7 @@ use Rattle.std.specs.Prelude.{◌≡◌, ℕ, ℤ, None, Some, All, IsSomeAnd, C
 use Rattle.std.specs.List.{flat_map}
 use Rattle.tree.specs.Plain.{Block, Expression, Program}
 use Rattle.meaning.specs.Dialect.{fortran90}
+use Rattle.tree.specs.declared.width.Width.{Width}
 use Rattle.meaning.specs.Holding.{HoldsProgram}
 use Rattle.meaning.specs.Profile90.{AreDeclarations}
 use Rattle.meaning.specs.Run.{State, Going, does_all}
@@ -47,36 +48,36 @@ HasMade m v s = All (λ (a : Made). IsSomeAnd (s.bounds a.name) (AreBoundsBy m.s
 -- ---- the frame
 
 -- where the arrays come to be: the run goes on from a moment that differs in them alone
-pub record IsAllocated (q : Program) (m : Nest) (v : ℕ → ℤ) (t : State) : Type 0 where
+pub record IsAllocated (width : Width) (q : Program) (m : Nest) (v : ℕ → ℤ) (t : State) : Type 0 where
   pub state : State
   pub going : state.way ≡ Going
   pub rest : state ≡ record t { store = state.store; steps = state.steps }
   pub others : IsSameBut (made_arrays m) t.store state.store
-  pub program : HoldsProgram fortran90 q state.store
+  pub program : HoldsProgram (fortran90 width) q state.store
   pub made : HasMade m v state.store
   pub runs : (b : Block)
-      → does_all fortran90 None (allocations_then m.line m.made b) t ≡ does_all fortran90 None b state
+      → does_all (fortran90 width) None (allocations_then m.line m.made b) t ≡ does_all (fortran90 width) None b state
 
 -- The arrays of a prepared nest come to be in a store that holds the program, where none of them is allocated and the
 -- symbols have values of 64 bits. Made scalars have been there all the time
-abbrev pub ArraysAreAllocated : Type 0
-ArraysAreAllocated = (q : Program) (around : List (List ℕ)) (deepest : ℕ) (m : Nest) (v : ℕ → ℤ) (t : State)
+abbrev pub ArraysAreAllocated : (width : Width) → Type 0
+ArraysAreAllocated width = (q : Program) (around : List (List ℕ)) (deepest : ℕ) (m : Nest) (v : ℕ → ℤ) (t : State)
     → AreDeclarations q.declarations → IsPrepared q.declarations around deepest m → AreOf64Bits v
-    → HoldsProgram fortran90 q t.store → HoldSymbols m.symbols v t.store → AreFree (made_arrays m) t.store
-    → t.way ≡ Going → IsAllocated q m v t
+    → HoldsProgram (fortran90 width) q t.store → HoldSymbols m.symbols v t.store → AreFree (made_arrays m) t.store
+    → t.way ≡ Going → IsAllocated width q m v t
 
 -- where they are let go: nothing else is changed, and the run goes on
-pub record IsDeallocated (m : Nest) (t : State) : Type 0 where
-  pub going : (does_all fortran90 None (deallocations m.line m.made) t).way ≡ Going
-  pub rest : does_all fortran90 None (deallocations m.line m.made) t
+pub record IsDeallocated (width : Width) (m : Nest) (t : State) : Type 0 where
+  pub going : (does_all (fortran90 width) None (deallocations m.line m.made) t).way ≡ Going
+  pub rest : does_all (fortran90 width) None (deallocations m.line m.made) t
       ≡ record t {
-        store = (does_all fortran90 None (deallocations m.line m.made) t).store;
-        steps = (does_all fortran90 None (deallocations m.line m.made) t).steps;
+        store = (does_all (fortran90 width) None (deallocations m.line m.made) t).store;
+        steps = (does_all (fortran90 width) None (deallocations m.line m.made) t).steps;
       }
-  pub others : IsSameBut (made_arrays m) t.store (does_all fortran90 None (deallocations m.line m.made) t).store
-  pub free : AreFree (made_arrays m) (does_all fortran90 None (deallocations m.line m.made) t).store
+  pub others : IsSameBut (made_arrays m) t.store (does_all (fortran90 width) None (deallocations m.line m.made) t).store
+  pub free : AreFree (made_arrays m) (does_all (fortran90 width) None (deallocations m.line m.made) t).store
 
-abbrev pub ArraysAreDeallocated : Type 0
-ArraysAreDeallocated = (q : Program) (around : List (List ℕ)) (deepest : ℕ) (m : Nest) (v : ℕ → ℤ) (t : State)
+abbrev pub ArraysAreDeallocated : (width : Width) → Type 0
+ArraysAreDeallocated width = (q : Program) (around : List (List ℕ)) (deepest : ℕ) (m : Nest) (v : ℕ → ℤ) (t : State)
     → IsPrepared q.declarations around deepest m → AreOf64Bits v → HasMade m v t.store → t.way ≡ Going
-    → IsDeallocated m t
+    → IsDeallocated width m t

@@ -4,6 +4,7 @@ use Rattle.tree.specs.Limits.{expression_depth90}
 use Rattle.tree.specs.Plain.{Declaration, Program}
 use Rattle.meaning.specs.Blocks.{Surroundings}
 use Rattle.meaning.specs.Dialect.{fortran77, fortran90}
+use Rattle.tree.specs.declared.width.Width.{Width}
 use Rattle.meaning.specs.Holding.{HoldsProgram}
 use Rattle.meaning.specs.Profile77.{IsProgram77}
 use Rattle.meaning.specs.Profile90.{AreDeclarations, IsBlock}
@@ -34,36 +35,36 @@ use Rattle.pass_laws.specs.prepared_runs.Running.{pieces_then_after, setting_at}
 -- loops, and maybe further made names. From moments that agree on p, where the loop meets no fault, it goes on, and so
 -- do the loops of m with what comes after them, to moments that agree on p. Numbers that the second store holds are of
 -- 64 bits
-abbrev pub NormalNestGoesOnAsLoop : Type 0
-NormalNestGoesOnAsLoop = (p r : Program) (n m : Nest) (found : IsFoundNest p n) (s t : State)
-    → IsProgram77 fortran77 p → Contains (found_in p) (InNest n) → normalised n ≡ Some m
+abbrev pub NormalNestGoesOnAsLoop : (width : Width) → Type 0
+NormalNestGoesOnAsLoop width = (p r : Program) (n m : Nest) (found : IsFoundNest p n) (s t : State)
+    → IsProgram77 (fortran77 width) p → Contains (found_in p) (InNest n) → normalised n ≡ Some m
     → AddMadeNames p.declarations r.declarations
     → All (λ (l : Loop). IsSomeAnd (declared r.declarations l.variable) IsCounter) (nest_loops m)
-    → HoldsProgram fortran77 r t.store → HoldsSized t.store → GoOnAlike p s t
-    → IsSound (does fortran77 None (as_statement found.loop.loop.loop) s).way
-    → GoOnAlike p (does fortran77 None (as_statement found.loop.loop.loop) s)
-    (does_all fortran77 None (loops_then_after m) t)
+    → HoldsProgram (fortran77 width) r t.store → HoldsSized t.store → GoOnAlike p s t
+    → IsSound (does (fortran77 width) None (as_statement found.loop.loop.loop) s).way
+    → GoOnAlike p (does (fortran77 width) None (as_statement found.loop.loop.loop) s)
+    (does_all (fortran77 width) None (loops_then_after m) t)
 
 -- ---- a nest's run
 
 -- from a moment at which it may be run, where its loops and what comes after them meet no fault
-abbrev pub RunOfPreparedNest : Type 0
-RunOfPreparedNest = (p : Program) (around : List (List ℕ)) (deepest : ℕ) (m : Nest) (s : State)
-    → IsPrepared p.declarations around deepest m → MayRun p m s
-    → IsSound (does_all fortran77 None (loops_then_after m) s).way → IsRunOfInstances m s
+abbrev pub RunOfPreparedNest : (width : Width) → Type 0
+RunOfPreparedNest width = (p : Program) (around : List (List ℕ)) (deepest : ℕ) (m : Nest) (s : State)
+    → IsPrepared p.declarations around deepest m → MayRun width p m s
+    → IsSound (does_all (fortran77 width) None (loops_then_after m) s).way → IsRunOfInstances width m s
 
 -- ---- from a nest to what is emitted for it
 
 -- Let m be a prepared nest. From a moment at which it may be run, and where made arrays are as large as its guarded
 -- statements ask, if the sequential run of its loops and of what comes after them meets no fault, the array run of what
 -- is emitted goes on together with it
-abbrev pub PiecesGoOnAsNest : Type 0
-PiecesGoOnAsNest = (p : Program) (around : List (List ℕ)) (deepest : ℕ) (m : Nest) (ps : Pieces) (s : State)
+abbrev pub PiecesGoOnAsNest : (width : Width) → Type 0
+PiecesGoOnAsNest width = (p : Program) (around : List (List ℕ)) (deepest : ℕ) (m : Nest) (ps : Pieces) (s : State)
     → AreDeclarations p.declarations → IsPrepared p.declarations around deepest m
-    → ArePiecesOf m ps → (may : MayRun p m s) → HaveGuardedNames m (setting_at may)
-    → IsSound (does_all fortran77 None (loops_then_after m) s).way
-    → GoOnTogether m s (does_all fortran77 None (loops_then_after m) s)
-    (does_all fortran90 None (pieces_then_after m ps) s)
+    → ArePiecesOf m ps → (may : MayRun width p m s) → HaveGuardedNames m (setting_at width may)
+    → IsSound (does_all (fortran77 width) None (loops_then_after m) s).way
+    → GoOnTogether m s (does_all (fortran77 width) None (loops_then_after m) s)
+    (does_all (fortran90 width) None (pieces_then_after m ps) s)
 
 -- ---- as a block of the profile
 

@@ -4,6 +4,7 @@ use Rattle.std.specs.List.{range_with_len}
 use Rattle.tree.specs.Plain.{Block, Program, statement}
 use Rattle.tree.specs.declared.ops.Value.TheVariants.{Int}
 use Rattle.meaning.specs.Dialect.{fortran77}
+use Rattle.tree.specs.declared.width.Width.{Width}
 use Rattle.meaning.specs.Holding.{HoldsProgram}
 use Rattle.meaning.specs.Run.{State, Going, does, does_all}
 use Rattle.meaning.specs.Store.{Store}
@@ -50,16 +51,16 @@ pieces_then_after m ps = block_then (block_of_pieces m 1 ps) m.after
 
 -- At a moment of a program that declares all names, those that passes made too: symbols hold these values, and made
 -- arrays are allocated, from 1 to the values of their extents
-pub record MayRun (p : Program) (m : Nest) (s : State) : Type 0 where
+pub record MayRun (width : Width) (p : Program) (m : Nest) (s : State) : Type 0 where
   pub going : s.way ≡ Going
-  pub holds : HoldsProgram fortran77 p s.store
+  pub holds : HoldsProgram (fortran77 width) p s.store
   pub values : ℕ → ℤ
   pub valued : (k : ℕ) (x : List ℕ) → nth_of m.symbols k ≡ Some x → s.store.held (variable_cell x) ≡ Int (values k)
   pub made : All (λ (a : Made). IsSomeAnd (s.store.bounds a.name) (AreBoundsBy m.symbols values a.extents)) m.made
 
 -- with the bounds that names have there
-abbrev pub setting_at : {p : Program} {m : Nest} {s : State} → MayRun p m s → Setting
-setting_at {p} {m} {s} may = record { program = p; bounds = s.store.bounds; values = may.values }
+abbrev pub setting_at : (width : Width) {p : Program} {m : Nest} {s : State} → MayRun width p m s → Setting
+setting_at width {p} {m} {s} may = record { program = p; bounds = s.store.bounds; values = may.values }
 
 -- from s both runs go on, to moments whose stores are the same but for the variables of the nest's loops, and neither
 -- reads or writes a line
@@ -73,19 +74,21 @@ pub record GoOnTogether (m : Nest) (s t u : State) : Type 0 where
 
 -- The run of the nest from s is its instances, one after another in their sequential order, and then what comes after,
 -- but for the variables of the loops, with arrays as values and without
-pub record IsRunOfInstances (m : Nest) (s : State) : Type 0 where
+pub record IsRunOfInstances (width : Width) (m : Nest) (s : State) : Type 0 where
   -- the symbols' values, by which the loops turn
   pub values : ℕ → ℤ
   pub valued : (k : ℕ) (x : List ℕ) → nth_of m.symbols k ≡ Some x → s.store.held (variable_cell x) ≡ Int (values k)
   -- the instances meet no fault and leave this store
   pub left : Store
-  pub one_by_one : runs (acts (run_nest m) fortran77)
+  pub one_by_one : runs (acts (run_nest m) (fortran77 width))
       (instances ((run_nest m).turns_of values) (run_nest m).shape []) s.store
       ≡ Ok left
   pub loops : (arrays : Bool) → GoesOnNear (run_nest m) (record s { store = left })
-      (does (dialect fortran77.bits arrays) None (statement_of_part m.line m.body) s)
+      (does (dialect (fortran77 width).bits arrays) None (statement_of_part m.line m.body) s)
   -- what comes after them goes on from it
-  pub way : (does_all fortran77 None m.after (record s { store = left })).way ≡ Going
-  pub near : (arrays : Bool) → GoesOnNear (run_nest m) (does_all fortran77 None m.after (record s { store = left }))
-      (does_all (dialect fortran77.bits arrays) None (loops_then_after m) s)
-  pub lines : (arrays : Bool) → SameLines s (does_all (dialect fortran77.bits arrays) None (loops_then_after m) s)
+  pub way : (does_all (fortran77 width) None m.after (record s { store = left })).way ≡ Going
+  pub near : (arrays : Bool)
+      → GoesOnNear (run_nest m) (does_all (fortran77 width) None m.after (record s { store = left }))
+      (does_all (dialect (fortran77 width).bits arrays) None (loops_then_after m) s)
+  pub lines : (arrays : Bool)
+      → SameLines s (does_all (dialect (fortran77 width).bits arrays) None (loops_then_after m) s)

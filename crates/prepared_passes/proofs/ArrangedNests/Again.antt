@@ -41,7 +41,7 @@ use Rattle.pass_laws.proofs.NormalFacts.Tables.{all_in, each_from}
 use Rattle.pass_laws.proofs.NormalFacts.Texts.{IsStatementOver}
 use Rattle.pass_laws.proofs.ReadyNests.Lists.{Each-All}
 use Rattle.pass_laws.specs.normal_facts.Laws.{IsCounter}
-use Rattle.interchange.specs.Arranged.{has_no_loop, with_moved_loops}
+use Rattle.interchange.specs.Arranged.{is_loop_free, with_moved_loops}
 use Rattle.interchange.specs.Chains.{are_statements, in_loops}
 use Rattle.pass_laws.specs.prepared_nests.After.{IsPreparedAfter}
 use Rattle.pass_laws.specs.prepared_nests.Loops.{EachLoop, EachLoopIn, IsPreparedLoop, IsPreparedTrip, variables_of_loops}
@@ -132,11 +132,11 @@ module _ (es : List Declaration) (symbols : List (List ℕ)) where
     normal : IsNormal l
     trip : Trip
     is : l.trip ≡ Some trip
-    none : has_no_loop trip ≡ true
+    none : is_loop_free trip ≡ true
     round : List (List ℕ)
     prepared : IsPreparedTrip round symbols l.last trip
 
-  free_from : (round : List Loop) (l : Loop) → IsPreparedLoop es symbols round l → (t : Trip) → l.trip ≡ Some t → has_no_loop t ≡ true → IsFree l
+  free_from : (round : List Loop) (l : Loop) → IsPreparedLoop es symbols round l → (t : Trip) → l.trip ≡ Some t → is_loop_free t ≡ true → IsFree l
   free_from round l h t e none = record {
     number = h.number;
     variable = h.variable;

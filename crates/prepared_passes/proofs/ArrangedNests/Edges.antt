@@ -8,7 +8,7 @@ use Rattle.dependence_graph.specs.declared.graphs.Dep.TheVariants.{Anti, Flow, O
 use Rattle.dependence_graph.specs.declared.graphs.Edge.{Edge}
 use Rattle.dependence_graph.specs.declared.graphs.Graph.{Graph}
 use Rattle.dependence_graph.specs.declared.graphs.Place.{Place}
-use Rattle.dependence_graph.specs.nest_graph.Arcs.{Answer, Assumed, Couple, Met, Never, Verdict, edge_of, edges_of, with_some}
+use Rattle.dependence_graph.specs.nest_graph.Arcs.{VectorVerdict, Assumed, Couple, Met, Never, Verdict, edge_of, edges_of, with_some}
 use Rattle.dependence_graph.specs.nest_graph.Graph.{IsCouple, IsGraphOf, all_edges}
 use Rattle.subscripts.specs.declared.affine.Dir.{Dir}
 use Rattle.dependence_graph.specs.nest_graph.Pair.{kind_between}
@@ -16,7 +16,7 @@ use Rattle.nest_order.specs.orders.Graphs.{Arc, HasLevel}
 use Rattle.nest_order.specs.orders.Lists.{In}
 use Rattle.nest_order.proofs.orders.Membership.{In-map, map-In}
 use Rattle.emission.specs.graph_orders.Arcs.{arc_of, arcs_of, sign_of}
-use Rattle.interchange.specs.Arranged.{is_anti, is_own_anti}
+use Rattle.interchange.specs.Arranged.{is_antidependence, is_own_antidependence}
 use Rattle.interchange.specs.Orders.{directions, keeps_all, leads_forward}
 use Rattle.interchange_laws.specs.orders.Laws.{IsChainArc, MayBeRearranged}
 use Rattle.interchange_laws.specs.orders.Moves.{rearranged}
@@ -27,7 +27,7 @@ true_false : true ≡ false → ⊥
 true_false e = cc
 
 abbrev pub others : List Edge → List Edge
-others es = filter (λ e. not (is_own_anti e)) es
+others es = filter (λ e. not (is_own_antidependence e)) es
 
 kept_in : (test : Edge → Bool) (es : List Edge) (e : Edge) → In e (filter test es) → In e es × (test e ≡ true)
 kept_in test [] e i = absurd i
@@ -54,7 +54,7 @@ reads_first zero zero e z = cc
 reads_first zero (suc q) e z = cc
 reads_first (suc r) q e z = absurd (omega arith)
 
-anti_is : (k : Dep) → is_anti k ≡ true → k ≡ Anti
+anti_is : (k : Dep) → is_antidependence k ≡ true → k ≡ Anti
 anti_is Flow e = cc
 anti_is Anti e = refl
 anti_is Output e = cc
@@ -70,7 +70,7 @@ first c d (Met x y w) e es (inr i) = inr i
 first c d (Assumed w) e es (inl f) = inl (ap (λ (z : Edge). z.from) f, ap (λ (z : Edge). z.to) f, ap (λ (z : Edge). z.kind) f)
 first c d (Assumed w) e es (inr i) = inr i
 
-between : (c : Couple) (as' : List Answer) (e : Edge) → In e (edges_of c as') → IsBetween c e
+between : (c : Couple) (as' : List VectorVerdict) (e : Edge) → In e (edges_of c as') → IsBetween c e
 between c [] e h = absurd h
 between c (a ∷ as') e h = by (first c a.0 a.1 e (edges_of c as') h) (λ i. between c as' e i)
   where
@@ -101,9 +101,9 @@ each_in P (y ∷ xs) h x (inl e) = subst P (sym e) (h 0 y (omega arith))
 each_in P (y ∷ xs) h x (inr i) = each_in P xs (λ k d g. h (suc k) d (omega arith)) x i
 
 module _ (n : Nest) (g : Graph) (graph : IsGraphOf n g) where
-  own_anti : (e : Edge) → In e g.edges → is_own_anti e ≡ true → IsOwnAnti (arc_of e)
+  own_anti : (e : Edge) → In e g.edges → is_own_antidependence e ≡ true → IsOwnAnti (arc_of e)
   own_anti e i own =
-      let h = and_both (is_anti e.kind) (e.from.stmt == e.to.stmt) own in
+      let h = and_both (is_antidependence e.kind) (e.from.stmt == e.to.stmt) own in
       let c = among graph.couples e (subst (In e) graph.edges i) in
       let kind : kind_between c.0.from.at c.0.to.at ≡ Some Anti = (each_in (IsCouple n) graph.couples graph.each c.0 c.1).kind ∙ ap Some (sym c.2.2 ∙ anti_is e.kind h.0) in
       record {
@@ -117,12 +117,12 @@ module _ (n : Nest) (g : Graph) (graph : IsGraphOf n g) where
   pub others_are_kept : AreOtherThanOwnAnti (arcs_of g.edges) (arcs_of (others g.edges))
   others_are_kept = record {
     among = λ a i. (let o = In-map arc_of a (others g.edges) i in
-        subst (λ z. In z (arcs_of g.edges)) (sym o.is) (map-In arc_of o.it g.edges (kept_in (λ e. not (is_own_anti e)) g.edges o.it o.inside).0));
+        subst (λ z. In z (arcs_of g.edges)) (sym o.is) (map-In arc_of o.it g.edges (kept_in (λ e. not (is_own_antidependence e)) g.edges o.it o.inside).0));
     others = λ a i other. (let o = In-map arc_of a g.edges i in
-        subst (λ z. In z (arcs_of (others g.edges))) (sym o.is) (map-In arc_of o.it (others g.edges) (in_kept (λ e. not (is_own_anti e)) g.edges o.it o.inside (not_own o.it (is_own_anti o.it) refl o.inside (subst (λ z. IsOwnAnti z → ⊥) o.is other)))));
+        subst (λ z. In z (arcs_of (others g.edges))) (sym o.is) (map-In arc_of o.it (others g.edges) (in_kept (λ e. not (is_own_antidependence e)) g.edges o.it o.inside (not_own o.it (is_own_antidependence o.it) refl o.inside (subst (λ z. IsOwnAnti z → ⊥) o.is other)))));
   }
     where
-      not_own : (e : Edge) (b : Bool) → is_own_anti e ≡ b → In e g.edges → (IsOwnAnti (arc_of e) → ⊥) → not (is_own_anti e) ≡ true
+      not_own : (e : Edge) (b : Bool) → is_own_antidependence e ≡ b → In e g.edges → (IsOwnAnti (arc_of e) → ⊥) → not (is_own_antidependence e) ≡ true
       not_own e true f i other = absurd (other (own_anti e i f))
       not_own e false f i other = ap not f
 

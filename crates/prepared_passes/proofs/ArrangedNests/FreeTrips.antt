@@ -18,7 +18,7 @@ use Rattle.nest_order.specs.orders.Lists.{In}
 use Rattle.pass_laws.proofs.NormalFacts.Tables.{each_from}
 use Rattle.pass_laws.proofs.NormalFacts.Texts.{trip_over}
 use Rattle.rewrite.specs.Making.{made}
-use Rattle.interchange.specs.Arranged.{has_no_loop}
+use Rattle.interchange.specs.Arranged.{is_loop_free}
 use Rattle.pass_laws.specs.prepared_nests.Loops.{IsPreparedTrip}
 use Rattle.prepared_passes.proofs.ArrangedNests.Names.{text_alone}
 use Rattle.prepared_passes.proofs.ArrangedNests.Unmoved.{IsOther, stays}
@@ -81,7 +81,7 @@ limited_under n m f h =
 
 -- ---- the trip
 
-module _ (round symbols : List (List ℕ)) (last : Expression) (t : Trip) (h : IsPreparedTrip round symbols last t) (none : has_no_loop t ≡ true) where
+module _ (round symbols : List (List ℕ)) (last : Expression) (t : Trip) (h : IsPreparedTrip round symbols last t) (none : is_loop_free t ≡ true) where
   at : (k : ℕ) → slice_index_or t.top.loops k (pos 0) ≡ pos 0
   at = all_zero_at t.top.loops none
 

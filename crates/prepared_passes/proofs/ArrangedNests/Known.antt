@@ -11,8 +11,8 @@ use Rattle.nest.specs.declared.parts.Trip.{Trip}
 use Rattle.nest.specs.Plain.{Loop}
 use Rattle.dependence_graph.specs.nest_graph.Instances.{turns_at}
 use Rattle.dependence_graph.specs.nest_graph.Spans.{ends_at, last_after, span_of, spans_of}
-use Rattle.dependence_graph.specs.nest_graph.Trips.{has_no_symbol, is_constant}
-use Rattle.interchange.specs.Arranged.{has_no_loop, trips_of, with_trip, without_loops as own_trip}
+use Rattle.dependence_graph.specs.nest_graph.Trips.{has_no_symbol, has_constant_top}
+use Rattle.interchange.specs.Arranged.{is_loop_free, free_trips_of, with_free_trip, if_loop_free as own_trip}
 use Rattle.interchange.specs.Orders.{has_constant, passes, same_terms, same_trip}
 use Rattle.prepared_passes.proofs.ArrangedNests.Trips.{without_loops}
 use Rattle.prepared_passes.proofs.ArrangedNests.Vectors.{and_both}
@@ -37,7 +37,7 @@ no_symbols (t ∷ ts) v e =
     nothing : (x : ℤ) → pos 0 *ℤ x +ℤ pos 0 ≡ pos 0
     nothing x = omega (arith, ints)
 
-pub constant_turns : (t : Trip) (v : ℕ → ℤ) → is_constant t ≡ true → turns_at t v [] ≡ int_div t.top.constant t.by
+pub constant_turns : (t : Trip) (v : ℕ → ℤ) → has_constant_top t ≡ true → turns_at t v [] ≡ int_div t.top.constant t.by
 constant_turns t v e =
     let h = and_both (list_all (λ a. int_eq a (pos 0)) t.top.loops) (has_no_symbol t) e in
     ap (λ z. int_div (z +ℤ (over_symbols t.top.syms v +ℤ t.top.constant)) t.by) (without_loops t.top.loops [] h.0)
@@ -47,10 +47,10 @@ constant_turns t v e =
     alone c = omega (arith, ints)
 
 -- a span says so of a trip
-pub span_says : (test : ℤ → Bool) (outer : List Span) (t : Trip) → has_constant test (Some (span_of outer (Some t))) ≡ true → (is_constant t ≡ true) × (test (int_div t.top.constant t.by) ≡ true)
-span_says test outer t e = by (is_constant t) refl e
+pub span_says : (test : ℤ → Bool) (outer : List Span) (t : Trip) → has_constant test (Some (span_of outer (Some t))) ≡ true → (has_constant_top t ≡ true) × (test (int_div t.top.constant t.by) ≡ true)
+span_says test outer t e = by (has_constant_top t) refl e
   where
-    by : (b : Bool) → is_constant t ≡ b → has_constant test (Some (cond b (record { last = Some (int_div t.top.constant t.by); fixed = true }) (ends_at (last_after outer t)))) ≡ true → (is_constant t ≡ true) × (test (int_div t.top.constant t.by) ≡ true)
+    by : (b : Bool) → has_constant_top t ≡ b → has_constant test (Some (cond b (record { last = Some (int_div t.top.constant t.by); fixed = true }) (ends_at (last_after outer t)))) ≡ true → (has_constant_top t ≡ true) × (test (int_div t.top.constant t.by) ≡ true)
     by true f h = (f, (and_both (test (int_div t.top.constant t.by)) true h).0)
     by false f h = absurd (true_false (sym (and_both (passes test (last_after outer t)) false h).1))
 
@@ -65,40 +65,40 @@ span_at outer (l ∷ ls) (suc k) s e = span_at (outer ++ span_of outer l.trip �
 
 -- ---- trips without a loop's variable
 
-own_is : (o : Option Trip) (t : Trip) → own_trip o ≡ Some t → (o ≡ Some t) × (has_no_loop t ≡ true)
+own_is : (o : Option Trip) (t : Trip) → own_trip o ≡ Some t → (o ≡ Some t) × (is_loop_free t ≡ true)
 own_is None t e = absurd (none_some t e)
-own_is (Some u) t e = by (has_no_loop u) refl e
+own_is (Some u) t e = by (is_loop_free u) refl e
   where
-    by : (b : Bool) → has_no_loop u ≡ b → cond b (Some u) None ≡ Some t → (Some u ≡ Some t) × (has_no_loop t ≡ true)
-    by true f h = (h, ap has_no_loop (sym (some_same u t h)) ∙ f)
+    by : (b : Bool) → is_loop_free u ≡ b → cond b (Some u) None ≡ Some t → (Some u ≡ Some t) × (is_loop_free t ≡ true)
+    by true f h = (h, ap is_loop_free (sym (some_same u t h)) ∙ f)
     by false f h = absurd (none_some t h)
 
-with_is : (o : Option Trip) (p : Option (List Trip)) (ts : List Trip) → with_trip o p ≡ Some ts → (t : Trip) × ((us : List Trip) × (o ≡ Some t) × (p ≡ Some us) × (ts ≡ t ∷ us))
+with_is : (o : Option Trip) (p : Option (List Trip)) (ts : List Trip) → with_free_trip o p ≡ Some ts → (t : Trip) × ((us : List Trip) × (o ≡ Some t) × (p ≡ Some us) × (ts ≡ t ∷ us))
 with_is None p ts e = absurd (none_some ts e)
 with_is (Some t) None ts e = absurd (none_some ts e)
 with_is (Some t) (Some us) ts e = (t, (us, refl, refl, sym (some_same (t ∷ us) ts e)))
 
-pub trip_at : (ls : List Loop) (ts : List Trip) (k : ℕ) (l : Loop) → trips_of ls ≡ Some ts → slice_get ls k ≡ Some l → (t : Trip) × (slice_get ts k ≡ Some t) × (l.trip ≡ Some t) × (has_no_loop t ≡ true)
+pub trip_at : (ls : List Loop) (ts : List Trip) (k : ℕ) (l : Loop) → free_trips_of ls ≡ Some ts → slice_get ls k ≡ Some l → (t : Trip) × (slice_get ts k ≡ Some t) × (l.trip ≡ Some t) × (is_loop_free t ≡ true)
 trip_at [] ts k l e f = absurd (none_some l f)
 trip_at (x ∷ ls) ts zero l e f =
-    let h = with_is (own_trip x.trip) (trips_of ls) ts e in
+    let h = with_is (own_trip x.trip) (free_trips_of ls) ts e in
     let o = own_is x.trip h.0 h.1.1 in
     (h.0, ap (λ zs. slice_get zs 0) h.1.3, ap (λ (y : Loop). y.trip) (sym (some_same x l f)) ∙ o.0, o.1)
 trip_at (x ∷ ls) ts (suc k) l e f =
-    let h = with_is (own_trip x.trip) (trips_of ls) ts e in
+    let h = with_is (own_trip x.trip) (free_trips_of ls) ts e in
     let r = trip_at ls h.1.0 k l h.1.2 f in
     (r.0, ap (λ zs. slice_get zs (suc k)) h.1.3 ∙ r.1, r.2, r.3)
 
 -- and back: where there is a trip there is a loop
-pub loop_at : (ls : List Loop) (ts : List Trip) (k : ℕ) (t : Trip) → trips_of ls ≡ Some ts → slice_get ts k ≡ Some t → (l : Loop) × (slice_get ls k ≡ Some l) × (l.trip ≡ Some t) × (has_no_loop t ≡ true)
+pub loop_at : (ls : List Loop) (ts : List Trip) (k : ℕ) (t : Trip) → free_trips_of ls ≡ Some ts → slice_get ts k ≡ Some t → (l : Loop) × (slice_get ls k ≡ Some l) × (l.trip ≡ Some t) × (is_loop_free t ≡ true)
 loop_at [] ts k t e f = absurd (none_some t (ap (λ zs. slice_get zs k) (some_same [] ts e) ∙ f))
 loop_at (x ∷ ls) ts zero t e f =
-    let h = with_is (own_trip x.trip) (trips_of ls) ts e in
+    let h = with_is (own_trip x.trip) (free_trips_of ls) ts e in
     let o = own_is x.trip h.0 h.1.1 in
     let g : h.0 ≡ t = some_same h.0 t (sym (ap (λ zs. slice_get zs 0) h.1.3) ∙ f) in
-    (x, refl, o.0 ∙ ap Some g, subst (λ u. has_no_loop u ≡ true) g o.1)
+    (x, refl, o.0 ∙ ap Some g, subst (λ u. is_loop_free u ≡ true) g o.1)
 loop_at (x ∷ ls) ts (suc k) t e f =
-    let h = with_is (own_trip x.trip) (trips_of ls) ts e in
+    let h = with_is (own_trip x.trip) (free_trips_of ls) ts e in
     loop_at ls h.1.0 k t h.1.2 (sym (ap (λ zs. slice_get zs (suc k)) h.1.3) ∙ f)
 
 -- ---- equal trips
@@ -118,7 +118,7 @@ terms_same (t ∷ ts) (u ∷ us) e =
     pair : (t u : ℕ × ℤ) → t.0 ≡ u.0 → t.1 ≡ u.1 → ts ≡ us → t ∷ ts ≡ u ∷ us
     pair t u a b c = ap (λ n. (n, t.1) ∷ ts) a ∙ (ap (λ z. (u.0, z) ∷ ts) b ∙ ap (λ zs. u ∷ zs) c)
 
-pub same_number : (t u : Trip) (v : ℕ → ℤ) → has_no_loop t ≡ true → has_no_loop u ≡ true → same_trip (Some t) (Some u) ≡ true → turns_at t v [] ≡ turns_at u v []
+pub same_number : (t u : Trip) (v : ℕ → ℤ) → is_loop_free t ≡ true → is_loop_free u ≡ true → same_trip (Some t) (Some u) ≡ true → turns_at t v [] ≡ turns_at u v []
 same_number t u v f g e =
     let h = and_both (same_terms t.top.syms u.top.syms) (int_eq t.top.constant u.top.constant && int_eq t.by u.by) e in
     let k = and_both (int_eq t.top.constant u.top.constant) (int_eq t.by u.by) h.1 in

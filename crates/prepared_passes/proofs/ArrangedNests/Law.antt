@@ -14,7 +14,7 @@ use Rattle.emission.specs.graph_orders.Nests.{run_nest}
 use Rattle.emission.proofs.GraphOrders.Complete.{graph_has_edges}
 use Rattle.nest_order.specs.orders.Graphs.{Arc}
 use Rattle.nest_order.specs.orders.Lists.{Distinct, Each, In}
-use Rattle.nest_order.specs.orders.Shapes.{loops}
+use Rattle.nest_order.specs.orders.Shapes.{loops_of_shape}
 use Rattle.nest_order.proofs.facts.Facts.{facts_suffice}
 use Rattle.nest_order.proofs.orders.Membership.{In-map}
 use Rattle.nest_order.proofs.shapes.Shapes.{statement_is_of_shape}
@@ -60,7 +60,7 @@ module _ (bits : ℕ) (wide : 31 ≤ bits) (high : bits ≤ 63) (m : Nest) (g : 
   abbrev c : Chain
   c = record { loops = l ∷ ls; body = body }
 
-  abbrev N : runs.Nest
+  abbrev N : runs.RunNest
   N = run_nest m
 
   abbrev ss : List ℕ
@@ -90,8 +90,8 @@ module _ (bits : ℕ) (wide : 31 ≤ bits) (high : bits ≤ 63) (m : Nest) (g : 
   first : HasLoop numbers
   first = record { first = l.number; rest = numbers_of ls; is = refl }
 
-  loops_here : loops N.shape ≡ numbers
-  loops_here = ap loops shape_here ∙ chain_loops numbers ss first
+  loops_here : loops_of_shape N.shape ≡ numbers
+  loops_here = ap loops_of_shape shape_here ∙ chain_loops numbers ss first
 
   ok : IsNestIn bits N w
   ok = facts_suffice bits N w may.facts
@@ -141,7 +141,7 @@ module _ (bits : ℕ) (wide : 31 ≤ bits) (high : bits ≤ 63) (m : Nest) (g : 
     reads = reads_what_it_writes m may.plain may.facts.text may.ready may.own;
   }
 
-  abbrev other : runs.Nest
+  abbrev other : runs.RunNest
   other = rearranged_nest ps N numbers ss
 
   other_ok : IsNestIn bits other w
@@ -200,7 +200,7 @@ module _ (bits : ℕ) (wide : 31 ≤ bits) (high : bits ≤ 63) (m : Nest) (g : 
     was : (x : Loop) → In x (k ∷ ks) → In x (l ∷ ls)
     was x i = In_rearranged x ps (l ∷ ls) (subst (In x) (sym others_are) i)
 
-    abbrev O : runs.Nest
+    abbrev O : runs.RunNest
     O = nest_of there m.symbols N.linear N.turns_of
 
     abbrev z : Layout
@@ -228,7 +228,7 @@ module _ (bits : ℕ) (wide : 31 ≤ bits) (high : bits ≤ 63) (m : Nest) (g : 
     loop_there : (x : Loop) → In x (k ∷ ks) → loop_numbered (loops_of there) x.number ≡ Some x
     loop_there x i = numbered (loops_of there) x single_there (subst (In x) (sym (loops_of_chain k ks body plain_body)) i)
 
-    same_loops : (j : ℕ) → In j (loops other.shape) → (other.variable_at j ≡ O.variable_at j) × (other.trip_at j ≡ O.trip_at j)
+    same_loops : (j : ℕ) → In j (loops_of_shape other.shape) → (other.variable_at j ≡ O.variable_at j) × (other.trip_at j ≡ O.trip_at j)
     same_loops j i =
         let listed : In j (numbers_of (k ∷ ks)) = subst (In j) (chain_loops (rearranged ps numbers) ss (still_has_loop numbers (rearranged ps numbers) first (rearranged_length ps numbers)) ∙ sym numbers_there) i in
         let o = In-map (λ (x : Loop). x.number) j (k ∷ ks) listed in

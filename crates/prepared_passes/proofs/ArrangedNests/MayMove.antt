@@ -7,7 +7,7 @@ use Rattle.nest.specs.Plain.{Nest}
 use Rattle.nest_order.specs.runs.Stores.{Setting}
 use Rattle.dependence_graph.specs.declared.graphs.Graph.{Graph}
 use Rattle.dependence_graph.specs.nest_graph.Graph.{IsGraphOf}
-use Rattle.interchange.specs.Arranged.{trips_of}
+use Rattle.interchange.specs.Arranged.{free_trips_of}
 use Rattle.interchange.specs.Chains.{Chain, chain_of}
 use Rattle.interchange.specs.Reads.{read_own_elements}
 use Rattle.pass_laws.proofs.PreparedNests.Facts.{prepared_nest_has_facts}
@@ -19,7 +19,7 @@ use Rattle.prepared_passes.proofs.ArrangedNests.Names.{trips_name_symbols}
 
 pub prepared_nest_may_move : (bits : ℕ) (es : List Declaration) (around : List (List ℕ)) (deepest : ℕ) (m : Nest) (g : Graph) (c : Chain) (trips : List Trip) (w : Setting)
     → 31 ≤ bits → AreDeclarations es → IsPrepared es around deepest m → IsSettingFor es m w → IsGraphOf m g
-    → chain_of m.body ≡ Some c → trips_of c.loops ≡ Some trips → read_own_elements m ≡ true → MayMove bits m g c trips w
+    → chain_of m.body ≡ Some c → free_trips_of c.loops ≡ Some trips → read_own_elements m ≡ true → MayMove bits m g c trips w
 prepared_nest_may_move bits es around deepest m g c trips w wide are h setting graph chain trips_are own = record {
   plain = h.plain;
   ready = prepared_nest_is_ready es around deepest m are h;

@@ -7,6 +7,7 @@ use Rattle.tree.specs.declared.ops.Value.TheVariants.{Int}
 use Rattle.meaning.proofs.Agreeing.{statements_keep_agreement}
 use Rattle.meaning.specs.Agreement.{MomentsAgree}
 use Rattle.meaning.specs.Dialect.{fortran77}
+use Rattle.tree.specs.declared.width.Width.{Width}
 use Rattle.meaning.specs.Holding.{HoldsProgram, IsStorable}
 use Rattle.meaning.specs.Profile90.{AreDeclarations}
 use Rattle.meaning.specs.Reads.{names_in_block}
@@ -19,7 +20,7 @@ use Rattle.meaning_laws.proofs.dialects.NamesIn.{among}
 use Rattle.rewrite.specs.Following.{IsSound}
 use Rattle.linear_forms.specs.Laws.{HoldsSized}
 use Rattle.nest.specs.Plain.{Nest}
-use Rattle.nest_order.specs.runs.Nests.{Near, is_variable}
+use Rattle.nest_order.specs.runs.Nests.{Near, is_nest_variable}
 use Rattle.nest_steps.specs.Keeping.{GoOnAlike, KeepsAgreement, Place, Starts}
 use Rattle.dependence_graph.specs.declared.graphs.Graph.{Graph}
 use Rattle.dependence_graph.specs.nest_graph.Graph.{IsGraphOf}
@@ -37,6 +38,8 @@ use Rattle.prepared_passes.proofs.ArrangedNests.Again.{arranged_nest_is_prepared
 use Rattle.prepared_passes.proofs.ArrangedNests.Declared.{names_declared}
 use Rattle.prepared_passes.proofs.ArrangedNests.GoesOn.{arranged_nest_goes_on_as_nest}
 use Rattle.prepared_passes.proofs.ArrangedNests.Trips.{sized}
+use Rattle.tree.specs.Widths.{bits_of}
+use Rattle.meaning.proofs.Widths.{widest}
 
 -- ---- moments that agree
 
@@ -63,14 +66,14 @@ abbrev pub kept_if : Option Declaration → Value → Value
 kept_if None v = Int (pos 0)
 kept_if (Some d) v = v
 
-module _ (r : Program) (t : Store) (holds : HoldsProgram fortran77 r t) where
+module _ (width : Width) (r : Program) (t : Store) (holds : HoldsProgram (fortran77 width) r t) where
   abbrev pub clean : Store
   clean = record { bounds = t.bounds; held = λ c. kept_if (declared r.declarations c.name) (t.held c) }
 
-  pub clean_holds : HoldsProgram fortran77 r clean
+  pub clean_holds : HoldsProgram (fortran77 width) r clean
   clean_holds = record { bounds = holds.bounds; kinds = λ c. by (declared r.declarations c.name) (t.held c) (holds.kinds c) }
     where
-      by : (o : Option Declaration) (v : Value) → IfSome o (λ (d : Declaration). IsStorable fortran77 d.kind v) → IfSome o (λ (d : Declaration). IsStorable fortran77 d.kind (kept_if o v))
+      by : (o : Option Declaration) (v : Value) → IfSome o (λ (d : Declaration). IsStorable (fortran77 width) d.kind v) → IfSome o (λ (d : Declaration). IsStorable (fortran77 width) d.kind (kept_if o v))
       by None v h = h
       by (Some d) v h = h
 
@@ -83,9 +86,9 @@ module _ (r : Program) (t : Store) (holds : HoldsProgram fortran77 r t) where
       nothing : Int (pos 0) ≡ Int z → nat_abs z ≤ 2 ^ 63
       nothing f = let same : pos 0 ≡ z = cc in subst (λ (y : ℤ). nat_abs y ≤ 2 ^ 63) same least
 
-      by : (o : Option Declaration) (v : Value) → IfSome o (λ (d : Declaration). IsStorable fortran77 d.kind v) → kept_if o v ≡ Int z → nat_abs z ≤ 2 ^ 63
+      by : (o : Option Declaration) (v : Value) → IfSome o (λ (d : Declaration). IsStorable (fortran77 width) d.kind v) → kept_if o v ≡ Int z → nat_abs z ≤ 2 ^ 63
       by None v h f = nothing f
-      by (Some d) v h f = sized 31 (omega arith) z (subst (λ (x : Value). is_in_range 31 x ≡ true) f h.within)
+      by (Some d) v h f = sized (bits_of width) (widest width) z (subst (λ (x : Value). is_in_range (bits_of width) x ≡ true) f h.within)
 
   same_held : (c : Cell) → Contains (names_of r) c.name → t.held c ≡ clean.held c
   same_held c i = let d = is_declared r.declarations c.name i in ap (λ (o : Option Declaration). kept_if o (t.held c)) (sym d.1)
@@ -98,11 +101,11 @@ module _ (r : Program) (t : Store) (holds : HoldsProgram fortran77 r t) where
 
 -- ---- both runs
 
-module _ (p : Program) (around : List (List ℕ)) (deepest : ℕ) (m : Nest) (g : Graph) (w : Place) (are : AreDeclarations w.program.declarations)
+module _ (width : Width) (p : Program) (around : List (List ℕ)) (deepest : ℕ) (m : Nest) (g : Graph) (w : Place) (are : AreDeclarations w.program.declarations)
     (h : IsPrepared w.program.declarations around deepest m) (graph : IsGraphOf m g)
     (known : (x : List ℕ) → Contains (names_of p) x → Contains (names_of w.program) x) (none : (x : List ℕ) → Contains (names_of p) x → CountsNone x)
-    (may : (s : State) → Starts w s → MayRun w.program m s) (keeps : KeepsAgreement p w (loops_then_after m))
-    (s t : State) (starts : Starts w s) (ends : Starts w t) (alike : GoOnAlike p s t) (sound : IsSound (does_all fortran77 None (loops_then_after m) s).way) where
+    (may : (s : State) → Starts width w s → MayRun width w.program m s) (keeps : KeepsAgreement width p w (loops_then_after m))
+    (s t : State) (starts : Starts width w s) (ends : Starts width w t) (alike : GoOnAlike p s t) (sound : IsSound (does_all (fortran77 width) None (loops_then_after m) s).way) where
   abbrev k : Nest
   k = arranged m (vectors_of g.edges)
 
@@ -113,22 +116,22 @@ module _ (p : Program) (around : List (List ℕ)) (deepest : ℕ) (m : Nest) (g 
   c = loops_then_after k
 
   abbrev t0 : State
-  t0 = record t { store = clean w.program t.store ends.holds }
+  t0 = record t { store = clean width w.program t.store ends.holds }
 
-  starts0 : Starts w t0
-  starts0 = record { going = ends.going; holds = clean_holds w.program t.store ends.holds; bounds_are = ends.bounds_are }
+  starts0 : Starts width w t0
+  starts0 = record { going = ends.going; holds = clean_holds width w.program t.store ends.holds; bounds_are = ends.bounds_are }
 
   alike0 : GoOnAlike p s t0
-  alike0 = joined p s t t0 alike (record { going = ends.going; agree = fewer p w.program t.store t0.store known (clean_agrees w.program t.store ends.holds); rest = refl })
+  alike0 = joined p s t t0 alike (record { going = ends.going; agree = fewer p w.program t.store t0.store known (clean_agrees width w.program t.store ends.holds); rest = refl })
 
-  one : GoOnAlike p (does_all fortran77 None b s) (does_all fortran77 None b t0)
+  one : GoOnAlike p (does_all (fortran77 width) None b s) (does_all (fortran77 width) None b t0)
   one = keeps s t0 starts starts0 alike0 sound
 
-  sound0 : IsSound (does_all fortran77 None b t0).way
+  sound0 : IsSound (does_all (fortran77 width) None b t0).way
   sound0 = subst IsSound (sym (ap (λ (x : State). x.way) one.rest)) sound
 
-  both : GoOnTogether m t0 (does_all fortran77 None b t0) (does_all fortran77 None c t0)
-  both = arranged_nest_goes_on_as_nest w.program around deepest m g t0 are h graph (may t0 starts0) (clean_sized w.program t.store ends.holds) sound0
+  both : GoOnTogether m t0 (does_all (fortran77 width) None b t0) (does_all (fortran77 width) None c t0)
+  both = arranged_nest_goes_on_as_nest width w.program around deepest m g t0 are h graph (may t0 starts0) (clean_sized width w.program t.store ends.holds) sound0
 
   near_agrees : (x y : Store) → Near (run_nest m) x y → Agree p x y
   near_agrees x y near = record {
@@ -137,14 +140,14 @@ module _ (p : Program) (around : List (List ℕ)) (deepest : ℕ) (m : Nest) (g 
     kinds = λ d i. ap nought_like (near.held d (apart d i));
   }
     where
-      apart : (d : Cell) → Contains (names_of p) d.name → is_variable (run_nest m) d ≡ false
+      apart : (d : Cell) → Contains (names_of p) d.name → is_nest_variable (run_nest m) d ≡ false
       apart d i = no_variable w.program.declarations around deepest m h d (none d.name i)
 
-  two : GoOnAlike p (does_all fortran77 None b t0) (does_all fortran77 None c t0)
+  two : GoOnAlike p (does_all (fortran77 width) None b t0) (does_all (fortran77 width) None c t0)
   two = record {
     going = both.going;
-    agree = near_agrees (does_all fortran77 None b t0).store (does_all fortran77 None c t0).store both.beside.near;
-    rest = with_rest (does_all fortran77 None c t0) (does_all fortran77 None b t0) (both.lines_beside.written ∙ sym both.lines.written) (both.lines_beside.input ∙ sym both.lines.input)
+    agree = near_agrees (does_all (fortran77 width) None b t0).store (does_all (fortran77 width) None c t0).store both.beside.near;
+    rest = with_rest (does_all (fortran77 width) None c t0) (does_all (fortran77 width) None b t0) (both.lines_beside.written ∙ sym both.lines.written) (both.lines_beside.input ∙ sym both.lines.input)
         (both.lines_beside.had_value ∙ sym both.lines.had_value) (both.beside.way ∙ sym both.going);
   }
 
@@ -153,22 +156,22 @@ module _ (p : Program) (around : List (List ℕ)) (deepest : ℕ) (m : Nest) (g 
       (each_from (Contains (names_of w.program)) (names_in_block c)
       (λ x i. among w.program.declarations x _ (names_declared w.program.declarations around (deepest + 18) k (arranged_nest_is_prepared w.program.declarations around deepest m (vectors_of g.edges) h) x i)))
 
-  moments : MomentsAgree w.program (does_all fortran77 None c t0) (does_all fortran77 None c t)
-  moments = statements_keep_agreement fortran77 None w.program c t0 t all_known
-      (record { store = clean_back w.program t.store ends.holds; written = refl; input = refl; had_value = refl; steps = refl; way = refl })
+  moments : MomentsAgree w.program (does_all (fortran77 width) None c t0) (does_all (fortran77 width) None c t)
+  moments = statements_keep_agreement (fortran77 width) None w.program c t0 t all_known
+      (record { store = clean_back width w.program t.store ends.holds; written = refl; input = refl; had_value = refl; steps = refl; way = refl })
 
-  three : GoOnAlike p (does_all fortran77 None c t0) (does_all fortran77 None c t)
+  three : GoOnAlike p (does_all (fortran77 width) None c t0) (does_all (fortran77 width) None c t)
   three = record {
     going = both.beside.way;
-    agree = fewer p w.program (does_all fortran77 None c t0).store (does_all fortran77 None c t).store known moments.store;
-    rest = with_rest (does_all fortran77 None c t) (does_all fortran77 None c t0) (sym moments.written) (sym moments.input) (sym moments.had_value) (sym moments.way);
+    agree = fewer p w.program (does_all (fortran77 width) None c t0).store (does_all (fortran77 width) None c t).store known moments.store;
+    rest = with_rest (does_all (fortran77 width) None c t) (does_all (fortran77 width) None c t0) (sym moments.written) (sym moments.input) (sym moments.had_value) (sym moments.way);
   }
 
-  stands : GoOnAlike p (does_all fortran77 None b s) (does_all fortran77 None c t)
+  stands : GoOnAlike p (does_all (fortran77 width) None b s) (does_all (fortran77 width) None c t)
   stands =
-      joined p (does_all fortran77 None b s) (does_all fortran77 None b t0) (does_all fortran77 None c t) one
-      (joined p (does_all fortran77 None b t0) (does_all fortran77 None c t0) (does_all fortran77 None c t) two three)
+      joined p (does_all (fortran77 width) None b s) (does_all (fortran77 width) None b t0) (does_all (fortran77 width) None c t) one
+      (joined p (does_all (fortran77 width) None b t0) (does_all (fortran77 width) None c t0) (does_all (fortran77 width) None c t) two three)
 
-pub arranged_may_stand_for : ArrangedMayStandFor
-arranged_may_stand_for p around deepest m g w are h graph known none may keeps s t starts ends alike sound =
-    stands p around deepest m g w are h graph known none may keeps s t starts ends alike sound
+pub arranged_may_stand_for : (width : Width) → ArrangedMayStandFor width
+arranged_may_stand_for width p around deepest m g w are h graph known none may keeps s t starts ends alike sound =
+    stands width p around deepest m g w are h graph known none may keeps s t starts ends alike sound

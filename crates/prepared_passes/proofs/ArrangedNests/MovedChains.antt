@@ -11,8 +11,8 @@ use Rattle.nest_order.specs.orders.Lists.{Distinct, In}
 use Rattle.nest_order.specs.shapes.Shapes.{numbers_of}
 use Rattle.nest_rewrite.specs.Rewritten.{rewritten}
 use Rattle.dependence_graph.specs.nest_graph.Spans.{spans_of}
-use Rattle.interchange.specs.Arranged.{arranged_by, arranged_chain, body_in, has_no_loop, in_order, is_changed}
-use Rattle.interchange.specs.Arranged.{trips_of, with_moved_loops, with_order}
+use Rattle.interchange.specs.Arranged.{arranged_by, arranged_chain, body_in, is_loop_free, in_order, is_changed}
+use Rattle.interchange.specs.Arranged.{free_trips_of, with_moved_loops, with_order}
 use Rattle.interchange.specs.Chains.{Chain, are_statements, chain_of, in_loops, part_in_loops}
 use Rattle.interchange.specs.Laws.{IsChainOf}
 use Rattle.interchange.specs.Moves.{IsReached, exchanges}
@@ -41,7 +41,7 @@ pub record IsMoved (n : Nest) (vectors : List Dirs) (k : Nest) : Type 0 where
   pub chain : Chain
   pub is : chain_of n.body ≡ Some chain
   pub trips : List Trip
-  pub are : trips_of chain.loops ≡ Some trips
+  pub are : free_trips_of chain.loops ≡ Some trips
   pub own : read_own_elements n ≡ true
   pub nest : k ≡ record n { body = body_in n chain (order_of trips (spans_of [] chain.loops) vectors (length chain.loops)) }
 
@@ -52,14 +52,14 @@ module _ (n : Nest) (vectors : List Dirs) (k : Nest) where
   abbrev moved_by : Chain → List Trip → Nest
   moved_by c ts = record n { body = body_in n c (order_by c ts) }
 
-  from_order : (c : Chain) (ts : List Trip) → chain_of n.body ≡ Some c → trips_of c.loops ≡ Some ts → read_own_elements n ≡ true → with_order n c (order_by c ts) ≡ Some k → IsMoved n vectors k
+  from_order : (c : Chain) (ts : List Trip) → chain_of n.body ≡ Some c → free_trips_of c.loops ≡ Some ts → read_own_elements n ≡ true → with_order n c (order_by c ts) ≡ Some k → IsMoved n vectors k
   from_order c ts is are own e = by (is_changed (order_by c ts)) e
     where
       by : (b : Bool) → cond b (Some (moved_by c ts)) None ≡ Some k → IsMoved n vectors k
       by true f = record { chain = c; is = is; trips = ts; are = are; own = own; nest = sym (some_same (moved_by c ts) k f) }
       by false f = absurd (none_some k f)
 
-  from_trips : (c : Chain) (o : Option (List Trip)) → trips_of c.loops ≡ o → chain_of n.body ≡ Some c → read_own_elements n ≡ true
+  from_trips : (c : Chain) (o : Option (List Trip)) → free_trips_of c.loops ≡ o → chain_of n.body ≡ Some c → read_own_elements n ≡ true
       → arranged_chain n vectors c o ≡ Some k → IsMoved n vectors k
   from_trips c None are is own e = absurd (none_some k e)
   from_trips c (Some ts) are is own e = from_order c ts is are own e
@@ -68,8 +68,8 @@ module _ (n : Nest) (vectors : List Dirs) (k : Nest) where
   from_chain None is e = absurd (none_some k e)
   from_chain (Some c) is e = by (read_own_elements n) refl e
     where
-      by : (b : Bool) → read_own_elements n ≡ b → cond b (arranged_chain n vectors c (trips_of c.loops)) None ≡ Some k → IsMoved n vectors k
-      by true own f = from_trips c (trips_of c.loops) refl is own f
+      by : (b : Bool) → read_own_elements n ≡ b → cond b (arranged_chain n vectors c (free_trips_of c.loops)) None ≡ Some k → IsMoved n vectors k
+      by true own f = from_trips c (free_trips_of c.loops) refl is own f
       by false own f = absurd (none_some k f)
 
   pub moved_is : with_moved_loops n vectors ≡ Some k → IsMoved n vectors k
@@ -85,7 +85,7 @@ pub record IsMovedChain (n k : Nest) : Type 0 where
   pub body : Parts
   pub was : n.body ≡ Turns first (in_loops rest body)
   pub plain : are_statements body ≡ true
-  pub free : (l : Loop) → In l (first ∷ rest) → (t : Trip) × (l.trip ≡ Some t) × (has_no_loop t ≡ true)
+  pub free : (l : Loop) → In l (first ∷ rest) → (t : Trip) × (l.trip ≡ Some t) × (is_loop_free t ≡ true)
   -- as it is
   pub outer : Loop
   pub inner : List Loop
@@ -124,7 +124,7 @@ module _ (n : Nest) (vectors : List Dirs) (k : Nest) (h : IsMoved n vectors k) w
       ap (λ ls. in_order ls order) is.loops_are
       ∙ loops_are_exchanged is.first is.rest ps order (subst (λ ls. order ≡ rearranged ps (range_with_len 0 (length ls))) is.loops_are order_is)
 
-  free : (l : Loop) → In l (is.first ∷ is.rest) → (t : Trip) × (l.trip ≡ Some t) × (has_no_loop t ≡ true)
+  free : (l : Loop) → In l (is.first ∷ is.rest) → (t : Trip) × (l.trip ≡ Some t) × (is_loop_free t ≡ true)
   free l i =
       let p = place_of l c.loops (subst (In l) (sym is.loops_are) i) in
       let t = trip_at c.loops h.trips p.0 l h.are p.1 in

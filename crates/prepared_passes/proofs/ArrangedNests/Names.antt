@@ -9,13 +9,13 @@ use Rattle.meaning.specs.Reads.{names_in}
 use Rattle.linear_forms.proofs.Sizes.{both}
 use Rattle.linear_forms.specs.Expressed.{variables, with_constant, with_terms}
 use Rattle.linear_forms.specs.Texts.{places_behind, with_symbols}
-use Rattle.last_values.specs.normal_forms.Texts.{quotient, trip_text}
+use Rattle.last_values.specs.normal_forms.Texts.{quotient_text, trip_text}
 use Rattle.nest.specs.declared.parts.Trip.{Trip}
 use Rattle.nest.specs.Bodies.{loops_in_parts, loops_of}
 use Rattle.nest.specs.Plain.{Choice, Jump, Label, Loop, Nest, Part, Parts, Run, Turns, no_parts, part}
 use Rattle.nest_order.specs.orders.Lists.{In}
 use Rattle.nest_order.specs.shapes.Shapes.{ArePlain, IsPlain}
-use Rattle.interchange.specs.Arranged.{has_no_loop}
+use Rattle.interchange.specs.Arranged.{is_loop_free}
 use Rattle.prepared_passes.specs.arrangement.Laws.{TripsNameSymbols}
 use Rattle.pass_laws.proofs.PreparedNests.Trips.{names_of_trip}
 use Rattle.pass_laws.specs.prepared_nests.Loops.{EachLoop, EachLoopIn, IsPreparedLoop, IsPreparedTrip, variables_of_loops}
@@ -65,14 +65,14 @@ none_counts (pos (suc n) ∷ cs) (t ∷ ts) o e =
     absurd (omega (arith, none))
 none_counts (negsuc n ∷ cs) (t ∷ ts) o e = let no : ⊥ = cc in absurd no
 
-pub text_alone : (round symbols : List (List ℕ)) (t : Trip) → has_no_loop t ≡ true → trip_text round symbols [] t ≡ trip_text [] symbols [] t
+pub text_alone : (round symbols : List (List ℕ)) (t : Trip) → is_loop_free t ≡ true → trip_text round symbols [] t ≡ trip_text [] symbols [] t
 unfolding trip_text
 text_alone round symbols t e =
-    ap (λ (o : Option Expression). quotient (with_constant (with_symbols o t.top.syms (places_behind symbols [])) t.top.constant) t.by)
+    ap (λ (o : Option Expression). quotient_text (with_constant (with_symbols o t.top.syms (places_behind symbols [])) t.top.constant) t.by)
     (none_counts t.top.loops (variables round) None e ∙ sym (none_counts t.top.loops [] None e))
 
 trip_names : (round symbols : List (List ℕ)) (last : Expression) (o : Option Trip) (t : Trip) → IsSomeAnd o (IsPreparedTrip round symbols last)
-    → o ≡ Some t → has_no_loop t ≡ true → (x : List ℕ) → In x (names_in last) → In x symbols
+    → o ≡ Some t → is_loop_free t ≡ true → (x : List ℕ) → In x (names_in last) → In x symbols
 trip_names round symbols last None t h e none x i = absurd h
 trip_names round symbols last (Some u) t h e none x i = by (let same : u ≡ t = cc in same)
   where

@@ -25,14 +25,14 @@ use Rattle.emission.specs.graph_orders.Nests.{run_nest, turns_of_loop, turns_of_
 use Rattle.emission.proofs.GraphOrders.Tables.{loop_known}
 use Rattle.nest_order.specs.facts.Facts.{counted}
 use Rattle.nest_order.specs.orders.Lists.{In}
-use Rattle.nest_order.specs.orders.Shapes.{loops}
+use Rattle.nest_order.specs.orders.Shapes.{loops_of_shape}
 use Rattle.nest_order.proofs.orders.Membership.{In-map, map-In}
 use Rattle.nest_order.proofs.runs.Ending.{count_from_one, turns_to}
 use Rattle.nest_order.proofs.runs.Going.{trip_bounded}
 use Rattle.nest_order.specs.runs.Guarded.{sequential}
 use Rattle.nest_order.specs.runs.Stores.{HoldsNest, Setting}
 use Rattle.nest_order.specs.shapes.Shapes.{loop_numbered, numbers_of, shape_of, sizes_of, trip_of_loop, variable_of_loop}
-use Rattle.interchange.specs.Arranged.{has_no_loop}
+use Rattle.interchange.specs.Arranged.{is_loop_free}
 use Rattle.interchange.specs.Chains.{Chain}
 use Rattle.interchange.specs.Orders.{has_constant, has_turn, is_count, same_trip}
 use Rattle.interchange.specs.Laws.{IsChainOf}
@@ -49,7 +49,7 @@ use Rattle.prepared_passes.proofs.ArrangedNests.Trips.{IsNumber, quotient_size, 
 
 -- ---- lists
 
-in_at : {X : Type 0} (x : X) (xs : List X) → components.In x xs → (k : ℕ) × (slice_get xs k ≡ Some x)
+in_at : {X : Type 0} (x : X) (xs : List X) → components.IsMember x xs → (k : ℕ) × (slice_get xs k ≡ Some x)
 in_at x [] i = absurd i
 in_at x (y ∷ xs) (inl e) = (0, ap Some (sym e))
 in_at x (y ∷ xs) (inr i) = let r = in_at x xs i in (suc r.0, r.1)
@@ -149,7 +149,7 @@ module _ (bits : ℕ) (high : bits ≤ 63) (m : Nest) (g : Graph) (c : Chain) (t
   texts : HaveTripTexts m.symbols [] c.loops
   texts = subst (HaveTripTexts m.symbols []) loops_here (may.forms.trips place.0 (got_or (nest_statements m) place.0 stands.standing no_statement place.1).0)
 
-  trip_of : (x : Loop) → In x c.loops → (t : Trip) × (x.trip ≡ Some t) × (has_no_loop t ≡ true)
+  trip_of : (x : Loop) → In x c.loops → (t : Trip) × (x.trip ≡ Some t) × (is_loop_free t ≡ true)
   trip_of x i = by (index x c.loops i)
     where
       index : (x : Loop) (xs : List Loop) → In x xs → (k : ℕ) × (slice_get xs k ≡ Some x)
@@ -157,7 +157,7 @@ module _ (bits : ℕ) (high : bits ≤ 63) (m : Nest) (g : Graph) (c : Chain) (t
       index x (y ∷ xs) (inl e) = (0, ap Some (sym e))
       index x (y ∷ xs) (inr i) = let r = index x xs i in (suc r.0, r.1)
 
-      by : (k : ℕ) × (slice_get c.loops k ≡ Some x) → (t : Trip) × (x.trip ≡ Some t) × (has_no_loop t ≡ true)
+      by : (k : ℕ) × (slice_get c.loops k ≡ Some x) → (t : Trip) × (x.trip ≡ Some t) × (is_loop_free t ≡ true)
       by r = let a = trip_at c.loops trips r.0 x may.are r.1 in (a.0, a.2, a.3)
 
   abbrev top : ℕ → ℤ
@@ -198,13 +198,13 @@ module _ (bits : ℕ) (high : bits ≤ 63) (m : Nest) (g : Graph) (c : Chain) (t
   pub shape_is : (run_nest m).shape ≡ shape_chain (numbers_of (parts.first ∷ parts.rest)) listed
   shape_is = ap (shape_of 0) parts.is ∙ shape_of_chain parts.first parts.rest c.body parts.body
 
-  pub loops_are : loops (run_nest m).shape ≡ numbers_of c.loops
+  pub loops_are : loops_of_shape (run_nest m).shape ≡ numbers_of c.loops
   loops_are =
-      ap loops shape_is
+      ap loops_of_shape shape_is
       ∙ (chain_loops (numbers_of (parts.first ∷ parts.rest)) listed (record { first = parts.first.number; rest = numbers_of parts.rest; is = refl })
       ∙ ap numbers_of (sym parts.loops_are))
 
-  number_in_shape : (x : Loop) → In x c.loops → In x.number (loops (run_nest m).shape)
+  number_in_shape : (x : Loop) → In x c.loops → In x.number (loops_of_shape (run_nest m).shape)
   number_in_shape x i = subst (In x.number) (sym loops_are) (map-In (λ (y : Loop). y.number) x c.loops i)
 
   variable_is : (x : Loop) → In x c.loops → IsNumber w x.variable
@@ -218,7 +218,7 @@ module _ (bits : ℕ) (high : bits ≤ 63) (m : Nest) (g : Graph) (c : Chain) (t
         scalar = subst (λ y. w.bounds y ≡ Some []) e (may.facts.variables x.number (number_in_shape x i));
       }
 
-  value_of_trip : (x : Loop) → In x c.loops → (t : Trip) → x.trip ≡ Some t → has_no_loop t ≡ true → (s : Store) → HoldsNest bits (run_nest m) w s → number_of (sequential bits) x.last s ≡ Ok (turns_at t w.values [])
+  value_of_trip : (x : Loop) → In x c.loops → (t : Trip) → x.trip ≡ Some t → is_loop_free t ≡ true → (s : Store) → HoldsNest bits (run_nest m) w s → number_of (sequential bits) x.last s ≡ Ok (turns_at t w.values [])
   value_of_trip x i t e none s inside =
       let a = texted m.symbols [] c.loops texts x i in
       let b = tested 0 c.loops (linear_trips m may.ready c may.chain) x i in

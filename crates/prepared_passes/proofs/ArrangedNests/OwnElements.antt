@@ -22,7 +22,7 @@ use Rattle.dependence_graph.specs.nest_graph.Ready.{IsReady}
 use Rattle.emission.specs.graph_orders.Nests.{run_nest}
 use Rattle.emission.proofs.GraphOrders.Lists.{in_there, nth_same}
 use Rattle.emission.proofs.GraphOrders.Tables.{references_there, standing_there, variables_there}
-use Rattle.interchange.specs.Reads.{all_zero, is_zero, read_own_elements, reads_own_element, reads_what_is_written, same_form, same_forms}
+use Rattle.interchange.specs.Reads.{all_zero, is_no_difference, read_own_elements, reads_own_element, reads_what_is_written, same_form, same_forms}
 use Rattle.interchange_laws.specs.runs.Nests.{ReadsWhatItWrites}
 use Rattle.prepared_passes.proofs.ArrangedNests.Vectors.{all_in, and_both}
 
@@ -43,12 +43,12 @@ weightless (c ∷ cs) (x ∷ xs) e =
     nothing : (x : ℤ) → pos 0 *ℤ x +ℤ pos 0 ≡ pos 0
     nothing x = omega (arith, ints)
 
-worth_nothing : (f : Form) (xs : List ℤ) → is_zero f ≡ true → number_at f xs ≡ pos 0
+worth_nothing : (f : Form) (xs : List ℤ) → is_no_difference f ≡ true → number_at f xs ≡ pos 0
 worth_nothing f xs e =
     let h = and_both (all_zero f.coefficients) (int_eq f.constant (pos 0)) e in
     ap (λ z. z +ℤ f.constant) (weightless f.coefficients xs h.0) ∙ ap (λ z. pos 0 +ℤ z) ((Decides-int_eq f.constant (pos 0)).0 h.1)
 
-one_number : (f g : Form) (xs : List ℤ) → is_zero (sum f (multiple (negsuc 0) g)) ≡ true → number_at f xs ≡ number_at g xs
+one_number : (f g : Form) (xs : List ℤ) → is_no_difference (sum f (multiple (negsuc 0) g)) ≡ true → number_at f xs ≡ number_at g xs
 one_number f g xs e = equal (number_at f xs) (number_at g xs) both
   where
     both : number_at f xs +ℤ neg_ℤ (number_at g xs) ≡ pos 0
@@ -61,7 +61,7 @@ one_number f g xs e = equal (number_at f xs) (number_at g xs) both
 
 -- ---- subscripts
 
-module _ (r : runs.Nest) (symbols : List (List ℕ)) (vars : List (List ℕ)) (s : ℕ) (v : ℕ → ℤ) (is : List ℕ)
+module _ (r : runs.RunNest) (symbols : List (List ℕ)) (vars : List (List ℕ)) (s : ℕ) (v : ℕ → ℤ) (is : List ℕ)
     (linear : (e : Expression) → r.linear s e ≡ number_by symbols (form_of vars symbols e)) where
   same_value : (o p : Option Form) (z : ℤ) → same_form o p ≡ true → MayHave r v is (number_by symbols o) z → MayHave r v is (number_by symbols p) z
   same_value None p z e h = absurd (true_false (sym e))

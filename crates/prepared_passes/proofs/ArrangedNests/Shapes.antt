@@ -4,10 +4,10 @@ use Rattle.std.specs.List.{range_with_len}
 use Rattle.nest.specs.Bodies.{Standing, loops_in_parts, loops_of, statements_in_parts, statements_of}
 use Rattle.nest.specs.Plain.{Guarded, Loop, Part, Parts, no_parts, part, Run, Turns, Choice, Label, Jump}
 use Rattle.nest_order.specs.orders.Lists.{In}
-use Rattle.nest_order.specs.orders.Shapes.{Loop as Loop', Shape, Shapes, Single, loops, loops_in, no_shapes, shape, statements, statements_in as numbers_in}
+use Rattle.nest_order.specs.orders.Shapes.{Loop as Loop', Shape, Shapes, Single, loops_of_shape, loops_of_shapes, no_shapes, shape, statements, statements_in as numbers_in}
 use Rattle.nest_order.proofs.orders.Lists.{In-left, In-right}
 use Rattle.nest_order.specs.runs.Blocks.{Layout, guarded_statement, nest_block, nest_statement}
-use Rattle.nest_order.specs.runs.Nests.{Nest}
+use Rattle.nest_order.specs.runs.Nests.{RunNest}
 use Rattle.nest_order.specs.shapes.Shapes.{IsPlain, ArePlain, IsNormal, numbers_of, shape_of, shapes_of, sizes_of}
 use Rattle.tree.specs.Plain.{Do, Number, statement}
 use Rattle.interchange.specs.Chains.{are_statements, in_loops}
@@ -116,9 +116,9 @@ loops_are_normal l ls ps h m (inr i) = normal_in_loops ls ps h.1 m i
 
 -- ---- nests with the same statements and loops stand for the same statements
 
-module _ (n o : Nest) (z : Layout) where
+module _ (n o : RunNest) (z : Layout) where
   mutual
-    pub same_written : (round : List ℕ) (t : Shape) → ((l : ℕ) → In l (loops t) → (n.variable_at l ≡ o.variable_at l) × (n.trip_at l ≡ o.trip_at l))
+    pub same_written : (round : List ℕ) (t : Shape) → ((l : ℕ) → In l (loops_of_shape t) → (n.variable_at l ≡ o.variable_at l) × (n.trip_at l ≡ o.trip_at l))
         → ((s : ℕ) → In s (statements t) → n.statement_at s ≡ o.statement_at s) → nest_statement n z round t ≡ nest_statement o z round t
     same_written round (Single s) ls ss = ap (λ g. guarded_statement (z.line_at s) (z.mark_at s) g) (ss s (inl refl))
     same_written round (Loop' l ts) ls ss =
@@ -126,9 +126,9 @@ module _ (n o : Nest) (z : Layout) where
         ∙ (ap (λ e. Do (z.loop_line l) (o.variable_at l) (Number (pos 1)) e (Number (pos 1)) (nest_block n z (round ++ l ∷ []) ts)) (ls l (inl refl)).1
         ∙ ap (Do (z.loop_line l) (o.variable_at l) (Number (pos 1)) (o.trip_at l) (Number (pos 1))) (same_block (round ++ l ∷ []) ts (λ m i. ls m (inr i)) ss))
 
-    pub same_block : (round : List ℕ) (ts : Shapes) → ((l : ℕ) → In l (loops_in ts) → (n.variable_at l ≡ o.variable_at l) × (n.trip_at l ≡ o.trip_at l))
+    pub same_block : (round : List ℕ) (ts : Shapes) → ((l : ℕ) → In l (loops_of_shapes ts) → (n.variable_at l ≡ o.variable_at l) × (n.trip_at l ≡ o.trip_at l))
         → ((s : ℕ) → In s (numbers_in ts) → n.statement_at s ≡ o.statement_at s) → nest_block n z round ts ≡ nest_block o z round ts
     same_block round no_shapes ls ss = refl
     same_block round (shape t ts) ls ss =
-        ap (λ c. statement c (nest_block n z round ts)) (same_written round t (λ m i. ls m (In-left m (loops t) (loops_in ts) i)) (λ s i. ss s (In-left s (statements t) (numbers_in ts) i)))
-        ∙ ap (statement (nest_statement o z round t)) (same_block round ts (λ m i. ls m (In-right m (loops t) (loops_in ts) i)) (λ s i. ss s (In-right s (statements t) (numbers_in ts) i)))
+        ap (λ c. statement c (nest_block n z round ts)) (same_written round t (λ m i. ls m (In-left m (loops_of_shape t) (loops_of_shapes ts) i)) (λ s i. ss s (In-left s (statements t) (numbers_in ts) i)))
+        ∙ ap (statement (nest_statement o z round t)) (same_block round ts (λ m i. ls m (In-right m (loops_of_shape t) (loops_of_shapes ts) i)) (λ s i. ss s (In-right s (statements t) (numbers_in ts) i)))

@@ -40,7 +40,7 @@ use Rattle.nest_order.specs.runs.Touched.{nth_of}
 use Rattle.emission.specs.emission_forms.Written.{IsDivided, IsTripText}
 use Rattle.emission.proofs.EmissionForms.FormsGiven.{by_one}
 use Rattle.emission.proofs.EmissionForms.FormsLimits.{values_same}
-use Rattle.interchange.specs.Arranged.{has_no_loop}
+use Rattle.interchange.specs.Arranged.{is_loop_free}
 use Rattle.interchange.specs.Reads.{all_zero}
 use Rattle.prepared_passes.proofs.ArrangedNests.Vectors.{and_both}
 
@@ -93,7 +93,7 @@ pub record IsNumber (w : Setting) (x : List ℕ) : Type 0 where
   pub integer : declaration.kind ≡ Integer
   pub scalar : w.bounds x ≡ Some []
 
-module _ (bits : ℕ) (high : bits ≤ 63) (n : runs.Nest) (w : Setting) (s : Store) (inside : HoldsNest bits n w s) where
+module _ (bits : ℕ) (high : bits ≤ 63) (n : runs.RunNest) (w : Setting) (s : Store) (inside : HoldsNest bits n w s) where
   number_held : (x : List ℕ) → IsNumber w x → (z : ℤ) × (s.held (variable_cell x) ≡ Int z) × (nat_abs z ≤ 2 ^ 63)
   number_held x c = by (s.held (variable_cell x)) refl (subst (λ o. IfSome o (λ (e : Declaration). IsStorable (sequential bits) e.kind (s.held (variable_cell x)))) c.is (inside.program.kinds (variable_cell x)))
     where
@@ -129,13 +129,13 @@ without_loops (a ∷ as') (x ∷ xs) e =
     nothing : (x : ℤ) → pos 0 *ℤ x +ℤ pos 0 ≡ pos 0
     nothing x = omega (arith, ints)
 
-pub same_turns : (t : Trip) (v : ℕ → ℤ) (xs : List ℤ) → has_no_loop t ≡ true → turns_at t v xs ≡ turns_at t v []
+pub same_turns : (t : Trip) (v : ℕ → ℤ) (xs : List ℤ) → is_loop_free t ≡ true → turns_at t v xs ≡ turns_at t v []
 same_turns t v xs e =
     ap (λ z. int_div (z +ℤ (over_symbols t.top.syms v +ℤ t.top.constant)) t.by) (without_loops t.top.loops xs e ∙ sym (without_loops t.top.loops [] e))
 
 -- ---- a trip
 
-module _ (bits : ℕ) (high : bits ≤ 63) (n : runs.Nest) (w : Setting) (s : Store) (inside : HoldsNest bits n w s)
+module _ (bits : ℕ) (high : bits ≤ 63) (n : runs.RunNest) (w : Setting) (s : Store) (inside : HoldsNest bits n w s)
     (scalars : (x : List ℕ) → In x n.symbols → w.bounds x ≡ Some []) (values : (k : ℕ) (x : List ℕ) → nth_of n.symbols k ≡ Some x → nat_abs (w.values k) ≤ 2 ^ 63)
     (round : List (List ℕ)) (few : length round ≤ 7) (numbers : (x : List ℕ) → In x round → IsNumber w x) where
   nth_in : (xs : List (List ℕ)) (k : ℕ) (x : List ℕ) → nth_of xs k ≡ Some x → In x xs
@@ -151,7 +151,7 @@ module _ (bits : ℕ) (high : bits ≤ 63) (n : runs.Nest) (w : Setting) (s : St
       (λ j x e. (let z : j ≡ 0 + j = omega arith in
       (inside.bounds x ∙ scalars x (nth_in n.symbols j x e), inside.symbols j x e ∙ ap (λ i. Int (w.values i)) z, subst (λ i. nat_abs (w.values i) ≤ 2 ^ 63) z (values j x e))))
 
-  pub trip_number : (last : Expression) (t : Trip) → IsTripText round n.symbols last t → pos 1 ≤ℤ t.by → has_no_loop t ≡ true → number_of (sequential bits) last s ≡ Ok (turns_at t w.values [])
+  pub trip_number : (last : Expression) (t : Trip) → IsTripText round n.symbols last t → pos 1 ≤ℤ t.by → is_loop_free t ≡ true → number_of (sequential bits) last s ≡ Ok (turns_at t w.values [])
   trip_number last t text positive none = on text.text
     where
       top : ℤ

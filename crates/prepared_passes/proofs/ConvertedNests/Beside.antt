@@ -13,7 +13,7 @@ use Rattle.if_convert.specs.Converted.{converted}
 use Rattle.if_convert.specs.Jumps.{jumps_in}
 use Rattle.if_convert.specs.Masks.{all_parts_of}
 use Rattle.if_convert.specs.declared.points.Jumped.{Jumped}
-use Rattle.if_convert.specs.declared.points.Point.{Point}
+use Rattle.if_convert.specs.declared.points.MaskPoint.{MaskPoint}
 use Rattle.prepared_passes.proofs.ConvertedNests.Bodies.{one_follows}
 use Rattle.prepared_passes.proofs.ConvertedNests.Masked.{AreBeside, HasMasks, IsFree, IsJump, IsThere, IsUsed, flag}
 use Rattle.prepared_passes.proofs.ConvertedNests.Moments.{IsLoopless, Masks, holds}
@@ -35,7 +35,7 @@ truth_is : (v : Value) (b : Bool) → v ≡ Truth b → v ≡ Truth (truth_at v)
 truth_is v b e = subst (λ (w : Value). w ≡ Truth (truth_at w)) (sym e) refl
 
 -- at a point of a loop's body, with nothing known of what masks held before
-pub record IsAt (k0 k1 : ℕ) (p : Point) (s : State) (t : Store) : Type 0 where
+pub record IsAt (k0 k1 : ℕ) (p : MaskPoint) (s : State) (t : Store) : Type 0 where
   pub beside : AreBeside k0 k1 s.store t
   pub stands : Stands None p s.way (masks_of t)
   pub top : IsTop k0 p
@@ -83,7 +83,7 @@ module _ (bits line k0 k1 : ℕ) (few : k1 ≤ 2 ^ 32) where
       some : (q : ℕ) → ((l : Jumped) × In l ls × (l.label ≡ q) × (m.jumps l.mask ≡ true)) → (l : Jumped) × In l ls × (l.label ≡ q) × ((masks_of t).jumps l.mask ≡ true)
       some q (l, i, e, on) = (l, i, e, same_truth (t.held (flag l.mask)) (m.jumps l.mask) (h.jumps l.mask (u l i)) ∙ on)
 
-  stands_again : (low mid : ℕ) (p : Point) (w : Way) (s t : Store) (m : Masks) → IsUsed k0 k1 low mid p.guard → ((l : Jumped) → In l p.pending → IsJump k0 k1 low mid l.mask) → HasMasks k0 k1 low mid s t m → Stands None p w m → Stands None p w (masks_of t)
+  stands_again : (low mid : ℕ) (p : MaskPoint) (w : Way) (s t : Store) (m : Masks) → IsUsed k0 k1 low mid p.guard → ((l : Jumped) → In l p.pending → IsJump k0 k1 low mid l.mask) → HasMasks k0 k1 low mid s t m → Stands None p w m → Stands None p w (masks_of t)
   stands_again low mid p w s t m g j h st = record {
     block = st.block;
     guard = λ e. same_guard low mid p.guard s t m g h ∙ st.guard e;
@@ -94,11 +94,11 @@ module _ (bits line k0 k1 : ℕ) (few : k1 ≤ 2 ^ 32) where
   }
 
   -- both have gone on
-  pub record Gone (p : Point) (s : State) (t : State) : Type 0 where
+  pub record Gone (p : MaskPoint) (s : State) (t : State) : Type 0 where
     pub going : t.way ≡ Going
     pub at : IsAt k0 k1 p s t.store
 
-  pub part_gone : (q : Part) (p : Point) (s t : State) → IsLoopless q → IsFree q → IsAt k0 k1 p s t.store → t.way ≡ Going → IsFine (does (sequential bits) None (statement_of_part line q) s).way → (converted line false None q p).point.mask ≤ k1
+  pub part_gone : (q : Part) (p : MaskPoint) (s t : State) → IsLoopless q → IsFree q → IsAt k0 k1 p s t.store → t.way ≡ Going → IsFine (does (sequential bits) None (statement_of_part line q) s).way → (converted line false None q p).point.mask ≤ k1
       → Gone (converted line false None q p).point (does (sequential bits) None (statement_of_part line q) s) (does_all (sequential bits) None (block_of_parts line (parts (all_parts_of line (converted line false None q p).made))) t)
   part_gone q p s t h f at going fine top =
       let c = converted line false None q p in

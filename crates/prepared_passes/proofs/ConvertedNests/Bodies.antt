@@ -10,8 +10,8 @@ use Rattle.if_convert.specs.declared.points.Jumped.{Jumped}
 use Rattle.prepared_passes.specs.conversion.Branching.{HasArm}
 use Rattle.prepared_passes.proofs.ConvertedNests.Moments.{Masks, holds, step, IsLoopless, AreLoopless, BranchesAreLoopless}
 use Rattle.rewrite.specs.Following.{sequential}
-use Rattle.if_convert.specs.Points.{Converted, entered, rejoined, cleared_for, unless_skipped, numbered}
-use Rattle.if_convert.specs.declared.points.Point.{Point}
+use Rattle.if_convert.specs.Points.{Converted, entered, rejoined, cleared_for, unless_skipped, numbered_jumps}
+use Rattle.if_convert.specs.declared.points.MaskPoint.{MaskPoint}
 use Rattle.if_convert.specs.Converted.{converted, converted_parts, converted_branches, around_choice, choice_at, has_parts}
 use Rattle.prepared_passes.proofs.ConvertedNests.Runs.{runs-append}
 use Rattle.prepared_passes.proofs.ConvertedNests.Ways.{is_going, is_away, IsFine, IsOver, going_or_not, away, one, all, choice_idle, over_choosing, over_all, fine_from}
@@ -55,7 +55,7 @@ module _ (bits line : ℕ) where
 
   -- ---- behind an IF
 
-  rejoins : (own : Option ℕ) (p : Point) (ls : List Jumped) (j k : ℕ) (u : State) (m : Masks) → p.skips ≡ false → holds own m ≡ not (is_away u.way) → IsFine u.way
+  rejoins : (own : Option ℕ) (p : MaskPoint) (ls : List Jumped) (j k : ℕ) (u : State) (m : Masks) → p.skips ≡ false → holds own m ≡ not (is_away u.way) → IsFine u.way
       → JumpsAre (p.pending ++ ls) j u.way m → (ls ≡ [] → holds p.guard m ≡ is_going u.way) → Below own k → Below p.guard k
       → Follows bits own (rejoined own p ls j k) j k u.store u m
   rejoins own p [] j k u m e b f h g o q = record {
@@ -66,7 +66,7 @@ module _ (bits line : ℕ) where
   }
   rejoins own p (l ∷ ls) j k u m e b f h g o q = resumes bits line own (p.pending ++ (l ∷ ls)) j k u m b f h o
 
-  assembles : (deep : Bool) (own : Option ℕ) (n : ℕ) (p : Point) (c : Converted) (t : Store) (u v : State) (w : Way) (m : Masks) (cl : Cleared deep p.jump c.point.jump n p.mask t m)
+  assembles : (deep : Bool) (own : Option ℕ) (n : ℕ) (p : MaskPoint) (c : Converted) (t : Store) (u v : State) (w : Way) (m : Masks) (cl : Cleared deep p.jump c.point.jump n p.mask t m)
       (f : ArmsFollow bits c p.jump p.mask t v w cl.masks) → v.store ≡ u.store → p.skips ≡ false → holds own f.masks ≡ not (is_away u.way) → IsFine u.way
       → JumpsAre (p.pending ++ c.point.pending) c.point.jump u.way f.masks → (c.point.pending ≡ [] → holds p.guard f.masks ≡ is_going u.way) → Below own p.mask → Below p.guard p.mask
       → Follows bits own (around_choice deep own n p c) p.jump p.mask t u m
@@ -90,7 +90,7 @@ module _ (bits line : ℕ) where
   abbrev arms_from : Branches → Parts → Option ℕ → ℕ → ℕ → Converted
   arms_from bs other = converted_branches line bs (has_parts other) (λ g j m. converted_parts line true g other (entered g j m))
 
-  abbrev arms_of : Branches → Parts → Point → Converted
+  abbrev arms_of : Branches → Parts → MaskPoint → Converted
   arms_of bs other p = converted_branches line bs (has_parts other) (λ g j m. converted_parts line true g other (entered g j m)) p.guard p.jump p.mask
 
   abbrev jumps_of : Branches → Parts → ℕ
@@ -100,7 +100,7 @@ module _ (bits line : ℕ) where
   idle_choice no_branches other s h z = absurd h
   idle_choice (branch test ps bs) other s h z = choice_idle bits line test ps bs (all bits line other) s z
 
-  entered_choice : (deep : Bool) (own : Option ℕ) (bs : Branches) (other : Parts) (p : Point) (s : State) (m : Masks) → HasArm bs → AreLoopless other → p.skips ≡ false → Stands own p s.way m
+  entered_choice : (deep : Bool) (own : Option ℕ) (bs : Branches) (other : Parts) (p : MaskPoint) (s : State) (m : Masks) → HasArm bs → AreLoopless other → p.skips ≡ false → Stands own p s.way m
       → p.jump ≤ (arms_of bs other p).point.jump → AreClear deep p.jump (around_choice deep own (jumps_of bs other) p (arms_of bs other p)).point.jump m → IsFine (one bits line (Choice bs other) s).way
       → Behind bits line bs (has_parts other) (λ g j m. converted_parts line true g other (entered g j m)) (all bits line other)
       → Follows bits own (around_choice deep own (jumps_of bs other) p (arms_of bs other p)) p.jump p.mask s.store (one bits line (Choice bs other) s) m
@@ -136,16 +136,16 @@ module _ (bits line : ℕ) where
           (λ none. holds_kept p.guard p.jump p.mask (arms_of bs other p).point.jump (arms_of bs other p).point.mask m f.masks st.guard_below fr ∙ st.guard e)
           st.own_below st.guard_below)
 
-  clear_arms : (deep : Bool) (own : Option ℕ) (bs : Branches) (other : Parts) (p : Point) (m : Masks) → AreClear deep p.jump (choice_at deep own (jumps_of bs other) p (arms_from bs other)).point.jump m
-      → AreClear deep (numbered deep (jumps_of bs other) p).jump (around_choice deep own (jumps_of bs other) (numbered deep (jumps_of bs other) p) (arms_of bs other (numbered deep (jumps_of bs other) p))).point.jump m
+  clear_arms : (deep : Bool) (own : Option ℕ) (bs : Branches) (other : Parts) (p : MaskPoint) (m : Masks) → AreClear deep p.jump (choice_at deep own (jumps_of bs other) p (arms_from bs other)).point.jump m
+      → AreClear deep (numbered_jumps deep (jumps_of bs other) p).jump (around_choice deep own (jumps_of bs other) (numbered_jumps deep (jumps_of bs other) p) (arms_of bs other (numbered_jumps deep (jumps_of bs other) p))).point.jump m
   clear_arms true own bs other p m c = c
   clear_arms false own bs other p m c = λ e. cc
 
-  numbered_skips : (deep : Bool) (n : ℕ) (p : Point) → (numbered deep n p).skips ≡ p.skips
+  numbered_skips : (deep : Bool) (n : ℕ) (p : MaskPoint) → (numbered_jumps deep n p).skips ≡ p.skips
   numbered_skips true n p = refl
   numbered_skips false n p = refl
 
-  choice_follows : (deep : Bool) (own : Option ℕ) (bs : Branches) (other : Parts) (p : Point) (s : State) (m : Masks) → HasArm bs → AreLoopless other → IsOrdered deep p → Stands own p s.way m
+  choice_follows : (deep : Bool) (own : Option ℕ) (bs : Branches) (other : Parts) (p : MaskPoint) (s : State) (m : Masks) → HasArm bs → AreLoopless other → IsOrdered deep p → Stands own p s.way m
       → AreClear deep p.jump (converted line deep own (Choice bs other) p).point.jump m → IsFine (one bits line (Choice bs other) s).way
       → Behind bits line bs (has_parts other) (λ g j m. converted_parts line true g other (entered g j m)) (all bits line other)
       → Follows bits own (converted line deep own (Choice bs other) p) p.jump p.mask s.store (one bits line (Choice bs other) s) m
@@ -154,8 +154,8 @@ module _ (bits line : ℕ) where
       n : ℕ
       n = jumps_of bs other
 
-      q : Point
-      q = numbered deep (jumps_of bs other) p
+      q : MaskPoint
+      q = numbered_jumps deep (jumps_of bs other) p
 
       by : (b : Bool) → p.skips ≡ b → AreClear deep p.jump (unless_skipped b p (choice_at deep own (jumps_of bs other) p (arms_from bs other))).point.jump m
           → Follows bits own (unless_skipped b p (choice_at deep own (jumps_of bs other) p (arms_from bs other))) p.jump p.mask s.store (one bits line (Choice bs other) s) m
@@ -170,7 +170,7 @@ module _ (bits line : ℕ) where
   no_else (part q ps) s e = let z : ⊥ = cc in absurd z
 
   mutual
-    pub one_follows : (deep : Bool) (own : Option ℕ) (q : Part) (p : Point) (s : State) (m : Masks) → IsLoopless q → IsOrdered deep p → Stands own p s.way m → AreClear deep p.jump (converted line deep own q p).point.jump m
+    pub one_follows : (deep : Bool) (own : Option ℕ) (q : Part) (p : MaskPoint) (s : State) (m : Masks) → IsLoopless q → IsOrdered deep p → Stands own p s.way m → AreClear deep p.jump (converted line deep own q p).point.jump m
         → IsFine (does (sequential bits) None (statement_of_part line q) s).way → Follows bits own (converted line deep own q p) p.jump p.mask s.store (does (sequential bits) None (statement_of_part line q) s) m
     one_follows deep own (Run g) p s m h o st c f = run_follows bits line deep own g p s m h st f
     one_follows deep own (Turns l ps) p s m h o st c f = absurd h
@@ -182,7 +182,7 @@ module _ (bits line : ℕ) where
     one_follows deep own (Label k) p s m h o st c f = label_follows bits line deep own k p s m st f
     one_follows deep own (Jump k) p s m h o st c f = jump_follows bits line deep own k p s m o st c
 
-    pub all_follows : (own : Option ℕ) (ps : Parts) (p : Point) (s : State) (m : Masks) → AreLoopless ps → Stands own p s.way m → ClearFrom p.jump (converted_parts line true own ps p).point.jump m
+    pub all_follows : (own : Option ℕ) (ps : Parts) (p : MaskPoint) (s : State) (m : Masks) → AreLoopless ps → Stands own p s.way m → ClearFrom p.jump (converted_parts line true own ps p).point.jump m
         → IsFine (does_all (sequential bits) None (block_of_parts line ps) s).way → Follows bits own (converted_parts line true own ps p) p.jump p.mask s.store (does_all (sequential bits) None (block_of_parts line ps) s) m
     all_follows own no_parts p s m h st c f = stays bits line own p s s m refl st
     all_follows own (part q ps) p s m h st c f =

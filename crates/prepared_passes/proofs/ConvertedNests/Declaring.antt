@@ -187,7 +187,7 @@ declarations ds n a made = record {
   each = each IsDeclaration ds n made.declaration a.each;
   ordered = ordered ds n a.ordered;
   elements =
-      subst (λ k. k ≤ limits.array_elements)
+      subst (λ k. k ≤ limits.most_array_elements)
       (as_many (λ (e : Declaration). array_elements (dimensions e.extent)) ds n (ap array_elements made.later)) a.elements;
 }
 

@@ -4,9 +4,9 @@ use Rattle.nest.specs.Plain.{Part, Run, Turns, Choice, Label, Jump, Parts, no_pa
 use Rattle.if_convert.specs.Converted.{around_loop, choice_at, converted, converted_branches, converted_parts, has_parts, has_rest, rest_if, rest_under}
 use Rattle.if_convert.specs.Jumps.{jumps_in_branches, jumps_in_parts}
 use Rattle.if_convert.specs.Masks.{Kept}
-use Rattle.if_convert.specs.Points.{Converted, entered, is_left, jump_made, numbered, rejoined, resumed, unless_skipped}
+use Rattle.if_convert.specs.Points.{Converted, entered, is_left, jump_made, numbered_jumps, rejoined, resumed, unless_skipped}
 use Rattle.if_convert.specs.declared.points.Jumped.{Jumped}
-use Rattle.if_convert.specs.declared.points.Point.{Point}
+use Rattle.if_convert.specs.declared.points.MaskPoint.{MaskPoint}
 use Rattle.prepared_passes.proofs.ConvertedNests.Rising.{counts_branches, masks_rise_branches, masks_rise_parts, rejoined_mask}
 
 pub fewer : {X : Type 0} (f : X → Bool) (xs : List X) → length (filter f xs) ≤ length xs
@@ -21,7 +21,7 @@ pub resumed_few : (own : Option ℕ) (ls : List Jumped) (j k : ℕ) → length (
 resumed_few own [] j k = refl
 resumed_few own (l ∷ ls) j k = refl
 
-pub rejoined_few : (own : Option ℕ) (p : Point) (ls : List Jumped) (j k : ℕ) → length (rejoined own p ls j k).point.pending ≡ length p.pending + length ls
+pub rejoined_few : (own : Option ℕ) (p : MaskPoint) (ls : List Jumped) (j k : ℕ) → length (rejoined own p ls j k).point.pending ≡ length p.pending + length ls
 rejoined_few own p [] j k = omega arith
 rejoined_few own p (l ∷ ls) j k = resumed_few own (p.pending ++ (l ∷ ls)) j k ∙ length-append p.pending (l ∷ ls)
 
@@ -29,15 +29,15 @@ pub resumed_jump : (own : Option ℕ) (ls : List Jumped) (j k : ℕ) → (resume
 resumed_jump own [] j k = refl
 resumed_jump own (l ∷ ls) j k = refl
 
-pub rejoined_jump : (own : Option ℕ) (p : Point) (ls : List Jumped) (j k : ℕ) → (rejoined own p ls j k).point.jump ≡ j
+pub rejoined_jump : (own : Option ℕ) (p : MaskPoint) (ls : List Jumped) (j k : ℕ) → (rejoined own p ls j k).point.jump ≡ j
 rejoined_jump own p [] j k = refl
 rejoined_jump own p (l ∷ ls) j k = resumed_jump own (p.pending ++ (l ∷ ls)) j k
 
 -- in an IF each has a number of its own
-abbrev pub Less : Point → Converted → Type 0
+abbrev pub Less : MaskPoint → Converted → Type 0
 Less p c = length c.point.pending + p.jump ≤ length p.pending + c.point.jump
 
-less_by : (b : Bool) (p : Point) (c : Converted) → Less p c → Less p (unless_skipped b p c)
+less_by : (b : Bool) (p : MaskPoint) (c : Converted) → Less p c → Less p (unless_skipped b p c)
 less_by true p c h = omega arith
 less_by false p c h = h
 
@@ -50,7 +50,7 @@ module _ (line : ℕ) where
   rest_less true j m c h = h
 
   mutual
-    pub part_less : (own : Option ℕ) (q : Part) (p : Point) → Less p (converted line true own q p)
+    pub part_less : (own : Option ℕ) (q : Part) (p : MaskPoint) → Less p (converted line true own q p)
     part_less own (Run g) p = less_by p.skips p (record { made = Kept p.guard g ∷ []; point = p }) (omega arith)
     part_less own (Turns l ps) p = less_by p.skips p (around_loop line l p (converted_parts line false None ps (entered None p.mask p.mask))) (omega arith)
     part_less own (Choice bs other) p =
@@ -69,7 +69,7 @@ module _ (line : ℕ) where
         let e = length-append p.pending (record { mask = p.jump; label = k } ∷ []) in
         less_by p.skips p (jump_made true k p) (omega (arith, e))
 
-    pub parts_less : (own : Option ℕ) (ps : Parts) (p : Point) → Less p (converted_parts line true own ps p)
+    pub parts_less : (own : Option ℕ) (ps : Parts) (p : MaskPoint) → Less p (converted_parts line true own ps p)
     parts_less own no_parts p = omega arith
     parts_less own (part q ps) p =
         let a = part_less own q p in
@@ -93,7 +93,7 @@ module _ (line : ℕ) where
       less_arms bs (has_parts other) (λ g j m. converted_parts line true g other (entered g j m)) (λ g j m. let a = parts_less g other (entered g j m) in omega (arith, a)) g j m
 
   -- in a loop's body they are no more than the masks so far
-  pub part_few : (q : Part) (p : Point) → length p.pending ≤ p.mask → length (converted line false None q p).point.pending ≤ (converted line false None q p).point.mask
+  pub part_few : (q : Part) (p : MaskPoint) → length p.pending ≤ p.mask → length (converted line false None q p).point.pending ≤ (converted line false None q p).point.mask
   part_few (Run g) p h = by p.skips
     where
       by : (b : Bool) → length (unless_skipped b p (record { made = Kept p.guard g ∷ []; point = p })).point.pending ≤ (unless_skipped b p (record { made = Kept p.guard g ∷ []; point = p })).point.mask
@@ -112,7 +112,7 @@ module _ (line : ℕ) where
       by : (b : Bool) → length (unless_skipped b p (choice_at false None n p (arms bs other))).point.pending ≤ (unless_skipped b p (choice_at false None n p (arms bs other))).point.mask
       by true = h
       by false =
-          let q = numbered false n p in
+          let q = numbered_jumps false n p in
           let c = arms bs other q.guard q.jump q.mask in
           let a = arms_less bs other q.guard q.jump q.mask in
           let e = rejoined_few None q c.point.pending c.point.jump c.point.mask in
@@ -130,6 +130,6 @@ module _ (line : ℕ) where
       by (l ∷ ls) g = omega (arith, g)
   part_few (Jump k) p h = by p.skips
     where
-      by : (b : Bool) → length (unless_skipped b p (jump_made false k (numbered false 1 p))).point.pending ≤ (unless_skipped b p (jump_made false k (numbered false 1 p))).point.mask
+      by : (b : Bool) → length (unless_skipped b p (jump_made false k (numbered_jumps false 1 p))).point.pending ≤ (unless_skipped b p (jump_made false k (numbered_jumps false 1 p))).point.mask
       by true = h
       by false = let e = length-append p.pending (record { mask = p.mask; label = k } ∷ []) in omega (arith, h, e)

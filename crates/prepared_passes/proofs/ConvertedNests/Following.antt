@@ -7,8 +7,8 @@ use Rattle.nest.specs.Plain.{Run, Jump, Guarded}
 use Rattle.if_convert.specs.declared.points.Jumped.{Jumped}
 use Rattle.if_convert.specs.Masks.{Unleft, Kept, Asks, Leaves}
 use Rattle.prepared_passes.proofs.ConvertedNests.Moments.{Masks, Moment, holds, none_has_left, assigned, step, kept_if, asked_if, left_if, with_guard, with_jump}
-use Rattle.if_convert.specs.Points.{resumed, unless_skipped, unchanged, behind_jump, jump_made, numbered}
-use Rattle.if_convert.specs.declared.points.Point.{Point}
+use Rattle.if_convert.specs.Points.{resumed, unless_skipped, unchanged, behind_jump, jump_made, numbered_jumps}
+use Rattle.if_convert.specs.declared.points.MaskPoint.{MaskPoint}
 use Rattle.if_convert.specs.Converted.{converted}
 use Rattle.prepared_passes.proofs.ConvertedNests.Runs.{runs-one}
 use Rattle.prepared_passes.proofs.ConvertedNests.Ways.{is_going, is_away, IsFine, is_going_true, going_or_not, one}
@@ -26,7 +26,7 @@ going_not_false w e f = true_not_false (is_going w) (is_going_true w e) f
 module _ (bits line : ℕ) where
   -- ---- nothing is made, and nothing is done
 
-  pub stays : (own : Option ℕ) (p : Point) (s u : State) (m : Masks) → u ≡ s → Stands own p s.way m → Follows bits own (unchanged p) p.jump p.mask s.store u m
+  pub stays : (own : Option ℕ) (p : MaskPoint) (s u : State) (m : Masks) → u ≡ s → Stands own p s.way m → Follows bits own (unchanged p) p.jump p.mask s.store u m
   stays own p s u m e h =
       subst (λ (z : State). Follows bits own (unchanged p) p.jump p.mask s.store z m) (sym e)
       (record { masks = m; runs_to = refl; stands = h; framed = framed_none p.jump p.mask m })
@@ -39,7 +39,7 @@ module _ (bits line : ℕ) where
   kept_false : (g : Guarded) (b : Bool) (t : Store) (m : Masks) → b ≡ false → kept_if bits b g (at_moment t m) ≡ Ok (at_moment t m)
   kept_false g b t m f = rw f refl
 
-  kept_follows : (own : Option ℕ) (g : Guarded) (p : Point) (s : State) (m : Masks) → g.guard ≡ None → p.skips ≡ false → Stands own p s.way m → IsFine (one bits line (Run g) s).way
+  kept_follows : (own : Option ℕ) (g : Guarded) (p : MaskPoint) (s : State) (m : Masks) → g.guard ≡ None → p.skips ≡ false → Stands own p s.way m → IsFine (one bits line (Run g) s).way
       → Follows bits own (record { made = Kept p.guard g ∷ []; point = p }) p.jump p.mask s.store (one bits line (Run g) s) m
   kept_follows own g p s m n e st f = by (going_or_not s.way)
     where
@@ -61,7 +61,7 @@ module _ (bits line : ℕ) where
             framed = framed_none p.jump p.mask m;
           })
 
-  pub run_follows : (deep : Bool) (own : Option ℕ) (g : Guarded) (p : Point) (s : State) (m : Masks) → g.guard ≡ None → Stands own p s.way m → IsFine (one bits line (Run g) s).way
+  pub run_follows : (deep : Bool) (own : Option ℕ) (g : Guarded) (p : MaskPoint) (s : State) (m : Masks) → g.guard ≡ None → Stands own p s.way m → IsFine (one bits line (Run g) s).way
       → Follows bits own (converted line deep own (Run g) p) p.jump p.mask s.store (one bits line (Run g) s) m
   run_follows deep own g p s m n st f = by p.skips refl
     where
@@ -78,7 +78,7 @@ module _ (bits line : ℕ) where
   left_false j b t m f = rw f refl
 
   -- from the masks n, among which that of the jump is false
-  leaves_follow : (own : Option ℕ) (k : ℕ) (p : Point) (s : State) (m n : Masks) → p.skips ≡ false → Stands own p s.way m → Framed p.jump p.mask (suc p.jump) p.mask m n → n.jumps p.jump ≡ false
+  leaves_follow : (own : Option ℕ) (k : ℕ) (p : MaskPoint) (s : State) (m n : Masks) → p.skips ≡ false → Stands own p s.way m → Framed p.jump p.mask (suc p.jump) p.mask m n → n.jumps p.jump ≡ false
       → Follows bits own (record { made = Leaves p.guard p.jump ∷ []; point = behind_jump k p }) p.jump p.mask s.store (one bits line (Jump k) s) n
   leaves_follow own k p s m n e st fr z = by (going_or_not s.way)
     where
@@ -118,7 +118,7 @@ module _ (bits line : ℕ) where
             framed = framed_step p.jump p.mask n;
           })
 
-  left_follows : (deep : Bool) (own : Option ℕ) (k : ℕ) (p : Point) (s : State) (m : Masks) → p.skips ≡ false → Stands own p s.way m → AreClear deep p.jump (suc p.jump) m
+  left_follows : (deep : Bool) (own : Option ℕ) (k : ℕ) (p : MaskPoint) (s : State) (m : Masks) → p.skips ≡ false → Stands own p s.way m → AreClear deep p.jump (suc p.jump) m
       → Follows bits own (jump_made deep k p) p.jump p.mask s.store (one bits line (Jump k) s) m
   left_follows true own k p s m e st c = leaves_follow own k p s m m e st (framed_step p.jump p.mask m) (c refl p.jump (omega arith) (omega arith))
   left_follows false own k p s m e st c =
@@ -127,24 +127,24 @@ module _ (bits line : ℕ) where
       let f = leaves_follow own k p s m n e st fr (jump_new p.jump false m) in
       record { masks = f.masks; runs_to = f.runs_to; stands = f.stands; framed = framed_same p.jump p.mask (suc p.jump) p.mask m n f.masks fr f.framed }
 
-  clear_step : (deep : Bool) (p : Point) (m : Masks) → AreClear deep p.jump (suc (numbered deep 1 p).jump) m → AreClear deep (numbered deep 1 p).jump (suc (numbered deep 1 p).jump) m
+  clear_step : (deep : Bool) (p : MaskPoint) (m : Masks) → AreClear deep p.jump (suc (numbered_jumps deep 1 p).jump) m → AreClear deep (numbered_jumps deep 1 p).jump (suc (numbered_jumps deep 1 p).jump) m
   clear_step true p m c = c
   clear_step false p m c = λ e. cc
 
-  numbered_skips : (deep : Bool) (n : ℕ) (p : Point) → (numbered deep n p).skips ≡ p.skips
+  numbered_skips : (deep : Bool) (n : ℕ) (p : MaskPoint) → (numbered_jumps deep n p).skips ≡ p.skips
   numbered_skips true n p = refl
   numbered_skips false n p = refl
 
-  pub jump_follows : (deep : Bool) (own : Option ℕ) (k : ℕ) (p : Point) (s : State) (m : Masks) → IsOrdered deep p → Stands own p s.way m → AreClear deep p.jump (converted line deep own (Jump k) p).point.jump m
+  pub jump_follows : (deep : Bool) (own : Option ℕ) (k : ℕ) (p : MaskPoint) (s : State) (m : Masks) → IsOrdered deep p → Stands own p s.way m → AreClear deep p.jump (converted line deep own (Jump k) p).point.jump m
       → Follows bits own (converted line deep own (Jump k) p) p.jump p.mask s.store (one bits line (Jump k) s) m
   jump_follows deep own k p s m o st c = by p.skips refl c
     where
-      by : (b : Bool) → p.skips ≡ b → AreClear deep p.jump (unless_skipped b p (jump_made deep k (numbered deep 1 p))).point.jump m
-          → Follows bits own (unless_skipped b p (jump_made deep k (numbered deep 1 p))) p.jump p.mask s.store (one bits line (Jump k) s) m
+      by : (b : Bool) → p.skips ≡ b → AreClear deep p.jump (unless_skipped b p (jump_made deep k (numbered_jumps deep 1 p))).point.jump m
+          → Follows bits own (unless_skipped b p (jump_made deep k (numbered_jumps deep 1 p))) p.jump p.mask s.store (one bits line (Jump k) s) m
       by true e c = stays own p s (one bits line (Jump k) s) m (jump_idle bits line k s (λ w. going_not_false s.way w (st.skips e))) st
       by false e c =
-          follows_numbered bits deep 1 own p (jump_made deep k (numbered deep 1 p)) s.store (one bits line (Jump k) s) m o
-          (left_follows deep own k (numbered deep 1 p) s m (numbered_skips deep 1 p ∙ e) (numbered_stands deep 1 own p s.way m o st) (clear_step deep p m c))
+          follows_numbered bits deep 1 own p (jump_made deep k (numbered_jumps deep 1 p)) s.store (one bits line (Jump k) s) m o
+          (left_follows deep own k (numbered_jumps deep 1 p) s m (numbered_skips deep 1 p ∙ e) (numbered_stands deep 1 own p s.way m o st) (clear_step deep p m c))
 
   -- ---- where the block goes on
 

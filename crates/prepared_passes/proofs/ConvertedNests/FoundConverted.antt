@@ -6,10 +6,11 @@ use Rattle.prepared_passes.specs.conversion.Found.{FoundNestIsConverted}
 use Rattle.prepared_passes.proofs.ConvertedNests.Converted.{converted_branched_nest_is_prepared}
 use Rattle.prepared_passes.proofs.ConvertedNests.Declared.{branched_nest_is_branching}
 use Rattle.prepared_passes.proofs.ConvertedNests.Unguarded.{found_nest_is_unguarded}
+use Rattle.tree.specs.declared.width.Width.{Width}
 
-pub found_nest_is_converted : FoundNestIsConverted
-found_nest_is_converted p n m k ds es masks w found is c normal e few add none counters more marks counted number round statement =
-    let b = normal_nest_is_branched p n m ds w found is c normal add counters number round statement in
-    let d = normal_nest_is_branched p n m es w found is c normal more counted number round statement in
-    let un = found_nest_is_unguarded p n m is c normal in
+pub found_nest_is_converted : (width : Width) → FoundNestIsConverted width
+found_nest_is_converted width p n m k ds es masks w found is c normal e few add none counters more marks counted number round statement =
+    let b = normal_nest_is_branched width p n m ds w found is c normal add counters number round statement in
+    let d = normal_nest_is_branched width p n m es w found is c normal more counted number round statement in
+    let un = found_nest_is_unguarded width p n m is c normal in
     (branched_nest_is_branching ds w.variables normal_depth m b un none, converted_branched_nest_is_prepared ds es w.variables normal_depth masks m k b none un e few (omega arith) d marks)

@@ -20,6 +20,7 @@ use Rattle.find_nests.specs.LookedAt.{looked_at}
 use Rattle.if_convert.specs.Converted.{converted_nest}
 use Rattle.if_convert.specs.Masks.{mask_name}
 use Rattle.meaning.specs.Dialect.{fortran77}
+use Rattle.tree.specs.declared.width.Width.{Width}
 use Rattle.meaning.specs.Profile77.{IsDeclaration, IsProgram77}
 use Rattle.meaning.specs.Profile90.{AreDeclarations}
 use Rattle.meaning.specs.Typed.{declared}
@@ -38,20 +39,21 @@ use Rattle.pass_laws.specs.prepared_nests.Nests.{IsPrepared}
 use Rattle.tree.specs.Names.{IsSourceName}
 use Rattle.tree.specs.Plain.{Declaration, Program}
 use Rattle.tree.specs.declared.ops.Kind.TheVariants.{Logical}
+use Rattle.meaning.proofs.Widths.{widest}
 
-module _ (p : Program) (n m k : Nest) (masks : ℕ) (is : IsProgram77 fortran77 p) (among : Contains (found_in p) (InNest n))
+module _ (width : Width) (p : Program) (n m k : Nest) (masks : ℕ) (is : IsProgram77 (fortran77 width) p) (among : Contains (found_in p) (InNest n))
     (normal : normalised n ≡ Some m) (made : converted_nest masks m ≡ Some k) (few : k.masks ≤ 4294967296) where
   pub own_are : AreDeclarations p.declarations
-  own_are = (source_is_target fortran77 p (omega arith) is).declarations
+  own_are = (source_is_target (fortran77 width) p (widest width) is).declarations
 
   own : AddMadeNames p.declarations p.declarations
   own = record { kept = λ e c. c; made = λ e c. inl c; are = own_are }
 
   pub own_source : (e : Declaration) → Contains p.declarations e → IsSourceName e.name
-  own_source e c = source_name e.name (all_at (IsDeclaration fortran77) p.declarations e is.declarations.each c).name
+  own_source e c = source_name e.name (all_at (IsDeclaration (fortran77 width)) p.declarations e is.declarations.each c).name
 
   pub numbered : AllByRecursion (λ (l : Loop). IsNumbered l.variable) (nest_loops m)
-  numbered = variables_numbered p p.declarations n m is own among normal
+  numbered = variables_numbered width p p.declarations n m is own among normal
 
   -- ---- with the counters, and with the masks, too
 
@@ -133,15 +135,15 @@ module _ (p : Program) (n m k : Nest) (masks : ℕ) (is : IsProgram77 fortran77 
       let most = nest_number p 0 (looked_at p.declarations p.body) n (omega arith) among in
       let less : n.number < 4294967296 = omega (arith, most) in less
 
-  pub stands : Stands p is here.loop
-  stands = loop_stands p is here.loop here.stands
+  pub stands : Stands width p is here.loop
+  stands = loop_stands width p is here.loop here.stands
 
   pub prepared : IsPrepared with_both stands.round.variables normal_depth k
   prepared =
-      (found_nest_is_converted p n m k with_counters with_both masks stands.round here is among normal made few are_counters.more no_mask counted_first are_both.more (λ i a b. is_mask i b) counted_with_masks number stands.named stands.is).1
+      (found_nest_is_converted width p n m k with_counters with_both masks stands.round here is among normal made few are_counters.more no_mask counted_first are_both.more (λ i a b. is_mask i b) counted_with_masks number stands.named stands.is).1
 
   has : HasDeclarations k
   has = record { declarations = with_both; around = stands.round.variables; are = are_both.more.are; prepared = prepared }
 
-pub found_nest_has_declarations : FoundNestHasDeclarations
-found_nest_has_declarations p n m k masks is among normal made few = has p n m k masks is among normal made few
+pub found_nest_has_declarations : (width : Width) → FoundNestHasDeclarations width
+found_nest_has_declarations width p n m k masks is among normal made few = has width p n m k masks is among normal made few

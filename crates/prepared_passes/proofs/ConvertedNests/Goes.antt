@@ -28,7 +28,7 @@ use Rattle.if_convert.specs.Converted.{around_loop, converted, converted_parts}
 use Rattle.if_convert.specs.Masks.{all_parts_of}
 use Rattle.if_convert.specs.Points.{Converted, entered, unless_skipped}
 use Rattle.if_convert.specs.declared.points.Jumped.{Jumped}
-use Rattle.if_convert.specs.declared.points.Point.{Point}
+use Rattle.if_convert.specs.declared.points.MaskPoint.{MaskPoint}
 use Rattle.if_convert.proofs.BodyLaws.{parts-append}
 use Rattle.prepared_passes.proofs.ConvertedNests.Beside.{Gone, IsAt, masks_of, part_gone}
 use Rattle.prepared_passes.proofs.ConvertedNests.Going.{not_stopped, sound_on}
@@ -91,7 +91,7 @@ going_fine Stopped h = absurd h
 going_fine (Failed f l) h = absurd h
 going_fine Cut h = absurd h
 
-begun_stands : (p : Point) (w : Way) (t : Store) → w ≡ Going → p.pending ≡ [] → p.guard ≡ None → p.skips ≡ false → Stands None p w (masks_of t)
+begun_stands : (p : MaskPoint) (w : Way) (t : Store) → w ≡ Going → p.pending ≡ [] → p.guard ≡ None → p.skips ≡ false → Stands None p w (masks_of t)
 begun_stands p w t e f g h =
     subst (λ (w : Way). Stands None p w (masks_of t)) (sym e)
     (record {
@@ -132,7 +132,7 @@ on_sound Cut h = absurd h
 
 module _ (bits line k0 k1 : ℕ) (few : k1 ≤ 2 ^ 32) where
   abbrev pub BodyGoes : Parts → Type 0
-  BodyGoes ps = (later : List ℕ) → AllJumpAhead later ps → AreStraight ps → AreFree ps → (p : Point) (s t : State) → IsAt k0 k1 p s t.store → IsClean None p → t.way ≡ Going → Same s t
+  BodyGoes ps = (later : List ℕ) → AllJumpAhead later ps → AreStraight ps → AreFree ps → (p : MaskPoint) (s t : State) → IsAt k0 k1 p s t.store → IsClean None p → t.way ≡ Going → Same s t
       → Comes (labels_ahead ps later) s.way → Ahead (labels_ahead ps later) p.pending → IsOn (does_all (sequential bits) None (block_of_parts line ps) s).way → (converted_parts line false None ps p).point.mask ≤ k1
       → Gone bits line k0 k1 few (converted_parts line false None ps p).point (does_all (sequential bits) None (block_of_parts line ps) s) (does_all (sequential bits) None (block_of_parts line (parts (all_parts_of line (converted_parts line false None ps p).made))) t)
 
@@ -177,13 +177,13 @@ module _ (bits line k0 k1 : ℕ) (few : k1 ≤ 2 ^ 32) where
       (λ s u a z e. same_increment bits k0 k1 l.step s u a ∙ e)
       (body_leads ps k goes jumps straight free.3 start top)
 
-  abbrev inner : Parts → Point → Converted
+  abbrev inner : Parts → MaskPoint → Converted
   inner ps p = converted_parts line false None ps (entered None p.mask p.mask)
 
-  abbrev LoopGone : Loop → Parts → Point → State → State → Converted → Type 0
+  abbrev LoopGone : Loop → Parts → MaskPoint → State → State → Converted → Type 0
   LoopGone l ps p s t c = Gone bits line k0 k1 few c.point (does (sequential bits) None (statement_of_part line (Turns l ps)) s) (does_all (sequential bits) None (block_of_parts line (parts (all_parts_of line c.made))) t)
 
-  loop_gone : (l : Loop) (ps : Parts) (p : Point) (s t : State) → BodyGoes ps → AllJumpAhead [] ps → AreStraight ps → IsFree (Turns l ps) → IsAt k0 k1 p s t.store → t.way ≡ Going → Same s t → s.way ≡ Going
+  loop_gone : (l : Loop) (ps : Parts) (p : MaskPoint) (s t : State) → BodyGoes ps → AllJumpAhead [] ps → AreStraight ps → IsFree (Turns l ps) → IsAt k0 k1 p s t.store → t.way ≡ Going → Same s t → s.way ≡ Going
       → p.pending ≡ [] → p.guard ≡ None → p.skips ≡ false → IsOn (does (sequential bits) None (statement_of_part line (Turns l ps)) s).way → (converted line false None (Turns l ps) p).point.mask ≤ k1
       → LoopGone l ps p s t (converted line false None (Turns l ps) p)
   loop_gone l ps p s t goes jumps straight free at going same w none guard skips on top = by p.skips skips top
@@ -219,10 +219,10 @@ module _ (bits line k0 k1 : ℕ) (few : k1 ≤ 2 ^ 32) where
 
   -- ---- lists of parts
 
-  abbrev ending : Point → Parts → State → State
+  abbrev ending : MaskPoint → Parts → State → State
   ending p ps t = does_all (sequential bits) None (block_of_parts line (parts (all_parts_of line (converted_parts line false None ps p).made))) t
 
-  together : (q : Part) (ps : Parts) (p : Point) (t : State)
+  together : (q : Part) (ps : Parts) (p : MaskPoint) (t : State)
       → does_all (sequential bits) None (block_of_parts line (parts (all_parts_of line (converted_parts line false None (part q ps) p).made))) t
       ≡ does_all (sequential bits) None (block_of_parts line (parts (all_parts_of line (converted_parts line false None ps (converted line false None q p).point).made)))
       (does_all (sequential bits) None (block_of_parts line (parts (all_parts_of line (converted line false None q p).made))) t)
@@ -231,7 +231,7 @@ module _ (bits line k0 k1 : ℕ) (few : k1 ≤ 2 ^ 32) where
       let d = converted_parts line false None ps c.point in
       ap (λ xs. does_all (sequential bits) None (block_of_parts line (parts xs)) t) (parts-append line c.made d.made) ∙ does_joined bits line (all_parts_of line c.made) (all_parts_of line d.made) t
 
-  then_goes : (q : Part) (ps : Parts) → BodyGoes ps → (later : List ℕ) → AllJumpAhead later (part q ps) → AreStraight ps → AreFree ps → (p : Point) (s t : State) → IsClean None p → Same s t
+  then_goes : (q : Part) (ps : Parts) → BodyGoes ps → (later : List ℕ) → AllJumpAhead later (part q ps) → AreStraight ps → AreFree ps → (p : MaskPoint) (s t : State) → IsClean None p → Same s t
       → Comes (labels_ahead (part q ps) later) s.way → Ahead (labels_ahead (part q ps) later) p.pending → IsOn (does_all (sequential bits) None (block_of_parts line (part q ps)) s).way
       → (converted_parts line false None (part q ps) p).point.mask ≤ k1
       → Gone bits line k0 k1 few (converted line false None q p).point (does (sequential bits) None (statement_of_part line q) s) (does_all (sequential bits) None (block_of_parts line (parts (all_parts_of line (converted line false None q p).made))) t)

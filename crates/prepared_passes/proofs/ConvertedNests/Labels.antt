@@ -5,7 +5,7 @@ use Rattle.nest_order.specs.orders.Lists.{In}
 use Rattle.nest.specs.Plain.{Label}
 use Rattle.if_convert.specs.declared.points.Jumped.{Jumped}
 use Rattle.prepared_passes.proofs.ConvertedNests.Moments.{Masks}
-use Rattle.if_convert.specs.declared.points.Point.{Point}
+use Rattle.if_convert.specs.declared.points.MaskPoint.{MaskPoint}
 use Rattle.if_convert.specs.Points.{is_left}
 use Rattle.if_convert.specs.Converted.{converted}
 use Rattle.prepared_passes.proofs.ConvertedNests.Ways.{is_away, IsFine, one, label_stays, label_met, jumps_same}
@@ -37,7 +37,7 @@ unmet_jumps k ls j w m e h = record {
     some q g (l, i, f, on) = (l, filter_in (is_left k) ls l i (ap not (ap (λ n. n == k) f ∙ (ap (arrives k) (sym g) ∙ e))), f, on)
 
 module _ (bits line : ℕ) where
-  pub label_follows : (deep : Bool) (own : Option ℕ) (k : ℕ) (p : Point) (s : State) (m : Masks) → Stands own p s.way m → IsFine (one bits line (Label k) s).way
+  pub label_follows : (deep : Bool) (own : Option ℕ) (k : ℕ) (p : MaskPoint) (s : State) (m : Masks) → Stands own p s.way m → IsFine (one bits line (Label k) s).way
       → Follows bits own (converted line deep own (Label k) p) p.jump p.mask s.store (one bits line (Label k) s) m
   label_follows deep own k p s m st f = by (arrives k s.way) refl
     where

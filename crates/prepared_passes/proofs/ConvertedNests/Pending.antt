@@ -8,9 +8,9 @@ use Rattle.pass_laws.specs.branch_meaning.Jumps.{AllJumpAhead, BranchesJumpAhead
 use Rattle.if_convert.specs.Converted.{converted, converted_parts, converted_branches, choice_at, around_loop, rest_if, rest_under, has_rest, has_parts}
 use Rattle.if_convert.specs.Jumps.{jumps_in_parts, jumps_in_branches}
 use Rattle.if_convert.specs.Masks.{Kept}
-use Rattle.if_convert.specs.Points.{Converted, entered, numbered, resumed, rejoined, is_left, unless_skipped, jump_made}
+use Rattle.if_convert.specs.Points.{Converted, entered, numbered_jumps, resumed, rejoined, is_left, unless_skipped, jump_made}
 use Rattle.if_convert.specs.declared.points.Jumped.{Jumped}
-use Rattle.if_convert.specs.declared.points.Point.{Point}
+use Rattle.if_convert.specs.declared.points.MaskPoint.{MaskPoint}
 use Rattle.prepared_passes.proofs.ConvertedNests.Points.{in_filter, true_not_false}
 
 abbrev pub Ahead : List ℕ → List Jumped → Type 0
@@ -30,15 +30,15 @@ resumed_pending : (own : Option ℕ) (ls : List Jumped) (j k : ℕ) → (resumed
 resumed_pending own [] j k = refl
 resumed_pending own (l ∷ ls) j k = refl
 
-rejoined_ahead : (later : List ℕ) (own : Option ℕ) (p : Point) (ls : List Jumped) (j k : ℕ) → Ahead later p.pending → Ahead later ls → Ahead later (rejoined own p ls j k).point.pending
+rejoined_ahead : (later : List ℕ) (own : Option ℕ) (p : MaskPoint) (ls : List Jumped) (j k : ℕ) → Ahead later p.pending → Ahead later ls → Ahead later (rejoined own p ls j k).point.pending
 rejoined_ahead later own p [] j k h g = h
 rejoined_ahead later own p (l ∷ ls) j k h g = subst (Ahead later) (sym (resumed_pending own (p.pending ++ (l ∷ ls)) j k)) (both_ahead later p.pending (l ∷ ls) h g)
 
-numbered_ahead : (later : List ℕ) (deep : Bool) (n : ℕ) (p : Point) → Ahead later p.pending → Ahead later (numbered deep n p).pending
+numbered_ahead : (later : List ℕ) (deep : Bool) (n : ℕ) (p : MaskPoint) → Ahead later p.pending → Ahead later (numbered_jumps deep n p).pending
 numbered_ahead later true n p h = h
 numbered_ahead later false n p h = h
 
-by_skip : (later : List ℕ) (b : Bool) (p : Point) (c : Converted) → Ahead later p.pending → Ahead later c.point.pending → Ahead later (unless_skipped b p c).point.pending
+by_skip : (later : List ℕ) (b : Bool) (p : MaskPoint) (c : Converted) → Ahead later p.pending → Ahead later c.point.pending → Ahead later (unless_skipped b p c).point.pending
 by_skip later true p c h g = h
 by_skip later false p c h g = g
 
@@ -62,25 +62,25 @@ module _ (line : ℕ) where
   rest_ahead true later j m c h = h
 
   mutual
-    pub part_ahead : (deep : Bool) (own : Option ℕ) (q : Part) (later : List ℕ) (p : Point) → JumpsAhead later q → Ahead (labels_before q later) p.pending → Ahead later (converted line deep own q p).point.pending
+    pub part_ahead : (deep : Bool) (own : Option ℕ) (q : Part) (later : List ℕ) (p : MaskPoint) → JumpsAhead later q → Ahead (labels_before q later) p.pending → Ahead later (converted line deep own q p).point.pending
     part_ahead deep own (Run g) later p h a = by_skip later p.skips p (record { made = Kept p.guard g ∷ []; point = p }) a a
     part_ahead deep own (Turns l ps) later p h a =
         let none : Ahead later p.pending = (λ x i. absurd (nowhere x.label (a x i))) in
         by_skip later p.skips p (around_loop line l p (converted_parts line false None ps (entered None p.mask p.mask))) none none
     part_ahead deep own (Choice bs other) later p h a =
         let n = jumps_in_branches bs + jumps_in_parts false other in
-        let q = numbered deep n p in
+        let q = numbered_jumps deep n p in
         let c = arms bs other q.guard q.jump q.mask in
         by_skip later p.skips p (choice_at deep own n p (arms bs other)) a
         (rejoined_ahead later own q c.point.pending c.point.jump c.point.mask (numbered_ahead later deep n p a)
         (arms_ahead bs (has_parts other) (λ g j m. converted_parts line true g other (entered g j m)) later (λ g j m. parts_ahead true g other later (entered g j m) h.2 (none_ahead (labels_ahead other later))) q.guard q.jump q.mask h.1))
     part_ahead deep own (Label k) later p h a = subst (Ahead later) (sym (resumed_pending own (filter (is_left k) p.pending) p.jump p.mask)) (left_ahead later k p.pending a)
     part_ahead deep own (Jump k) later p h a =
-        let q = numbered deep 1 p in
+        let q = numbered_jumps deep 1 p in
         by_skip later p.skips p (jump_made deep k q) a
         (both_ahead later q.pending (record { mask = q.jump; label = k } ∷ []) (numbered_ahead later deep 1 p a) (one_ahead later q.jump k h))
 
-    pub parts_ahead : (deep : Bool) (own : Option ℕ) (ps : Parts) (later : List ℕ) (p : Point) → AllJumpAhead later ps → Ahead (labels_ahead ps later) p.pending → Ahead later (converted_parts line deep own ps p).point.pending
+    pub parts_ahead : (deep : Bool) (own : Option ℕ) (ps : Parts) (later : List ℕ) (p : MaskPoint) → AllJumpAhead later ps → Ahead (labels_ahead ps later) p.pending → Ahead later (converted_parts line deep own ps p).point.pending
     parts_ahead deep own no_parts later p h a = a
     parts_ahead deep own (part q ps) later p h a =
         parts_ahead deep own ps later (converted line deep own q p).point h.1 (part_ahead deep own q (labels_ahead ps later) p h.0 a)
@@ -97,7 +97,7 @@ module _ (line : ℕ) where
 
 -- ---- where none is under way statements stand under the block's own mask
 
-pub record IsClean (own : Option ℕ) (p : Point) : Type 0 where
+pub record IsClean (own : Option ℕ) (p : MaskPoint) : Type 0 where
   pub at : p.pending ≡ [] → (p.guard ≡ own) × (p.skips ≡ false)
 
 pub entered_clean : (g : Option ℕ) (j m : ℕ) → IsClean g (entered g j m)
@@ -111,28 +111,28 @@ resumed_clean : (own : Option ℕ) (ls : List Jumped) (j k : ℕ) → IsClean ow
 resumed_clean own [] j k = record { at = λ e. (refl, refl) }
 resumed_clean own (l ∷ ls) j k = record { at = λ e. absurd (not_empty [] ls l e) }
 
-clean_by : (own : Option ℕ) (b : Bool) (p : Point) (c : Converted) → IsClean own p → IsClean own c.point → IsClean own (unless_skipped b p c).point
+clean_by : (own : Option ℕ) (b : Bool) (p : MaskPoint) (c : Converted) → IsClean own p → IsClean own c.point → IsClean own (unless_skipped b p c).point
 clean_by own true p c h g = h
 clean_by own false p c h g = g
 
-numbered_clean : (own : Option ℕ) (deep : Bool) (n : ℕ) (p : Point) → IsClean own p → IsClean own (numbered deep n p)
+numbered_clean : (own : Option ℕ) (deep : Bool) (n : ℕ) (p : MaskPoint) → IsClean own p → IsClean own (numbered_jumps deep n p)
 numbered_clean own true n p h = h
 numbered_clean own false n p h = record { at = h.at }
 
-rejoined_clean : (own : Option ℕ) (p : Point) (ls : List Jumped) (j k : ℕ) → IsClean own p → IsClean own (rejoined own p ls j k).point
+rejoined_clean : (own : Option ℕ) (p : MaskPoint) (ls : List Jumped) (j k : ℕ) → IsClean own p → IsClean own (rejoined own p ls j k).point
 rejoined_clean own p [] j k h = record { at = λ e. ((h.at e).0, refl) }
 rejoined_clean own p (l ∷ ls) j k h = resumed_clean own (p.pending ++ (l ∷ ls)) j k
 
-pub part_clean : (line : ℕ) (deep : Bool) (own : Option ℕ) (q : Part) (p : Point) → IsClean own p → IsClean own (converted line deep own q p).point
+pub part_clean : (line : ℕ) (deep : Bool) (own : Option ℕ) (q : Part) (p : MaskPoint) → IsClean own p → IsClean own (converted line deep own q p).point
 part_clean line deep own (Run g) p h = clean_by own p.skips p (record { made = Kept p.guard g ∷ []; point = p }) h h
 part_clean line deep own (Turns l ps) p h =
     clean_by own p.skips p (around_loop line l p (converted_parts line false None ps (entered None p.mask p.mask))) h (record { at = h.at })
 part_clean line deep own (Choice bs other) p h =
     let n = jumps_in_branches bs + jumps_in_parts false other in
-    let q = numbered deep n p in
+    let q = numbered_jumps deep n p in
     let c = arms line bs other q.guard q.jump q.mask in
     clean_by own p.skips p (choice_at deep own n p (arms line bs other)) h (rejoined_clean own q c.point.pending c.point.jump c.point.mask (numbered_clean own deep n p h))
 part_clean line deep own (Label k) p h = resumed_clean own (filter (is_left k) p.pending) p.jump p.mask
 part_clean line deep own (Jump k) p h =
-    let q = numbered deep 1 p in
+    let q = numbered_jumps deep 1 p in
     clean_by own p.skips p (jump_made deep k q) h (record { at = λ e. absurd (not_empty q.pending [] (record { mask = q.jump; label = k }) e) })

@@ -7,8 +7,8 @@ use Rattle.nest_order.specs.orders.Lists.{In}
 use Rattle.nest_order.specs.orders.Orders.{runs}
 use Rattle.if_convert.specs.declared.points.Jumped.{Jumped}
 use Rattle.prepared_passes.proofs.ConvertedNests.Moments.{Masks, holds, none_has_left, step, with_guard, with_jump}
-use Rattle.if_convert.specs.Points.{Converted, cleared, numbered}
-use Rattle.if_convert.specs.declared.points.Point.{Point}
+use Rattle.if_convert.specs.Points.{Converted, cleared, numbered_jumps}
+use Rattle.if_convert.specs.declared.points.MaskPoint.{MaskPoint}
 use Rattle.nest_order.proofs.orders.Lists.{In-append, In-left, In-right}
 use Rattle.prepared_passes.proofs.ConvertedNests.Ways.{is_going, is_away, IsFine, jumps_same}
 
@@ -92,7 +92,7 @@ pub record JumpsAre (ls : List Jumped) (j : ℕ) (w : Way) (m : Masks) : Type 0 
   pub some : (k : ℕ) → w ≡ Jumping k → (l : Jumped) × In l ls × (l.label ≡ k) × (m.jumps l.mask ≡ true)
   pub below : (l : Jumped) → In l ls → l.mask < j
 
-pub record Stands (own : Option ℕ) (p : Point) (w : Way) (m : Masks) : Type 0 where
+pub record Stands (own : Option ℕ) (p : MaskPoint) (w : Way) (m : Masks) : Type 0 where
   pub block : holds own m ≡ not (is_away w)
   pub guard : p.skips ≡ false → holds p.guard m ≡ is_going w
   pub skips : p.skips ≡ true → is_going w ≡ false
@@ -337,15 +337,15 @@ filter_in {X} f (y ∷ xs) x (inr i) g = by (f y) (filter_in f xs x i g)
 -- ---- numbers for jumps that aren't in an IF
 
 -- there jumps have lesser numbers than the next mask
-abbrev pub IsOrdered : Bool → Point → Type 0
+abbrev pub IsOrdered : Bool → MaskPoint → Type 0
 IsOrdered true p = Unit {0}
 IsOrdered false p = p.jump ≤ p.mask
 
-pub numbered_framed : (deep : Bool) (n : ℕ) (p : Point) (m : Masks) → IsOrdered deep p → Framed p.jump p.mask (numbered deep n p).jump (numbered deep n p).mask m m
+pub numbered_framed : (deep : Bool) (n : ℕ) (p : MaskPoint) (m : Masks) → IsOrdered deep p → Framed p.jump p.mask (numbered_jumps deep n p).jump (numbered_jumps deep n p).mask m m
 numbered_framed true n p m h = framed_none p.jump p.mask m
 numbered_framed false n p m h = record { jumps_rise = h; guards_rise = omega arith; guards = λ i g. refl; below = λ i g. refl; above = λ i g. refl }
 
-pub numbered_stands : (deep : Bool) (n : ℕ) (own : Option ℕ) (p : Point) (w : Way) (m : Masks) → IsOrdered deep p → Stands own p w m → Stands own (numbered deep n p) w m
+pub numbered_stands : (deep : Bool) (n : ℕ) (own : Option ℕ) (p : MaskPoint) (w : Way) (m : Masks) → IsOrdered deep p → Stands own p w m → Stands own (numbered_jumps deep n p) w m
 numbered_stands true n own p w m o h = h
 numbered_stands false n own p w m o h = record {
   block = h.block;
@@ -357,11 +357,11 @@ numbered_stands false n own p w m o h = record {
 }
 
 -- what follows from there follows from before
-pub follows_numbered : (bits : ℕ) (deep : Bool) (n : ℕ) (own : Option ℕ) (p : Point) (c : Converted) (t : Store) (u : State) (m : Masks) → IsOrdered deep p
-    → Follows bits own c (numbered deep n p).jump (numbered deep n p).mask t u m → Follows bits own c p.jump p.mask t u m
+pub follows_numbered : (bits : ℕ) (deep : Bool) (n : ℕ) (own : Option ℕ) (p : MaskPoint) (c : Converted) (t : Store) (u : State) (m : Masks) → IsOrdered deep p
+    → Follows bits own c (numbered_jumps deep n p).jump (numbered_jumps deep n p).mask t u m → Follows bits own c p.jump p.mask t u m
 follows_numbered bits deep n own p c t u m o f = record {
   masks = f.masks;
   runs_to = f.runs_to;
   stands = f.stands;
-  framed = framed_both p.jump p.mask (numbered deep n p).jump (numbered deep n p).mask c.point.jump c.point.mask m m f.masks (numbered_framed deep n p m o) f.framed;
+  framed = framed_both p.jump p.mask (numbered_jumps deep n p).jump (numbered_jumps deep n p).mask c.point.jump c.point.mask m m f.masks (numbered_framed deep n p m o) f.framed;
 }

@@ -30,7 +30,7 @@ use Rattle.nest_order.proofs.runs.Going.{Went, guarded_went}
 use Rattle.nest_order.proofs.runs.Results.{ok_same, both_ok, each_of}
 use Rattle.nest_order.proofs.runs.Variables.{place_of, put_there, cell_name}
 use Rattle.nest_steps.proofs.Mapped.{does_joined}
-use Rattle.if_convert.specs.Masks.{Question, Test, Other, Unleft, Masking, Kept, Asks, Clears, Leaves, Turned, all_parts_of, asked, first_half, mask, mask_name, none_left, none_of, parts_of, scalar, under}
+use Rattle.if_convert.specs.Masks.{Question, Test, Other, Unleft, Masking, Kept, Asks, Clears, Leaves, Turned, all_parts_of, asked, first_half, mask, mask_name, none_left, none_of, masked_parts_of, mask_scalar, under_mask}
 use Rattle.if_convert.specs.declared.points.Jumped.{Jumped}
 use Rattle.if_convert.proofs.Halves.{front_fits, rest_fits}
 use Rattle.prepared_passes.proofs.ConvertedNests.Masked.{AsksOthers, HasMasks, IsGuard, IsJump, IsNewGuard, IsNewJump, IsNotAsked, IsOther, IsSuited, IsUsed, NamesOthers, flag, mask_same}
@@ -41,7 +41,7 @@ other_number : (n m : ℕ) → ¬ (n ≡ m) → (n == m) ≡ false
 other_number n m h = grind arith
 
 -- a statement of a nest is one of a list of instances
-abbrev plain : Guarded → order_guarded.Guarded
+abbrev plain : Guarded → order_guarded.GuardedAssignment
 plain g = record { guard = g.guard; left = g.left; right = g.right }
 
 module _ (bits line k0 k1 low mid : ℕ) (few : k1 ≤ 2 ^ 32) (order : low ≤ mid) where
@@ -122,14 +122,14 @@ module _ (bits line k0 k1 low mid : ℕ) (few : k1 ≤ 2 ^ 32) (order : low ≤ 
   -- ---- statements that assign masks
 
   set_effect : (g : Option Expression) (i : ℕ) (e : Expression) (t : Store) (b : Bool) → guard_holds (sequential bits) g t ≡ Ok true → t.bounds (mask_name i) ≡ Some [] → value_of (sequential bits) e t ≡ Ok (Truth b)
-      → effect (sequential bits) (record { guard = g; left = scalar (mask_name i); right = e }) t ≡ Ok (Some (flag i, Truth b))
+      → effect (sequential bits) (record { guard = g; left = mask_scalar (mask_name i); right = e }) t ≡ Ok (Some (flag i, Truth b))
   set_effect g i e t b f n v =
-      ap (λ (r : Result Bool Fault). do c ← r; assigned_if (sequential bits) c (scalar (mask_name i)) e t) f
+      ap (λ (r : Result Bool Fault). do c ← r; assigned_if (sequential bits) c (mask_scalar (mask_name i)) e t) f
       ∙ ap₂ (λ (r : Result Value Fault) (q : Result Cell Fault). do v ← r; c ← q; cond (is_in_range bits v) (Ok (Some (c, v))) (Err Overflow)) v (place_of (mask_name i) t n)
 
   unset_effect : (g : Option Expression) (i : ℕ) (e : Expression) (t : Store) → guard_holds (sequential bits) g t ≡ Ok false
-      → effect (sequential bits) (record { guard = g; left = scalar (mask_name i); right = e }) t ≡ Ok None
-  unset_effect g i e t f = ap (λ (r : Result Bool Fault). do c ← r; assigned_if (sequential bits) c (scalar (mask_name i)) e t) f
+      → effect (sequential bits) (record { guard = g; left = mask_scalar (mask_name i); right = e }) t ≡ Ok None
+  unset_effect g i e t f = ap (λ (r : Result Bool Fault). do c ← r; assigned_if (sequential bits) c (mask_scalar (mask_name i)) e t) f
 
   -- what a list of statements leaves
   pub record Leaving (b : Store) (n : Masks) (t : State) : Type 0 where
@@ -240,8 +240,8 @@ module _ (bits line k0 k1 low mid : ℕ) (few : k1 ≤ 2 ^ 32) (order : low ≤ 
 
   -- ---- each of them
 
-  under_is : (g : Option ℕ) (c : Guarded) → c.guard ≡ None → plain (under g c) ≡ record { guard = guard_text g; left = c.left; right = c.right }
-  under_is None c e = ap (λ (o : Option Expression). let r : order_guarded.Guarded = record { guard = o; left = c.left; right = c.right } in r) e
+  under_is : (g : Option ℕ) (c : Guarded) → c.guard ≡ None → plain (under_mask g c) ≡ record { guard = guard_text g; left = c.left; right = c.right }
+  under_is None c e = ap (λ (o : Option Expression). let r : order_guarded.GuardedAssignment = record { guard = o; left = c.left; right = c.right } in r) e
   under_is (Some i) c e = refl
 
   in_range : (q : Bool) (u z : Store) → ◌≡◌ {A = Result Store Fault} (cond q (Ok u) (Err Overflow)) (Ok z) → (q ≡ true) × (u ≡ z)
@@ -249,23 +249,23 @@ module _ (bits line k0 k1 low mid : ℕ) (few : k1 ≤ 2 ^ 32) (order : low ≤ 
   in_range false u z e = cc
 
   kept_leads : (c : Guarded) (g : Option ℕ) (a b : Moment) (t : State) → IsSuited k0 k1 low mid (Kept g c) → kept_if bits (holds g a.masks) c a ≡ Ok b → t.way ≡ Going → Has a.store t.store a.masks
-      → Leaving b.store b.masks (does (sequential bits) None (guarded_statement (under g c)) t)
+      → Leaving b.store b.masks (does (sequential bits) None (guarded_statement (under_mask g c)) t)
   kept_leads c g a b t suited e w h = by (holds g a.masks) (under_holds g a.store t.store a.masks suited.0 h) e
     where
       ys : List (List ℕ)
       ys = names_in c.right ++ (c.left.name ∷ names_in_subscripts c.left.subscripts)
 
-      alone : order_guarded.Guarded
+      alone : order_guarded.GuardedAssignment
       alone = record { guard = None; left = c.left; right = c.right }
 
-      l : order_guarded.Guarded
+      l : order_guarded.GuardedAssignment
       l = record { guard = guard_text g; left = c.left; right = c.right }
 
       u : State
-      u = does (sequential bits) None (guarded_statement (under g c)) t
+      u = does (sequential bits) None (guarded_statement (under_mask g c)) t
 
       at_once : (o : Option (Cell × Value)) → effect (sequential bits) l t.store ≡ Ok o → Went t u o
-      at_once o f = went (under g c) t o w (ap (λ (x : order_guarded.Guarded). effect (sequential bits) x t.store) (under_is g c suited.1) ∙ f)
+      at_once o f = went (under_mask g c) t o w (ap (λ (x : order_guarded.GuardedAssignment). effect (sequential bits) x t.store) (under_is g c suited.1) ∙ f)
 
       by : (q : Bool) → guard_holds (sequential bits) (guard_text g) t.store ≡ Ok q → kept_if bits q c a ≡ Ok b → Leaving b.store b.masks u
       by false f e =
@@ -309,7 +309,7 @@ module _ (bits line k0 k1 low mid : ℕ) (few : k1 ≤ 2 ^ 32) (order : low ≤ 
       by k false = refl
 
   abbrev setting : Option ℕ → ℕ → Expression → Guarded
-  setting g i e = record { line = line; guard = guard_text g; left = scalar (mask_name i); right = e }
+  setting g i e = record { line = line; guard = guard_text g; left = mask_scalar (mask_name i); right = e }
 
   -- the second statement, where the mask was set false
   second_leads : (k i : ℕ) (q : Question) (a b : Moment) (u : State) → IsNewGuard k0 k1 low mid i → AsksOthers k0 k1 low mid q → IsNotAsked k0 k1 low mid i q → u.way ≡ Going → Has a.store u.store (with_guard i false a.masks)
@@ -329,12 +329,12 @@ module _ (bits line k0 k1 low mid : ℕ) (few : k1 ≤ 2 ^ 32) (order : low ≤ 
       (set_twice a.store (put (flag i) (Truth p.0) u.store) a.masks i p.0 false (guard_put a.store u.store (with_guard i false a.masks) i p.0 g h)))
 
   asks_lead : (g : Option ℕ) (i : ℕ) (q : Question) (a b : Moment) (t : State) → IsSuited k0 k1 low mid (Asks g i q) → asked_if bits (holds g a.masks) i q a ≡ Ok b → t.way ≡ Going → Has a.store t.store a.masks
-      → Leaving b.store b.masks (does_list (parts_of line (Asks g i q)) t)
+      → Leaving b.store b.masks (does_list (masked_parts_of line (Asks g i q)) t)
   asks_lead None i q a b t suited e w h =
       let p = both_ok (answer_to bits q a) (λ c. Ok (record { store = a.store; masks = with_guard i c a.masks })) b e in
       let same : record { store = a.store; masks = with_guard i p.0 a.masks } ≡ b = ok_same {F = Fault} (record { store = a.store; masks = with_guard i p.0 a.masks }) b p.2 in
-      subst (λ (z : Moment). Leaving z.store z.masks (does_list (parts_of line (Asks None i q)) t)) same
-      (leads_from a.store (with_guard i p.0 a.masks) t (does_list (parts_of line (Asks None i q)) t) (Some (flag i, Truth p.0))
+      subst (λ (z : Moment). Leaving z.store z.masks (does_list (masked_parts_of line (Asks None i q)) t)) same
+      (leads_from a.store (with_guard i p.0 a.masks) t (does_list (masked_parts_of line (Asks None i q)) t) (Some (flag i, Truth p.0))
       (went (setting None i (asked q)) t (Some (flag i, Truth p.0)) w (set_effect None i (asked q) t.store p.0 refl (h.scalars i suited.1.0) (asked_value q a.store t.store a.masks p.0 suited.2 h p.1)))
       (guard_put a.store t.store a.masks i p.0 suited.1 h))
   asks_lead (Some k) i q a b t suited e w h =
@@ -344,18 +344,18 @@ module _ (bits line k0 k1 low mid : ℕ) (few : k1 ≤ 2 ^ 32) (order : low ≤ 
       let kept : m.guards k ≡ a.masks.guards k = ap (λ q. cond q false (a.masks.guards k)) (other_number i k suited.3) in
       second_leads k i q a b u suited.1 suited.2 suited.4 l.way l.has (a.masks.guards k) (under_holds (Some k) a.store u.store m suited.0 l.has ∙ ap Ok kept) e
 
-  clears_lead : (j : ℕ) (a : Moment) (t : State) → IsNewJump k0 k1 low mid j → t.way ≡ Going → Has a.store t.store a.masks → Leaving a.store (with_jump j false a.masks) (does_list (parts_of line (Clears j)) t)
+  clears_lead : (j : ℕ) (a : Moment) (t : State) → IsNewJump k0 k1 low mid j → t.way ≡ Going → Has a.store t.store a.masks → Leaving a.store (with_jump j false a.masks) (does_list (masked_parts_of line (Clears j)) t)
   clears_lead j a t u w h =
-      leads_from a.store (with_jump j false a.masks) t (does_list (parts_of line (Clears j)) t) (Some (flag j, Truth false))
+      leads_from a.store (with_jump j false a.masks) t (does_list (masked_parts_of line (Clears j)) t) (Some (flag j, Truth false))
       (went (setting None j (Logic false)) t (Some (flag j, Truth false)) w (set_effect None j (Logic false) t.store false refl (h.scalars j u.0) refl))
       (jump_put a.store t.store a.masks j false u h)
 
-  text_is : (g : Option ℕ) (j : ℕ) (e : Expression) (t : State) → does_list (parts_of line (Leaves g j)) t ≡ does (sequential bits) None (guarded_statement (setting g j (Logic true))) t
+  text_is : (g : Option ℕ) (j : ℕ) (e : Expression) (t : State) → does_list (masked_parts_of line (Leaves g j)) t ≡ does (sequential bits) None (guarded_statement (setting g j (Logic true))) t
   text_is None j e t = refl
   text_is (Some k) j e t = refl
 
   leaves_lead : (g : Option ℕ) (j : ℕ) (a b : Moment) (t : State) → IsSuited k0 k1 low mid (Leaves g j) → left_if bits (holds g a.masks) j a ≡ Ok b → t.way ≡ Going → Has a.store t.store a.masks
-      → Leaving b.store b.masks (does_list (parts_of line (Leaves g j)) t)
+      → Leaving b.store b.masks (does_list (masked_parts_of line (Leaves g j)) t)
   leaves_lead g j a b t suited e w h = subst (λ (z : State). Leaving b.store b.masks z) (sym (text_is g j (Logic true) t)) (by (holds g a.masks) (under_holds g a.store t.store a.masks suited.0 h) e)
     where
       u : State
@@ -370,11 +370,11 @@ module _ (bits line k0 k1 low mid : ℕ) (few : k1 ≤ 2 ^ 32) (order : low ≤ 
           (leads_from a.store (with_jump j true a.masks) t u (Some (flag j, Truth true))
           (went (setting g j (Logic true)) t (Some (flag j, Truth true)) w (set_effect (guard_text g) j (Logic true) t.store true f (h.scalars j suited.1.0) refl)) (jump_put a.store t.store a.masks j true suited.1 h))
 
-  made_leads : (m : Masking) (a b : Moment) (t : State) → IsSuited k0 k1 low mid m → step bits m a ≡ Ok b → t.way ≡ Going → Has a.store t.store a.masks → Leaving b.store b.masks (does_list (parts_of line m) t)
+  made_leads : (m : Masking) (a b : Moment) (t : State) → IsSuited k0 k1 low mid m → step bits m a ≡ Ok b → t.way ≡ Going → Has a.store t.store a.masks → Leaving b.store b.masks (does_list (masked_parts_of line m) t)
   made_leads (Kept g c) a b t suited e w h = kept_leads c g a b t suited e w h
   made_leads (Asks g i q) a b t suited e w h = asks_lead g i q a b t suited e w h
   made_leads (Clears j) a b t suited e w h =
-      subst (λ (z : Moment). Leaving z.store z.masks (does_list (parts_of line (Clears j)) t)) (ok_same {F = Fault} (record { store = a.store; masks = with_jump j false a.masks }) b e) (clears_lead j a t suited w h)
+      subst (λ (z : Moment). Leaving z.store z.masks (does_list (masked_parts_of line (Clears j)) t)) (ok_same {F = Fault} (record { store = a.store; masks = with_jump j false a.masks }) b e) (clears_lead j a t suited w h)
   made_leads (Leaves g j) a b t suited e w h = leaves_lead g j a b t suited e w h
   made_leads (Turned l ps) a b t suited e w h = absurd suited
 
@@ -382,11 +382,11 @@ module _ (bits line k0 k1 low mid : ℕ) (few : k1 ≤ 2 ^ 32) (order : low ≤ 
       → Leaving b.store b.masks (does_all (sequential bits) None (block_of_parts line (parts (all_parts_of line ms))) t)
   all_lead [] a b t suited e w h = subst (λ (z : Moment). Leaving z.store z.masks t) (ok_same {F = Fault} a b e) (record { way = w; has = h })
   all_lead (m ∷ ms) a b t suited e w h =
-      subst (λ (z : State). Leaving b.store b.masks z) (sym (does_joined bits line (parts_of line m) (all_parts_of line ms) t))
+      subst (λ (z : State). Leaving b.store b.masks z) (sym (does_joined bits line (masked_parts_of line m) (all_parts_of line ms) t))
       (by (step bits m a) refl e (λ c f. made_leads m a c t (suited m (inl refl)) f w h) (λ c u f v k. all_lead ms c b u (λ o i. suited o (inr i)) f v k))
     where
-      by : (r : Result Moment Fault) → step bits m a ≡ r → and_then r (runs (step bits) ms) ≡ Ok b → ((c : Moment) → step bits m a ≡ Ok c → Leaving c.store c.masks (does_list (parts_of line m) t))
+      by : (r : Result Moment Fault) → step bits m a ≡ r → and_then r (runs (step bits) ms) ≡ Ok b → ((c : Moment) → step bits m a ≡ Ok c → Leaving c.store c.masks (does_list (masked_parts_of line m) t))
           → ((c : Moment) (u : State) → runs (step bits) ms c ≡ Ok b → u.way ≡ Going → Has c.store u.store c.masks → Leaving b.store b.masks (does_all (sequential bits) None (block_of_parts line (parts (all_parts_of line ms))) u))
-          → Leaving b.store b.masks (does_all (sequential bits) None (block_of_parts line (parts (all_parts_of line ms))) (does_list (parts_of line m) t))
-      by (Ok c) f e one more = let l = one c f in more c (does_list (parts_of line m) t) e l.way l.has
+          → Leaving b.store b.masks (does_all (sequential bits) None (block_of_parts line (parts (all_parts_of line ms))) (does_list (masked_parts_of line m) t))
+      by (Ok c) f e one more = let l = one c f in more c (does_list (masked_parts_of line m) t) e l.way l.has
       by (Err g) f e one more = cc

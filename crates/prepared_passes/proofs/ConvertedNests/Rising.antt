@@ -4,15 +4,15 @@ use Rattle.nest.specs.Plain.{Part, Run, Turns, Choice, Label, Jump, Parts, no_pa
 use Rattle.if_convert.specs.Converted.{converted, converted_parts, converted_branches, choice_at, around_loop, rest_if, rest_under, has_rest, has_parts}
 use Rattle.if_convert.specs.Jumps.{jumps_in, jumps_in_parts, jumps_in_branches, skips_behind, unless}
 use Rattle.if_convert.specs.Masks.{Kept}
-use Rattle.if_convert.specs.Points.{Converted, entered, resumed, rejoined, unless_skipped, jump_made, numbered}
+use Rattle.if_convert.specs.Points.{Converted, entered, resumed, rejoined, unless_skipped, jump_made, numbered_jumps}
 use Rattle.if_convert.specs.declared.points.Jumped.{Jumped}
-use Rattle.if_convert.specs.declared.points.Point.{Point}
+use Rattle.if_convert.specs.declared.points.MaskPoint.{MaskPoint}
 
 pub resumed_jump : (own : Option ℕ) (ls : List Jumped) (j k : ℕ) → (resumed own ls j k).point.jump ≡ j
 resumed_jump own [] j k = refl
 resumed_jump own (l ∷ ls) j k = refl
 
-pub rejoined_jump : (own : Option ℕ) (p : Point) (ls : List Jumped) (j k : ℕ) → (rejoined own p ls j k).point.jump ≡ j
+pub rejoined_jump : (own : Option ℕ) (p : MaskPoint) (ls : List Jumped) (j k : ℕ) → (rejoined own p ls j k).point.jump ≡ j
 rejoined_jump own p [] j k = refl
 rejoined_jump own p (l ∷ ls) j k = resumed_jump own (p.pending ++ (l ∷ ls)) j k
 
@@ -20,18 +20,18 @@ resumed_skips : (own : Option ℕ) (ls : List Jumped) (j k : ℕ) → (resumed o
 resumed_skips own [] j k = refl
 resumed_skips own (l ∷ ls) j k = refl
 
-rejoined_skips : (own : Option ℕ) (p : Point) (ls : List Jumped) (j k : ℕ) → (rejoined own p ls j k).point.skips ≡ false
+rejoined_skips : (own : Option ℕ) (p : MaskPoint) (ls : List Jumped) (j k : ℕ) → (rejoined own p ls j k).point.skips ≡ false
 rejoined_skips own p [] j k = refl
 rejoined_skips own p (l ∷ ls) j k = resumed_skips own (p.pending ++ (l ∷ ls)) j k
 
 module _ (line : ℕ) where
   -- ---- what is left out
 
-  still : (b : Bool) (p : Point) (c : Converted) → p.skips ≡ b → c.point.skips ≡ p.skips → (unless_skipped b p c).point.skips ≡ p.skips
+  still : (b : Bool) (p : MaskPoint) (c : Converted) → p.skips ≡ b → c.point.skips ≡ p.skips → (unless_skipped b p c).point.skips ≡ p.skips
   still true p c e h = refl
   still false p c e h = h
 
-  pub skips_are : (deep : Bool) (own : Option ℕ) (q : Part) (p : Point) → (converted line deep own q p).point.skips ≡ skips_behind p.skips q
+  pub skips_are : (deep : Bool) (own : Option ℕ) (q : Part) (p : MaskPoint) → (converted line deep own q p).point.skips ≡ skips_behind p.skips q
   skips_are deep own (Run g) p = still p.skips p (record { made = Kept p.guard g ∷ []; point = p }) refl refl
   skips_are deep own (Turns l ps) p = still p.skips p (around_loop line l p (converted_parts line false None ps (entered None p.mask p.mask))) refl refl
   skips_are deep own (Choice bs other) p = by p.skips refl
@@ -45,19 +45,19 @@ module _ (line : ℕ) where
       by : (b : Bool) → p.skips ≡ b → (unless_skipped b p (choice_at deep own n p arms)).point.skips ≡ p.skips
       by true e = refl
       by false e =
-          let q = numbered deep n p in
+          let q = numbered_jumps deep n p in
           let c = arms q.guard q.jump q.mask in
           rejoined_skips own q c.point.pending c.point.jump c.point.mask ∙ sym e
   skips_are deep own (Label k) p = resumed_skips own _ p.jump p.mask
   skips_are deep own (Jump k) p = by p.skips refl
     where
-      by : (b : Bool) → p.skips ≡ b → (unless_skipped b p (jump_made deep k (numbered deep 1 p))).point.skips ≡ true
+      by : (b : Bool) → p.skips ≡ b → (unless_skipped b p (jump_made deep k (numbered_jumps deep 1 p))).point.skips ≡ true
       by true e = e
       by false e = refl
 
   -- ---- the numbers of jumps in an IF
 
-  more_by : (b : Bool) (p : Point) (c : Converted) (n : ℕ) → c.point.jump ≡ p.jump + n → (unless_skipped b p c).point.jump ≡ p.jump + unless b n
+  more_by : (b : Bool) (p : MaskPoint) (c : Converted) (n : ℕ) → c.point.jump ≡ p.jump + n → (unless_skipped b p c).point.jump ≡ p.jump + unless b n
   more_by true p c n h = omega arith
   more_by false p c n h = h
 
@@ -75,7 +75,7 @@ module _ (line : ℕ) where
   rest_counts true n j m c z h = h
 
   mutual
-    pub counts : (own : Option ℕ) (q : Part) (p : Point) → (converted line true own q p).point.jump ≡ p.jump + jumps_in p.skips q
+    pub counts : (own : Option ℕ) (q : Part) (p : MaskPoint) → (converted line true own q p).point.jump ≡ p.jump + jumps_in p.skips q
     counts own (Run g) p = same p.skips
       where
         same : (b : Bool) → (unless_skipped b p (record { made = Kept p.guard g ∷ []; point = p })).point.jump ≡ p.jump + 0
@@ -95,7 +95,7 @@ module _ (line : ℕ) where
     counts own (Label k) p = let e = resumed_jump own _ p.jump p.mask in e ∙ omega arith
     counts own (Jump k) p = more_by p.skips p (jump_made true k p) 1 (omega arith)
 
-    pub counts_parts : (own : Option ℕ) (ps : Parts) (p : Point) → (converted_parts line true own ps p).point.jump ≡ p.jump + jumps_in_parts p.skips ps
+    pub counts_parts : (own : Option ℕ) (ps : Parts) (p : MaskPoint) → (converted_parts line true own ps p).point.jump ≡ p.jump + jumps_in_parts p.skips ps
     counts_parts own no_parts p = omega arith
     counts_parts own (part q ps) p =
         let a = counts own q p in
@@ -121,10 +121,10 @@ module _ (line : ℕ) where
 
   -- ---- they rise
 
-  pub rises : (own : Option ℕ) (q : Part) (p : Point) → p.jump ≤ (converted line true own q p).point.jump
+  pub rises : (own : Option ℕ) (q : Part) (p : MaskPoint) → p.jump ≤ (converted line true own q p).point.jump
   rises own q p = let e = counts own q p in omega (arith, e)
 
-  pub rises_parts : (own : Option ℕ) (ps : Parts) (p : Point) → p.jump ≤ (converted_parts line true own ps p).point.jump
+  pub rises_parts : (own : Option ℕ) (ps : Parts) (p : MaskPoint) → p.jump ≤ (converted_parts line true own ps p).point.jump
   rises_parts own ps p = let e = counts_parts own ps p in omega (arith, e)
 
   pub rises_rest : (b : Bool) (j m i : ℕ) (c : Converted) → j ≤ c.point.jump → j ≤ (rest_if b j m c).point.jump
@@ -147,15 +147,15 @@ module _ (line : ℕ) where
   resumed_mask own [] j k = omega arith
   resumed_mask own (l ∷ ls) j k = omega arith
 
-  pub rejoined_mask : (own : Option ℕ) (p : Point) (ls : List Jumped) (j k : ℕ) → k ≤ (rejoined own p ls j k).point.mask
+  pub rejoined_mask : (own : Option ℕ) (p : MaskPoint) (ls : List Jumped) (j k : ℕ) → k ≤ (rejoined own p ls j k).point.mask
   rejoined_mask own p [] j k = omega arith
   rejoined_mask own p (l ∷ ls) j k = resumed_mask own (p.pending ++ (l ∷ ls)) j k
 
-  mask_by : (b : Bool) (p : Point) (c : Converted) → p.mask ≤ c.point.mask → p.mask ≤ (unless_skipped b p c).point.mask
+  mask_by : (b : Bool) (p : MaskPoint) (c : Converted) → p.mask ≤ c.point.mask → p.mask ≤ (unless_skipped b p c).point.mask
   mask_by true p c h = omega arith
   mask_by false p c h = h
 
-  pub numbered_mask : (deep : Bool) (n : ℕ) (p : Point) → p.mask ≤ (numbered deep n p).mask
+  pub numbered_mask : (deep : Bool) (n : ℕ) (p : MaskPoint) → p.mask ≤ (numbered_jumps deep n p).mask
   numbered_mask true n p = omega arith
   numbered_mask false n p = omega arith
 
@@ -164,13 +164,13 @@ module _ (line : ℕ) where
   rest_mask true j m c h = h
 
   mutual
-    pub masks_rise : (deep : Bool) (own : Option ℕ) (q : Part) (p : Point) → p.mask ≤ (converted line deep own q p).point.mask
+    pub masks_rise : (deep : Bool) (own : Option ℕ) (q : Part) (p : MaskPoint) → p.mask ≤ (converted line deep own q p).point.mask
     masks_rise deep own (Run g) p = mask_by p.skips p (record { made = Kept p.guard g ∷ []; point = p }) (omega arith)
     masks_rise deep own (Turns l ps) p =
         mask_by p.skips p (around_loop line l p (converted_parts line false None ps (entered None p.mask p.mask))) (masks_rise_parts false None ps (entered None p.mask p.mask))
     masks_rise deep own (Choice bs other) p =
         let n = jumps_in_branches bs + jumps_in_parts false other in
-        let q = numbered deep n p in
+        let q = numbered_jumps deep n p in
         let arms : Option ℕ → ℕ → ℕ → Converted = converted_branches line bs (has_parts other) (λ g j m. converted_parts line true g other (entered g j m)) in
         let c = arms q.guard q.jump q.mask in
         let a = numbered_mask deep n p in
@@ -178,9 +178,9 @@ module _ (line : ℕ) where
         let d = rejoined_mask own q c.point.pending c.point.jump c.point.mask in
         mask_by p.skips p (choice_at deep own n p arms) (omega (arith, a, b, d))
     masks_rise deep own (Label k) p = resumed_mask own _ p.jump p.mask
-    masks_rise deep own (Jump k) p = mask_by p.skips p (jump_made deep k (numbered deep 1 p)) (numbered_mask deep 1 p)
+    masks_rise deep own (Jump k) p = mask_by p.skips p (jump_made deep k (numbered_jumps deep 1 p)) (numbered_mask deep 1 p)
 
-    pub masks_rise_parts : (deep : Bool) (own : Option ℕ) (ps : Parts) (p : Point) → p.mask ≤ (converted_parts line deep own ps p).point.mask
+    pub masks_rise_parts : (deep : Bool) (own : Option ℕ) (ps : Parts) (p : MaskPoint) → p.mask ≤ (converted_parts line deep own ps p).point.mask
     masks_rise_parts deep own no_parts p = omega arith
     masks_rise_parts deep own (part q ps) p =
         let a = masks_rise deep own q p in

@@ -10,6 +10,7 @@ use Rattle.tree.specs.Plain.{Deallocate, Arms, no_arms, arm, Block, no_statement
 use Rattle.tree.specs.Plain.{Program}
 use Rattle.meaning.specs.Blocks.{Surroundings, before_labels, labels_of, outermost, within_loop}
 use Rattle.meaning.specs.Dialect.{fortran77}
+use Rattle.tree.specs.declared.width.Width.{Width}
 use Rattle.meaning.specs.Profile77.{IsDeclaration, IsStatement, AreArms, IsBlock, IsProgram77}
 use Rattle.meaning.specs.Typed.{declared, dimensions, number_of_subscripts}
 use Rattle.meaning.specs.Typed77.{IsDoVariable}
@@ -23,30 +24,30 @@ use Rattle.find_nests.specs.declared.reasons.Reason.{Reason}
 use Rattle.nest.specs.Plain.{Nest}
 use Rattle.tree.specs.Names.{IsSourceName}
 use Rattle.tree.specs.declared.ops.Kind.TheVariants.{Integer}
-use Rattle.find_nests.specs.nest_parts.Numbers.{next, after, after_arms, after_block}
-use Rattle.find_nests.specs.Loops.{Numbered, SourceLoop, Placed, as_statement, loops_in, loops_in_arms, loops_in_block}
+use Rattle.find_nests.specs.nest_parts.Numbers.{next_loop_number, number_after, after_arms, after_block}
+use Rattle.find_nests.specs.Loops.{Numbered, SourceLoop, SurroundedLoop, as_statement, loops_in, loops_in_arms, loops_in_block}
 
-variable_name : (p : Program) → IsProgram77 fortran77 p → (x : List ℕ) (around : List (List ℕ))
+variable_name : (width : Width) (p : Program) → IsProgram77 (fortran77 width) p → (x : List ℕ) (around : List (List ℕ))
     → IsDoVariable p.declarations x around → IsSourceName x
-variable_name p is x around h = by (declared p.declarations x) refl h.integer.0
+variable_name width p is x around h = by (declared p.declarations x) refl h.integer.0
   where
     by : (o : Option Declaration) → declared p.declarations x ≡ o
         → IsSomeAnd o (λ d. (Integer ≡ d.kind) × (number_of_subscripts no_subscripts ≡ length (dimensions d.extent))) → IsSourceName x
     by None e k = absurd k
     by (Some d) e k =
         let f = found p.declarations x d e in
-        subst IsSourceName f.name (source_name d.name (all_at (IsDeclaration fortran77) p.declarations d is.declarations.each f.among).name)
+        subst IsSourceName f.name (source_name d.name (all_at (IsDeclaration (fortran77 width)) p.declarations d is.declarations.each f.among).name)
 
-module _ (p : Program) (program : IsProgram77 fortran77 p) where
+module _ (width : Width) (p : Program) (program : IsProgram77 (fortran77 width) p) where
   abbrev ds : List Declaration
   ds = p.declarations
 
-  pub record Stands (l : Placed) : Type 0 where
+  pub record Stands (l : SurroundedLoop) : Type 0 where
     pub round : Surroundings
     pub named : All IsSourceName round.variables
     pub is : IsStatement ds (as_statement l.loop.loop) round
 
-  abbrev AllStand : List Placed → Type 0
+  abbrev AllStand : List SurroundedLoop → Type 0
   AllStand ls = All Stands ls
 
   mutual
@@ -57,10 +58,10 @@ module _ (p : Program) (program : IsProgram77 fortran77 p) where
         All-append Stands (loops_in_arms k around arms) (loops_in_block (after_arms k arms) around other) (in_arms arms k around w v h.2) (in_block other (after_arms k arms) around w v h.3)
     in_statement (Do line x a b c body) k around w v h =
         let l : SourceLoop = record { line = line; variable = x; first = a; last = b; step = c; body = body } in
-        All-cons Stands (record { around = around; loop = record { before = k; loop = l } }) (loops_in_block (next k) (around ++ l ∷ []) body)
+        All-cons Stands (record { around = around; loop = record { before = k; loop = l } }) (loops_in_block (next_loop_number k) (around ++ l ∷ []) body)
         (record { round = w; named = v; is = h })
-        (in_block body (next k) (around ++ l ∷ []) (within_loop x w)
-        (All-cons IsSourceName x w.variables (variable_name p program x w.variables h.1) v) h.5)
+        (in_block body (next_loop_number k) (around ++ l ∷ []) (within_loop x w)
+        (All-cons IsSourceName x w.variables (variable_name width p program x w.variables h.1) v) h.5)
     in_statement (Label n) k around w v h = All-nil Stands
     in_statement (GoTo line n) k around w v h = All-nil Stands
     in_statement (Stop line) k around w v h = All-nil Stands
@@ -77,9 +78,9 @@ module _ (p : Program) (program : IsProgram77 fortran77 p) where
     in_block : (b : Block) (k : ℕ) (around : List SourceLoop) (w : Surroundings) → All IsSourceName w.variables → IsBlock ds b w → AllStand (loops_in_block k around b)
     in_block no_statements k around w v h = All-nil Stands
     in_block (statement c cs) k around w v h =
-        All-append Stands (loops_in k around c) (loops_in_block (after k c) around cs) (in_statement c k around (before_labels (labels_of cs) w) v h.0) (in_block cs (after k c) around w v h.1)
+        All-append Stands (loops_in k around c) (loops_in_block (number_after k c) around cs) (in_statement c k around (before_labels (labels_of cs) w) v h.0) (in_block cs (number_after k c) around w v h.1)
 
-  pub loop_stands : (l : Placed) → Contains (loops_in_block 0 [] p.body) l → Stands l
+  pub loop_stands : (l : SurroundedLoop) → Contains (loops_in_block 0 [] p.body) l → Stands l
   loop_stands l c =
       All-contains Stands (loops_in_block 0 [] p.body) l
       (in_block p.body 0 [] outermost (All-nil IsSourceName) program.statements) c
@@ -101,7 +102,7 @@ nest_number p k (l ∷ ls) m small h =
     by : (o : Option Reason) → (found_as p k l o ≡ InNest m) ⊎ Contains (found_among p (nests_with k o) ls) (InNest m)
         → (Contains (found_among p (nests_with k o) ls) (InNest m) → m.number ≤ 4294967295) → m.number ≤ 4294967295
     by None (inl e) rest =
-        let s : nest_of_loop p (next k) l ≡ m = cc in
+        let s : nest_of_loop p (next_loop_number k) l ≡ m = cc in
         let same = ap (λ (n : Nest). n.number) s in
         let fits = next_small k small in
         omega (arith, same, fits)

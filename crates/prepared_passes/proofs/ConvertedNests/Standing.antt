@@ -12,6 +12,7 @@ use Rattle.tree.specs.declared.ops.Value.TheVariants.{Int, Truth}
 use Rattle.tree.specs.Plain as P
 use Rattle.meaning.specs.Reads.{names_in_block, names_in_statement}
 use Rattle.meaning.specs.Dialect.{fortran77}
+use Rattle.tree.specs.declared.width.Width.{Width}
 use Rattle.meaning.specs.Holding.{HasBounds, HoldsProgram, IsStorable}
 use Rattle.meaning.specs.Reads.{names_in, names_in_subscripts}
 use Rattle.meaning.specs.Run.{State, Going, does, does_all, then}
@@ -44,6 +45,7 @@ use Rattle.prepared_passes.proofs.ConvertedNests.Goes.{AreStraight, IsStraight, 
 use Rattle.prepared_passes.proofs.ConvertedNests.Masked.{AreBeside, IsFree, IsOther, NamesOthers, flag}
 use Rattle.prepared_passes.proofs.ConvertedNests.Moments.{AreLoopless, BranchesAreLoopless, IsLoopless}
 use Rattle.prepared_passes.proofs.ConvertedNests.Names.{Clear, each, first_clear, front, made_clear, part_free, rest}
+use Rattle.tree.specs.Widths.{bits_of}
 
 -- ---- which parts have no loops
 
@@ -94,7 +96,7 @@ module _ (bits k0 k1 : ℕ) where
 
   same_cell_named : (r : P.Reference) → NamesOthers (r.name ∷ names_in_subscripts r.subscripts) → (s u : Store) → AreBeside k0 k1 s u → (c : Cell) → cell_named (sequential bits) r s ≡ Ok c → cell_named (sequential bits) r u ≡ Ok c
   same_cell_named r o s u h c e =
-      let g : runs.Guarded = record { guard = None; left = r; right = P.Logic true } in
+      let g : runs.GuardedAssignment = record { guard = None; left = r; right = P.Logic true } in
       let one : effect (sequential bits) g s ≡ Ok (Some (c, Truth true)) = ap (λ (q : Result Cell Fault). do d ← q; cond (is_in_range bits (Truth true)) (Ok (Some (d, Truth true))) (Err Overflow)) e in
       let two : effect (sequential bits) g u ≡ Ok (Some (c, Truth true)) = effect_alike bits u s g (like_names bits k0 k1 (r.name ∷ names_in_subscripts r.subscripts) s u o h) ∙ one in
       let p = both_ok (cell_named (sequential bits) r u) (λ d. cond (is_in_range bits (Truth true)) (Ok (Some (d, Truth true))) (Err Overflow)) (Some (c, Truth true)) two in
@@ -252,7 +254,7 @@ truth_of_kind : (v : Value) → kind_of v ≡ Logical → (b : Bool) × (v ≡ T
 truth_of_kind (Truth b) e = (b, refl)
 truth_of_kind (Int z) e = cc
 
-module _ (p : P.Program) (w x : Place) (k e : ℕ) (adds : AddsMasks p w x k e) where
+module _ (width : Width) (p : P.Program) (w x : Place) (k e : ℕ) (adds : AddsMasks p w x k e) where
   no_mask : (y : List ℕ) → Contains (names_of p) y → IsOther y
   no_mask y c i f = adds.program i (subst (Contains (names_of p)) (sym f) c)
 
@@ -260,14 +262,14 @@ module _ (p : P.Program) (w x : Place) (k e : ℕ) (adds : AddsMasks p w x k e) 
   abbrev without : State → State
   without t = record t { store = record { bounds = w.bounds; held = t.store.held } }
 
-  kept_kind : (t : Store) → HoldsProgram fortran77 x.program t → (c : Cell) → IfSome (declared w.program.declarations c.name) (λ (d : P.Declaration). IsStorable fortran77 d.kind (t.held c))
+  kept_kind : (t : Store) → HoldsProgram (fortran77 width) x.program t → (c : Cell) → IfSome (declared w.program.declarations c.name) (λ (d : P.Declaration). IsStorable (fortran77 width) d.kind (t.held c))
   kept_kind t h c = by (declared w.program.declarations c.name) refl
     where
-      by : (o : Option P.Declaration) → declared w.program.declarations c.name ≡ o → IfSome o (λ (d : P.Declaration). IsStorable fortran77 d.kind (t.held c))
+      by : (o : Option P.Declaration) → declared w.program.declarations c.name ≡ o → IfSome o (λ (d : P.Declaration). IsStorable (fortran77 width) d.kind (t.held c))
       by None f = tt
-      by (Some d) f = subst (λ o. IfSome o (λ (d : P.Declaration). IsStorable fortran77 d.kind (t.held c))) (adds.kept c.name d f) (h.kinds c)
+      by (Some d) f = subst (λ o. IfSome o (λ (d : P.Declaration). IsStorable (fortran77 width) d.kind (t.held c))) (adds.kept c.name d f) (h.kinds c)
 
-  starts : (s t : State) → Starts w s → Starts x t → Starts w (without t)
+  starts : (s t : State) → Starts width w s → Starts width x t → Starts width w (without t)
   starts s t a b = record {
     going = b.going;
     holds = record {
@@ -277,14 +279,14 @@ module _ (p : P.Program) (w x : Place) (k e : ℕ) (adds : AddsMasks p w x k e) 
     bounds_are = λ y. refl;
   }
 
-  alike : (s t : State) → Starts w s → GoOnAlike p s t → GoOnAlike p s (without t)
+  alike : (s t : State) → Starts width w s → GoOnAlike p s t → GoOnAlike p s (without t)
   alike s t a g = record {
     going = g.going;
     agree = record { bounds = λ y c. a.bounds_are y; held = g.agree.held; kinds = g.agree.kinds };
     rest = ap (λ (z : State). record z { store = record { bounds = w.bounds; held = t.store.held } }) g.rest;
   }
 
-  beside : (t : State) → Starts x t → AreBeside k e (without t).store t.store
+  beside : (t : State) → Starts width x t → AreBeside k e (without t).store t.store
   beside t b = record {
     bounds = λ y o. b.bounds_are y ∙ adds.bounds y o;
     held = λ c o. refl;
@@ -292,7 +294,7 @@ module _ (p : P.Program) (w x : Place) (k e : ℕ) (adds : AddsMasks p w x k e) 
     flags = λ i u. by i (declared x.program.declarations (mask_name i)) (adds.masks i u.0 u.1) (b.holds.kinds (flag i));
   }
     where
-      by : (i : ℕ) (o : Option P.Declaration) → IsSomeAnd o IsMask → IfSome o (λ (d : P.Declaration). IsStorable fortran77 d.kind (t.store.held (flag i))) → (c : Bool) × (t.store.held (flag i) ≡ Truth c)
+      by : (i : ℕ) (o : Option P.Declaration) → IsSomeAnd o IsMask → IfSome o (λ (d : P.Declaration). IsStorable (fortran77 width) d.kind (t.store.held (flag i))) → (c : Bool) × (t.store.held (flag i) ≡ Truth c)
       by i None h g = absurd h
       by i (Some d) h g = truth_of_kind (t.store.held (flag i)) (g.kind ∙ h.kind)
 
@@ -307,24 +309,24 @@ module _ (p : P.Program) (w x : Place) (k e : ℕ) (adds : AddsMasks p w x k e) 
     rest = l.rest ∙ ap (λ (z : State). record z { store = u.store; steps = u.steps }) g.rest;
   }
 
-pub converted_may_stand_for : ConvertedMayStandFor
-converted_may_stand_for p masks n m w x e few h adds keeps s t a b g sound =
+pub converted_may_stand_for : (width : Width) → ConvertedMayStandFor width
+converted_may_stand_for width p masks n m w x e few h adds keeps s t a b g sound =
     let f = loop_of masks n m e in
     by f m f.made few adds
   where
     by : (f : IsLoopOf masks n m) (m : Nest) → converted_loop n masks f.loop f.within ≡ m → m.masks ≤ 2 ^ 32 → AddsMasks p w x masks m.masks
-        → GoOnAlike p (does_all fortran77 None (block_of_nest n) s) (does_all fortran77 None (block_of_nest m) t)
+        → GoOnAlike p (does_all (fortran77 width) None (block_of_nest n) s) (does_all (fortran77 width) None (block_of_nest m) t)
     by f m made few adds =
-        subst (λ (z : Nest). GoOnAlike p (does_all fortran77 None (block_of_nest n) s) (does_all fortran77 None (block_of_nest z) t)) made
+        subst (λ (z : Nest). GoOnAlike p (does_all (fortran77 width) None (block_of_nest n) s) (does_all (fortran77 width) None (block_of_nest z) t)) made
         (here (converted_loop n masks f.loop f.within).masks refl
         (subst (λ (z : Nest). z.masks ≤ 2 ^ 32) (sym made) few) (subst (λ (z : Nest). AddsMasks p w x masks z.masks) (sym made) adds))
       where
         here : (k : ℕ) → (converted_loop n masks f.loop f.within).masks ≡ k → (converted_loop n masks f.loop f.within).masks ≤ 2 ^ 32 → AddsMasks p w x masks (converted_loop n masks f.loop f.within).masks
-            → GoOnAlike p (does_all fortran77 None (block_of_nest n) s) (does_all fortran77 None (block_of_nest (converted_loop n masks f.loop f.within)) t)
+            → GoOnAlike p (does_all (fortran77 width) None (block_of_nest n) s) (does_all (fortran77 width) None (block_of_nest (converted_loop n masks f.loop f.within)) t)
         here k same few adds =
             let top = (converted_loop n masks f.loop f.within).masks in
-            let s2 = without p w x masks top adds t in
-            let one = keeps s s2 a (starts p w x masks top adds s t a b) (alike p w x masks top adds s t a g) sound in
-            let way : (does_all fortran77 None (block_of_nest n) s2).way ≡ Going = ap (λ (z : State). z.way) one.rest ∙ one.going in
-            let led = (nest_leads 31 masks n h f.loop f.within f.body few).at s2 t.store t.steps b.going (beside p w x masks top adds t b) (subst IsSound (sym way) tt) in
-            together p w x masks top adds (does_all fortran77 None (block_of_nest n) s) (does_all fortran77 None (block_of_nest n) s2) (does_all fortran77 None (block_of_nest (converted_loop n masks f.loop f.within)) t) one led
+            let s2 = without width p w x masks top adds t in
+            let one = keeps s s2 a (starts width p w x masks top adds s t a b) (alike width p w x masks top adds s t a g) sound in
+            let way : (does_all (fortran77 width) None (block_of_nest n) s2).way ≡ Going = ap (λ (z : State). z.way) one.rest ∙ one.going in
+            let led = (nest_leads (bits_of width) masks n h f.loop f.within f.body few).at s2 t.store t.steps b.going (beside width p w x masks top adds t b) (subst IsSound (sym way) tt) in
+            together width p w x masks top adds (does_all (fortran77 width) None (block_of_nest n) s) (does_all (fortran77 width) None (block_of_nest n) s2) (does_all (fortran77 width) None (block_of_nest (converted_loop n masks f.loop f.within)) t) one led

@@ -9,9 +9,9 @@ use Rattle.pass_laws.specs.prepared_nests.Branches.{StandingTest, tests_in_branc
 use Rattle.if_convert.specs.Converted.{choice_at, converted, converted_branches, converted_parts, has_parts, has_rest, rest_if, rest_under}
 use Rattle.if_convert.specs.Jumps.{jumps_in_branches, jumps_in_parts}
 use Rattle.if_convert.specs.Masks.{Asks, Clears, Kept, Leaves, Masking, Other, Question, Test, Turned, Unleft}
-use Rattle.if_convert.specs.Points.{Converted, cleared, entered, is_left, jump_made, numbered, rejoined, resumed, unless_skipped}
+use Rattle.if_convert.specs.Points.{Converted, cleared, entered, is_left, jump_made, numbered_jumps, rejoined, resumed, unless_skipped}
 use Rattle.if_convert.specs.declared.points.Jumped.{Jumped}
-use Rattle.if_convert.specs.declared.points.Point.{Point}
+use Rattle.if_convert.specs.declared.points.MaskPoint.{MaskPoint}
 use Rattle.prepared_passes.proofs.ConvertedNests.Few.{arms, arms_less, fewer, part_less, rejoined_jump, resumed_jump}
 use Rattle.prepared_passes.proofs.ConvertedNests.Moments.{AreLoopless, BranchesAreLoopless, IsLoopless}
 use Rattle.prepared_passes.proofs.ConvertedNests.Names.{front, rest}
@@ -78,7 +78,7 @@ module _ (line most : ℕ) (S : Guarded → Type 0) (T : Expression → Type 0) 
   resumed_comes own [] j k h = none_comes
   resumed_comes own (l ∷ ls) j k h = one_comes (Asks own k (Unleft (l ∷ ls))) h
 
-  rejoined_comes : (own : Option ℕ) (p : Point) (ls : List Jumped) (j k : ℕ) → length p.pending + length ls ≤ most → AllCome (rejoined own p ls j k).made
+  rejoined_comes : (own : Option ℕ) (p : MaskPoint) (ls : List Jumped) (j k : ℕ) → length p.pending + length ls ≤ most → AllCome (rejoined own p ls j k).made
   rejoined_comes own p [] j k h = none_comes
   rejoined_comes own p (l ∷ ls) j k h = let e = length-append p.pending (l ∷ ls) in resumed_comes own (p.pending ++ (l ∷ ls)) j k (omega (arith, e, h))
 
@@ -87,7 +87,7 @@ module _ (line most : ℕ) (S : Guarded → Type 0) (T : Expression → Type 0) 
   rest_comes true j m c h top = h top
 
   mutual
-    pub part_comes : (own : Option ℕ) (q : Part) (p : Point) → IsLoopless q → Holds q → length p.pending ≤ p.jump → (converted line true own q p).point.jump ≤ most → AllCome (converted line true own q p).made
+    pub part_comes : (own : Option ℕ) (q : Part) (p : MaskPoint) → IsLoopless q → Holds q → length p.pending ≤ p.jump → (converted line true own q p).point.jump ≤ most → AllCome (converted line true own q p).made
     part_comes own (Run g) p h s few top = by p.skips
       where
         by : (b : Bool) → AllCome (unless_skipped b p (record { made = Kept p.guard g ∷ []; point = p })).made
@@ -121,7 +121,7 @@ module _ (line most : ℕ) (S : Guarded → Type 0) (T : Expression → Type 0) 
         by true = none_comes
         by false = one_comes (Leaves p.guard p.jump) tt
 
-    pub parts_come : (own : Option ℕ) (ps : Parts) (p : Point) → AreLoopless ps → AllHold ps → length p.pending ≤ p.jump → (converted_parts line true own ps p).point.jump ≤ most → AllCome (converted_parts line true own ps p).made
+    pub parts_come : (own : Option ℕ) (ps : Parts) (p : MaskPoint) → AreLoopless ps → AllHold ps → length p.pending ≤ p.jump → (converted_parts line true own ps p).point.jump ≤ most → AllCome (converted_parts line true own ps p).made
     parts_come own no_parts p h s few top = none_comes
     parts_come own (part q ps) p h s few top =
         let c = converted line true own q p in
@@ -148,7 +148,7 @@ module _ (line most : ℕ) (S : Guarded → Type 0) (T : Expression → Type 0) 
       come_arms bs (has_parts other) (λ g j m. converted_parts line true g other (entered g j m)) (λ g j m top. parts_come g other (entered g j m) o t (omega arith) top) (λ g j m. rises_parts line g other (entered g j m)) g j m h s top
 
   -- in a loop's body
-  pub top_comes : (q : Part) (p : Point) → IsLoopless q → Holds q → length p.pending ≤ p.mask → (converted line false None q p).point.mask ≤ most → AllCome (converted line false None q p).made
+  pub top_comes : (q : Part) (p : MaskPoint) → IsLoopless q → Holds q → length p.pending ≤ p.mask → (converted line false None q p).point.mask ≤ most → AllCome (converted line false None q p).made
   top_comes (Run g) p h s few top = by p.skips
     where
       by : (b : Bool) → AllCome (unless_skipped b p (record { made = Kept p.guard g ∷ []; point = p })).made
@@ -163,7 +163,7 @@ module _ (line most : ℕ) (S : Guarded → Type 0) (T : Expression → Type 0) 
       by : (b : Bool) → (unless_skipped b p (choice_at false None n p (arms line bs other))).point.mask ≤ most → AllCome (unless_skipped b p (choice_at false None n p (arms line bs other))).made
       by true top = none_comes
       by false top =
-          let q = numbered false n p in
+          let q = numbered_jumps false n p in
           let c = arms line bs other q.guard q.jump q.mask in
           let less = arms_less line bs other q.guard q.jump q.mask in
           let count = counts_branches line bs other q.guard q.jump q.mask in
@@ -181,7 +181,7 @@ module _ (line most : ℕ) (S : Guarded → Type 0) (T : Expression → Type 0) 
       by (l ∷ ls) e top = one_comes (Asks None p.mask (Unleft (l ∷ ls))) (omega (arith, e, top))
   top_comes (Jump k) p h s few top = by p.skips
     where
-      by : (b : Bool) → AllCome (unless_skipped b p (jump_made false k (numbered false 1 p))).made
+      by : (b : Bool) → AllCome (unless_skipped b p (jump_made false k (numbered_jumps false 1 p))).made
       by true = none_comes
       by false = first_comes (Clears p.mask) (Leaves p.guard p.mask ∷ []) tt (one_comes (Leaves p.guard p.mask) tt)
 

@@ -8,7 +8,7 @@ use Rattle.if_convert.specs.Jumps.{jumps_in, jumps_in_parts, jumps_in_branches, 
 use Rattle.if_convert.specs.Masks.{Test, Other, Unleft, Masking, Kept, Asks, Leaves}
 use Rattle.if_convert.specs.Points.{Converted, entered, resumed, rejoined, is_left, unless_skipped, jump_made}
 use Rattle.if_convert.specs.declared.points.Jumped.{Jumped}
-use Rattle.if_convert.specs.declared.points.Point.{Point}
+use Rattle.if_convert.specs.declared.points.MaskPoint.{MaskPoint}
 use Rattle.prepared_passes.proofs.ConvertedNests.Masked.{BranchesAreFree, IsFree, AreFree, IsGuard, IsJump, IsNewGuard, IsNotGuard, IsSuited, IsThere, IsUsed}
 use Rattle.prepared_passes.proofs.ConvertedNests.Moments.{AreLoopless, BranchesAreLoopless, IsLoopless}
 use Rattle.prepared_passes.proofs.ConvertedNests.Points.{Below, below_more, in_filter}
@@ -62,7 +62,7 @@ module _ (line k0 k1 low mid : ℕ) (first : k0 ≤ low) where
 
   -- ---- at a point
 
-  pub record Fit (own : Option ℕ) (p : Point) : Type 0 where
+  pub record Fit (own : Option ℕ) (p : MaskPoint) : Type 0 where
     pub block : IsUsed k0 k1 low mid own
     pub guard : IsUsed k0 k1 low mid p.guard
     pub pending : AllJumps p.pending
@@ -87,7 +87,7 @@ module _ (line k0 k1 low mid : ℕ) (first : k0 ≤ low) where
         fit = record { block = u; guard = as_guard k new; pending = h; jumps = l; masks = omega (arith, m); own_below = below_more own k (suc k) (omega arith) b; guard_below = omega arith };
       }
 
-  pub rejoins_suit : (own : Option ℕ) (p : Point) (ls : List Jumped) (j k : ℕ) → low ≤ mid → Fit own p → p.mask ≤ k → AllJumps ls → low ≤ j → (rejoined own p ls j k).point.mask ≤ k1 → Suits own (rejoined own p ls j k)
+  pub rejoins_suit : (own : Option ℕ) (p : MaskPoint) (ls : List Jumped) (j k : ℕ) → low ≤ mid → Fit own p → p.mask ≤ k → AllJumps ls → low ≤ j → (rejoined own p ls j k).point.mask ≤ k1 → Suits own (rejoined own p ls j k)
   rejoins_suit own p [] j k o f r h l e = record {
     made = none_suited;
     fit = record { block = f.block; guard = f.guard; pending = f.pending; jumps = l; masks = (let m = f.masks in omega (arith, m, r)); own_below = below_more own p.mask k r f.own_below; guard_below = below_more p.guard p.mask k r f.guard_below };
@@ -125,7 +125,7 @@ module _ (line k0 k1 low mid : ℕ) (first : k0 ≤ low) where
     else_suits s = record { made = s.made; pending = s.fit.pending }
 
     mutual
-      pub part_suits : (own : Option ℕ) (q : Part) (p : Point) → IsLoopless q → IsFree q → Fit own p → p.jump + jumps_in p.skips q ≤ mid → (converted line true own q p).point.mask ≤ k1 → Suits own (converted line true own q p)
+      pub part_suits : (own : Option ℕ) (q : Part) (p : MaskPoint) → IsLoopless q → IsFree q → Fit own p → p.jump + jumps_in p.skips q ≤ mid → (converted line true own q p).point.mask ≤ k1 → Suits own (converted line true own q p)
       part_suits own (Run g) p h f fit n e = by p.skips
         where
           by : (b : Bool) → Suits own (unless_skipped b p (record { made = Kept p.guard g ∷ []; point = p }))
@@ -175,7 +175,7 @@ module _ (line k0 k1 low mid : ℕ) (first : k0 ≤ low) where
                 };
               }
 
-      pub parts_suit : (own : Option ℕ) (ps : Parts) (p : Point) → AreLoopless ps → AreFree ps → Fit own p → p.jump + jumps_in_parts p.skips ps ≤ mid → (converted_parts line true own ps p).point.mask ≤ k1 → Suits own (converted_parts line true own ps p)
+      pub parts_suit : (own : Option ℕ) (ps : Parts) (p : MaskPoint) → AreLoopless ps → AreFree ps → Fit own p → p.jump + jumps_in_parts p.skips ps ≤ mid → (converted_parts line true own ps p).point.mask ≤ k1 → Suits own (converted_parts line true own ps p)
       parts_suit own no_parts p h f fit n e = record { made = none_suited; fit = fit }
       parts_suit own (part q ps) p h f fit n e =
           let c = converted line true own q p in

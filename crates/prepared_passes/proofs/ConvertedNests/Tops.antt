@@ -5,9 +5,9 @@ use Rattle.nest_order.specs.orders.Lists.{In}
 use Rattle.if_convert.specs.Converted.{converted, converted_parts, converted_branches, choice_at, has_parts}
 use Rattle.if_convert.specs.Jumps.{jumps_in, jumps_in_parts, jumps_in_branches, unless}
 use Rattle.if_convert.specs.Masks.{Unleft, Masking, Kept, Asks, Clears, Leaves}
-use Rattle.if_convert.specs.Points.{Converted, entered, numbered, cleared, resumed, is_left, unless_skipped, jump_made}
+use Rattle.if_convert.specs.Points.{Converted, entered, numbered_jumps, cleared, resumed, is_left, unless_skipped, jump_made}
 use Rattle.if_convert.specs.declared.points.Jumped.{Jumped}
-use Rattle.if_convert.specs.declared.points.Point.{Point}
+use Rattle.if_convert.specs.declared.points.MaskPoint.{MaskPoint}
 use Rattle.prepared_passes.proofs.ConvertedNests.Masked.{IsFree, IsJump, IsNewJump, IsSuited, IsThere, IsUsed}
 use Rattle.prepared_passes.proofs.ConvertedNests.Moments.{IsLoopless}
 use Rattle.prepared_passes.proofs.ConvertedNests.Points.{Below, below_more, in_filter}
@@ -19,7 +19,7 @@ IsFrom k None = Unit {0}
 IsFrom k (Some i) = k ≤ i
 
 -- at a point of a loop's body
-pub record IsTop (k0 : ℕ) (p : Point) : Type 0 where
+pub record IsTop (k0 : ℕ) (p : MaskPoint) : Type 0 where
   pub start : k0 ≤ p.mask
   pub ordered : p.jump ≤ p.mask
   pub guard : IsFrom k0 p.guard
@@ -28,7 +28,7 @@ pub record IsTop (k0 : ℕ) (p : Point) : Type 0 where
 
 module _ (line k0 k1 : ℕ) where
   -- what is made for it, with n jumps
-  pub record TopSuits (p : Point) (n : ℕ) (c : Converted) : Type 0 where
+  pub record TopSuits (p : MaskPoint) (n : ℕ) (c : Converted) : Type 0 where
     pub made : (m : Masking) → In m c.made → IsSuited k0 k1 p.mask (p.mask + n) m
     pub guard : IsUsed k0 k1 p.mask (p.mask + n) c.point.guard
     pub pending : (l : Jumped) → In l c.point.pending → IsJump k0 k1 p.mask (p.mask + n) l.mask
@@ -43,7 +43,7 @@ module _ (line k0 k1 : ℕ) where
   pending_jumps : (ls : List Jumped) (m n : ℕ) → ((l : Jumped) → In l ls → (k0 ≤ l.mask) × (l.mask < m)) → m ≤ k1 → (l : Jumped) → In l ls → IsJump k0 k1 m (m + n) l.mask
   pending_jumps ls m n h e l i = let z = h l i in let b = z.1 in ((z.0, omega (arith, b, e)), omega (arith, b))
 
-  unchanged_suits : (p : Point) → IsTop k0 p → p.mask ≤ k1 → (ms : List Masking) → ((m : Masking) → In m ms → IsSuited k0 k1 p.mask (p.mask + 0) m) → TopSuits p 0 (record { made = ms; point = p })
+  unchanged_suits : (p : MaskPoint) → IsTop k0 p → p.mask ≤ k1 → (ms : List Masking) → ((m : Masking) → In m ms → IsSuited k0 k1 p.mask (p.mask + 0) m) → TopSuits p 0 (record { made = ms; point = p })
   unchanged_suits p h e ms made = record {
     made = made;
     guard = guard_used p.guard p.mask 0 h.guard h.guard_below e;
@@ -58,7 +58,7 @@ module _ (line k0 k1 : ℕ) where
   cleared_suit low mid a b (suc n) j h e m (inl s) = subst (IsSuited k0 k1 low mid) (sym s) ((omega (arith, a, h), omega (arith, b, e)), (h, omega (arith, e)))
   cleared_suit low mid a b (suc n) j h e m (inr i) = cleared_suit low mid a b n (suc j) (omega (arith, h)) (omega (arith, e)) m i
 
-  label_suits : (p : Point) (ls : List Jumped) → IsTop k0 p → ((l : Jumped) → In l ls → In l p.pending) → (resumed None ls p.jump p.mask).point.mask ≤ k1 → TopSuits p 0 (resumed None ls p.jump p.mask)
+  label_suits : (p : MaskPoint) (ls : List Jumped) → IsTop k0 p → ((l : Jumped) → In l ls → In l p.pending) → (resumed None ls p.jump p.mask).point.mask ≤ k1 → TopSuits p 0 (resumed None ls p.jump p.mask)
   label_suits p [] h sub e = record { made = λ m i. absurd i; guard = tt; pending = λ l i. absurd i; ordered = h.ordered; below = tt; room = omega arith }
   label_suits p (l ∷ ls) h sub e =
       let s = h.start in
@@ -77,7 +77,7 @@ module _ (line k0 k1 : ℕ) where
   abbrev arms : Branches → Parts → Option ℕ → ℕ → ℕ → Converted
   arms bs other = converted_branches line bs (has_parts other) (λ g j m. converted_parts line true g other (entered g j m))
 
-  entered_suits : (bs : Branches) (other : Parts) (p : Point) → IsLoopless (Choice bs other) → IsFree (Choice bs other) → IsTop k0 p
+  entered_suits : (bs : Branches) (other : Parts) (p : MaskPoint) → IsLoopless (Choice bs other) → IsFree (Choice bs other) → IsTop k0 p
       → (choice_at false None (jumps_in_branches bs + jumps_in_parts false other) p (arms bs other)).point.mask ≤ k1
       → TopSuits p (jumps_in_branches bs + jumps_in_parts false other) (choice_at false None (jumps_in_branches bs + jumps_in_parts false other) p (arms bs other))
   entered_suits bs other p h f top e =
@@ -85,7 +85,7 @@ module _ (line k0 k1 : ℕ) where
       let low = p.mask in
       let mid = p.mask + n in
       let s = top.start in
-      let q = numbered false n p in
+      let q = numbered_jumps false n p in
       let c = arms bs other q.guard q.jump q.mask in
       let rise = masks_rise_branches line bs (has_parts other) (λ g j m. converted_parts line true g other (entered g j m)) (λ g j m. masks_rise_parts line true g other (entered g j m)) q.guard q.jump q.mask in
       let count = counts_branches line bs other q.guard q.jump q.mask in
@@ -114,7 +114,7 @@ module _ (line k0 k1 : ℕ) where
         room = omega (arith, rise, up);
       }
 
-  gone_suits : (k : ℕ) (p : Point) → IsTop k0 p → (jump_made false k (numbered false 1 p)).point.mask ≤ k1 → TopSuits p 1 (jump_made false k (numbered false 1 p))
+  gone_suits : (k : ℕ) (p : MaskPoint) → IsTop k0 p → (jump_made false k (numbered_jumps false 1 p)).point.mask ≤ k1 → TopSuits p 1 (jump_made false k (numbered_jumps false 1 p))
   gone_suits k p top e =
       let low = p.mask in
       let mid = p.mask + 1 in
@@ -131,7 +131,7 @@ module _ (line k0 k1 : ℕ) where
         room = omega arith;
       }
 
-  pub top_suits : (q : Part) (p : Point) → IsLoopless q → IsFree q → IsTop k0 p → p.mask ≤ k1 → (converted line false None q p).point.mask ≤ k1 → TopSuits p (jumps_in p.skips q) (converted line false None q p)
+  pub top_suits : (q : Part) (p : MaskPoint) → IsLoopless q → IsFree q → IsTop k0 p → p.mask ≤ k1 → (converted line false None q p).point.mask ≤ k1 → TopSuits p (jumps_in p.skips q) (converted line false None q p)
   top_suits (Run g) p h f top low e = by p.skips
     where
       by : (b : Bool) → TopSuits p 0 (unless_skipped b p (record { made = Kept p.guard g ∷ []; point = p }))
@@ -149,7 +149,7 @@ module _ (line k0 k1 : ℕ) where
   top_suits (Label k) p h f top low e = label_suits p (filter (is_left k) p.pending) top (λ l i. (in_filter (is_left k) p.pending l i).0) e
   top_suits (Jump k) p h f top low e = by p.skips e
     where
-      by : (b : Bool) → (unless_skipped b p (jump_made false k (numbered false 1 p))).point.mask ≤ k1 → TopSuits p (unless b 1) (unless_skipped b p (jump_made false k (numbered false 1 p)))
+      by : (b : Bool) → (unless_skipped b p (jump_made false k (numbered_jumps false 1 p))).point.mask ≤ k1 → TopSuits p (unless b 1) (unless_skipped b p (jump_made false k (numbered_jumps false 1 p)))
       by true e = unchanged_suits p top low [] (λ m i. absurd i)
       by false e = gone_suits k p top e
 
@@ -158,7 +158,7 @@ module _ (line k0 k1 : ℕ) where
   used_from low mid (Some i) u = u.0.0
 
   -- the point behind it
-  pub next_top : (p : Point) (n : ℕ) (c : Converted) → IsTop k0 p → TopSuits p n c → IsTop k0 c.point
+  pub next_top : (p : MaskPoint) (n : ℕ) (c : Converted) → IsTop k0 p → TopSuits p n c → IsTop k0 c.point
   next_top p n c h s =
       let room = s.room in
       let start = h.start in

@@ -6,11 +6,12 @@ use Rattle.tree.specs.Plain.{Declaration, Program, Statement, Assignment, Where,
 use Rattle.meaning.specs.Blocks.{Surroundings, before_labels, labels_of, outermost, within_loop}
 use Rattle.meaning.specs.Labels.{has_arm}
 use Rattle.meaning.specs.Dialect.{fortran77}
+use Rattle.tree.specs.declared.width.Width.{Width}
 use Rattle.meaning.specs.Profile77.{AreArms, IsBlock, IsProgram77, IsStatement}
 use Rattle.meaning_laws.proofs.arrays.Members.{nowhere}
 use Rattle.find_nests.specs.Laws.{IsFoundNest}
 use Rattle.find_nests.specs.Loops.{loops_in_block}
-use Rattle.find_nests.specs.nest_parts.Numbers.{after, after_arms, after_block, next}
+use Rattle.find_nests.specs.nest_parts.Numbers.{number_after, after_arms, after_block, next_loop_number}
 use Rattle.find_nests.specs.nest_parts.Statements.{branches_of, parts_of, parts_of_block}
 use Rattle.find_nests.proofs.FoundLaws.{found_nest_is_loop}
 use Rattle.last_values.specs.Behind.{stands_behind}
@@ -20,7 +21,7 @@ use Rattle.last_values.specs.declared.behind.NestedLoop.{NestedLoop}
 use Rattle.last_values.specs.declared.normal_forms.loops.NormalLoop.{NormalLoop}
 use Rattle.last_values.specs.normal_forms.NormalLoops.{is_known, is_positive, normal_loop}
 use Rattle.last_values.specs.normal_forms.Texts.{at_least_one}
-use Rattle.normal_loops.specs.Bodies.{normal_branches, normal_part, normal_parts, normal_turns, placed}
+use Rattle.normal_loops.specs.Bodies.{normal_branches, normal_part, normal_parts, normal_turns, placed_loop}
 use Rattle.normal_loops.specs.Counting.{counting}
 use Rattle.normal_loops.specs.Loops.{with_loop}
 use Rattle.normal_loops.specs.Values.{normal_statement, statement_with_values, with_value, in_text}
@@ -49,7 +50,7 @@ module _ (ds : List Declaration) where
     in_statement k (Assignment line mark left right) w h = (refl, tt)
     in_statement k (Where line mark mask left right) w h = tt
     in_statement k (If line arms other) w h = ((has_arms k arms h.1, in_arms k arms w h.2, in_block (after_arms k arms) other w h.3), tt)
-    in_statement k (Do line x a b c body) w h = (in_block (next k) body (within_loop x w) h.5, tt)
+    in_statement k (Do line x a b c body) w h = (in_block (next_loop_number k) body (within_loop x w) h.5, tt)
     in_statement k (Label' n) w h = (tt, tt)
     in_statement k (GoTo line n) w h = (tt, tt)
     in_statement k (Stop line) w h = tt
@@ -64,13 +65,13 @@ module _ (ds : List Declaration) where
 
     in_block : (k : ℕ) (b : Block) (w : Surroundings) → IsBlock ds b w → AreUnguarded (parts (parts_of_block k b))
     in_block k no_statements w h = tt
-    in_block k (statement c cs) w h = both (parts_of k c) (parts_of_block (after k c) cs) (in_statement k c (before_labels (labels_of cs) w) h.0) (in_block (after k c) cs w h.1)
+    in_block k (statement c cs) w h = both (parts_of k c) (parts_of_block (number_after k c) cs) (in_statement k c (before_labels (labels_of cs) w) h.0) (in_block (number_after k c) cs w h.1)
 
-found_unguarded : (p : Program) (n : Nest) → IsProgram77 fortran77 p → IsFoundNest p n → IsUnguarded n.body
-found_unguarded p n is f =
+found_unguarded : (width : Width) (p : Program) (n : Nest) → IsProgram77 (fortran77 width) p → IsFoundNest p n → IsUnguarded n.body
+found_unguarded width p n is f =
     let proper = Each-Contains (IsProper p.declarations) (loops_in_block 0 [] p.body) f.loop
     (proper_block p.declarations 0 [] p.body outermost (omega arith) is.statements (record { once = is.labels; apart = λ k c e. nowhere k c })) f.stands in
-    subst (λ (z : Nest). IsUnguarded z.body) (sym f.is) (in_block p.declarations (next f.loop.loop.before) f.loop.loop.loop.body (within_loop f.loop.loop.loop.variable proper.round) proper.body)
+    subst (λ (z : Nest). IsUnguarded z.body) (sym f.is) (in_block p.declarations (next_loop_number f.loop.loop.before) f.loop.loop.loop.body (within_loop f.loop.loop.loop.variable proper.round) proper.body)
 
 -- ---- with loops from 1 by 1
 
@@ -105,7 +106,7 @@ module _ (n : Nest) (ls : List NestedLoop) where
       by false true = tt
       by false false = ((tt, ((refl, tt), tt), tt), tt)
 
-  placed_unguarded : (round : List NormalLoop) (r : NormalLoop) (q : Part) → IsUnguarded q → AreUnguarded (parts (placed n ls round r q))
+  placed_unguarded : (round : List NormalLoop) (r : NormalLoop) (q : Part) → IsUnguarded q → AreUnguarded (parts (placed_loop n ls round r q))
   placed_unguarded round r q h = by (stands_behind (length n.symbols) ls n.body r.variable)
     where
       by : (b : Bool) → AreUnguarded (parts (cond b (q ∷ []) (parts_before n.symbols n.line round r ++ (q ∷ parts_behind n.symbols n.line round r))))
@@ -137,9 +138,9 @@ module _ (n : Nest) (ls : List NestedLoop) where
     branches_unguarded round no_branches h = tt
     branches_unguarded round (branch test ps bs) h = (parts_unguarded round ps h.0, branches_unguarded round bs h.1)
 
-pub found_nest_is_unguarded : FoundNestIsUnguarded
-found_nest_is_unguarded p n m is h made =
+pub found_nest_is_unguarded : (width : Width) → FoundNestIsUnguarded width
+found_nest_is_unguarded width p n m is h made =
     let f = found_nest_is_loop p n h in
     let z = made_of n m made in
-    let g : AreUnguarded (parts (m.body ∷ [])) = subst (λ ps. AreUnguarded (parts ps)) z.body (normal_unguarded n z.loops [] n.body (found_unguarded p n is f)) in
+    let g : AreUnguarded (parts (m.body ∷ [])) = subst (λ ps. AreUnguarded (parts ps)) z.body (normal_unguarded n z.loops [] n.body (found_unguarded width p n is f)) in
     g.0

@@ -29,10 +29,10 @@ use Rattle.pass_laws.specs.prepared_nests.Statements.{IsCanonical, IsOwn, IsPrep
 use Rattle.pass_laws.proofs.PreparedNests.Normal.TestTexts.{pair_stays}
 use Rattle.if_convert.specs.Converted.{around_loop, converted, converted_parts}
 use Rattle.if_convert.specs.Jumps.{jumps_in}
-use Rattle.if_convert.specs.Masks.{Asks, Clears, Kept, Leaves, Masking, Other, Question, Test, Turned, Unleft, all_parts_of, asked, first_half, mask, mask_name, none_left, none_of, parts_of, scalar, sets, under}
+use Rattle.if_convert.specs.Masks.{Asks, Clears, Kept, Leaves, Masking, Other, Question, Test, Turned, Unleft, all_parts_of, asked, first_half, mask, mask_name, none_left, none_of, masked_parts_of, mask_scalar, sets, under_mask}
 use Rattle.if_convert.specs.declared.points.Jumped.{Jumped}
 use Rattle.if_convert.specs.Points.{entered, unless_skipped}
-use Rattle.if_convert.specs.declared.points.Point.{Point}
+use Rattle.if_convert.specs.declared.points.MaskPoint.{MaskPoint}
 use Rattle.if_convert.proofs.BodyLaws.{parts-append}
 use Rattle.prepared_passes.specs.conversion.Places.{IsMask}
 use Rattle.prepared_passes.proofs.ConvertedNests.Few.{part_few}
@@ -136,13 +136,13 @@ module _ (es : List Declaration) (around : List (List ℕ)) (deepest k0 k1 : ℕ
 
   -- a mask is assigned
   set_is : (ls : List Loop) (counters : AreCounters ls) (g : Option ℕ) → InRange g → (i : ℕ) → k0 ≤ i → i < k1 → (e : Expression) → Flat es ls deepest e → IsSettled ls m.symbols counters e
-      → Is (record { loops = ls; statement = record { line = n.line; guard = option_map mask g; left = scalar (mask_name i); right = e } })
+      → Is (record { loops = ls; statement = record { line = n.line; guard = option_map mask g; left = mask_scalar (mask_name i); right = e } })
   set_is ls counters g u i a b e f settled = record { prepared = by g u; outside = not_around i }
     where
       own : All (IsOwn ls) (mask_name i ∷ [])
       own = (flat ls i a b).names
 
-      by : (g : Option ℕ) → InRange g → IsPreparedStatement es m deepest (record { loops = ls; statement = record { line = n.line; guard = option_map mask g; left = scalar (mask_name i); right = e } })
+      by : (g : Option ℕ) → InRange g → IsPreparedStatement es m deepest (record { loops = ls; statement = record { line = n.line; guard = option_map mask g; left = mask_scalar (mask_name i); right = e } })
       by None u = record {
         line = facts.line;
         plain = (tt, f.plain, tt);
@@ -171,7 +171,7 @@ module _ (es : List Declaration) (around : List (List ℕ)) (deepest k0 k1 : ℕ
       }
 
   -- a statement of the nest under a mask
-  kept_is : (ls : List Loop) (g : Option ℕ) → InRange g → AreCounters ls → (c : Guarded) → c.guard ≡ None → Was (record { loops = ls; statement = c }) → Is (record { loops = ls; statement = under g c })
+  kept_is : (ls : List Loop) (g : Option ℕ) → InRange g → AreCounters ls → (c : Guarded) → c.guard ≡ None → Was (record { loops = ls; statement = c }) → Is (record { loops = ls; statement = under_mask g c })
   kept_is ls g u counters c e h = by g u
     where
       was : IsPreparedStatement es n deepest (record { loops = ls; statement = c })
@@ -190,7 +190,7 @@ module _ (es : List Declaration) (around : List (List ℕ)) (deepest k0 k1 : ℕ
       bare : IsCanonical (variables_of_loops ls) m.symbols c
       bare = subst (λ ss. IsCanonical (variables_of_loops ls) ss c) (sym facts.symbols) was.canonical
 
-      by : (g : Option ℕ) → InRange g → Is (record { loops = ls; statement = under g c })
+      by : (g : Option ℕ) → InRange g → Is (record { loops = ls; statement = under_mask g c })
       by None u = record {
         prepared = record {
           line = was.line;
@@ -257,7 +257,7 @@ module _ (es : List Declaration) (around : List (List ℕ)) (deepest k0 k1 : ℕ
   run_walked ls g h = record { statements = All-cons Is (record { loops = ls; statement = g }) [] h (All-nil Is); same = refl; each = (tt, tt) }
 
   set_walked : (ls : List Loop) (counters : AreCounters ls) (g : Option ℕ) → InRange g → (i : ℕ) → k0 ≤ i → i < k1 → (e : Expression) → Flat es ls deepest e → IsSettled ls m.symbols counters e → Walked ls (sets n.line g i e ∷ []) []
-  set_walked ls counters g u i a b e f settled = run_walked ls (record { line = n.line; guard = option_map mask g; left = scalar (mask_name i); right = e }) (set_is ls counters g u i a b e f settled)
+  set_walked ls counters g u i a b e f settled = run_walked ls (record { line = n.line; guard = option_map mask g; left = mask_scalar (mask_name i); right = e }) (set_is ls counters g u i a b e f settled)
 
   used_range : (low mid : ℕ) (g : Option ℕ) → IsUsed k0 k1 low mid g → InRange g
   used_range low mid None u = tt
@@ -285,8 +285,8 @@ module _ (es : List Declaration) (around : List (List ℕ)) (deepest k0 k1 : ℕ
   abbrev Came : List Loop → Masking → Type 0
   Came ls x = Comes n.line k1 (Here ls Was (IsPreparedTest es n.symbols deepest)) (HereTest ls Was (IsPreparedTest es n.symbols deepest)) x
 
-  one_walked : (ls : List Loop) → AreCounters ls → (low mid : ℕ) (x : Masking) → IsSuited k0 k1 low mid x → Came ls x → Walked ls (parts_of n.line x) []
-  one_walked ls counters low mid (Kept g c) s h = run_walked ls (under g c) (kept_is ls g (used_range low mid g s.0) counters c s.1 h)
+  one_walked : (ls : List Loop) → AreCounters ls → (low mid : ℕ) (x : Masking) → IsSuited k0 k1 low mid x → Came ls x → Walked ls (masked_parts_of n.line x) []
+  one_walked ls counters low mid (Kept g c) s h = run_walked ls (under_mask g c) (kept_is ls g (used_range low mid g s.0) counters c s.1 h)
   one_walked ls counters low mid (Asks None i q) s h = set_walked ls counters None tt i s.1.0.0 s.1.0.1 (asked q) (asked_flat ls low mid q s.2 h) (asked_settled ls counters q h)
   one_walked ls counters low mid (Asks (Some k) i q) s h =
       both_walked ls (sets n.line None i (Logic false) ∷ []) (sets n.line (Some k) i (asked q) ∷ []) [] []
@@ -299,22 +299,22 @@ module _ (es : List Declaration) (around : List (List ℕ)) (deepest k0 k1 : ℕ
   list_walked : (ls : List Loop) → AreCounters ls → (low mid : ℕ) (xs : List Masking) → ((x : Masking) → In x xs → IsSuited k0 k1 low mid x) → ((x : Masking) → In x xs → Came ls x) → Walked ls (all_parts_of n.line xs) []
   list_walked ls counters low mid [] s h = none_walked ls
   list_walked ls counters low mid (x ∷ xs) s h =
-      both_walked ls (parts_of n.line x) (all_parts_of n.line xs) [] [] (one_walked ls counters low mid x (s x (inl refl)) (h x (inl refl)))
+      both_walked ls (masked_parts_of n.line x) (all_parts_of n.line xs) [] [] (one_walked ls counters low mid x (s x (inl refl)) (h x (inl refl)))
       (list_walked ls counters low mid xs (λ y i. s y (inr i)) (λ y i. h y (inr i)))
 
   -- ---- the body of a loop
 
   abbrev WalkGoes : Parts → Type 0
-  WalkGoes ps = (later : List ℕ) (ls : List Loop) (p : Point) → AllJumpAhead later ps → AreStraight ps → AreFree ps → AreCounters ls → All Was (statements_in_parts ls ps) → All (IsPreparedTest es n.symbols deepest) (tests_in_parts ls ps)
+  WalkGoes ps = (later : List ℕ) (ls : List Loop) (p : MaskPoint) → AllJumpAhead later ps → AreStraight ps → AreFree ps → AreCounters ls → All Was (statements_in_parts ls ps) → All (IsPreparedTest es n.symbols deepest) (tests_in_parts ls ps)
       → EachLoopIn (IsPreparedLoop es n.symbols) ls ps → IsTop k0 p → IsClean None p → Ahead (labels_ahead ps later) p.pending → length p.pending ≤ p.mask → (converted_parts n.line false None ps p).point.mask ≤ k1
       → Walked ls (all_parts_of n.line (converted_parts n.line false None ps p).made) (loops_in_parts ps)
 
   -- what is known at the point behind a part
-  record Behind (p : Point) : Type 0 where
+  record Behind (p : MaskPoint) : Type 0 where
     top : IsTop k0 p
     few : length p.pending ≤ p.mask
 
-  plain_walks : (q : Part) (ps : Parts) (ls : List Loop) (p : Point) → IsLoopless q → loops_of q ≡ [] → IsFree q → AreCounters ls → All Was (statements_in_parts ls (part q ps)) → All (IsPreparedTest es n.symbols deepest) (tests_in_parts ls (part q ps))
+  plain_walks : (q : Part) (ps : Parts) (ls : List Loop) (p : MaskPoint) → IsLoopless q → loops_of q ≡ [] → IsFree q → AreCounters ls → All Was (statements_in_parts ls (part q ps)) → All (IsPreparedTest es n.symbols deepest) (tests_in_parts ls (part q ps))
       → IsTop k0 p → length p.pending ≤ p.mask → (converted n.line false None q p).point.mask ≤ k1 → Walked ls (all_parts_of n.line (converted n.line false None q p).made) (loops_of q) × Behind (converted n.line false None q p).point
   plain_walks q ps ls p h none f cs ss ts top few bound =
       let c = converted n.line false None q p in
@@ -326,7 +326,7 @@ module _ (es : List Declaration) (around : List (List ℕ)) (deepest k0 k1 : ℕ
         record { top = next_top n.line k0 k1 p (jumps_in p.skips q) c top suits; few = part_few n.line q p few },
       )
 
-  loop_walks : (l : Loop) (qs : Parts) (p : Point) (ls : List Loop) → p.skips ≡ false → IsTop k0 p → length p.pending ≤ p.mask → IsPreparedLoop es n.symbols ls l → (converted n.line false None (Turns l qs) p).point.mask ≤ k1
+  loop_walks : (l : Loop) (qs : Parts) (p : MaskPoint) (ls : List Loop) → p.skips ≡ false → IsTop k0 p → length p.pending ≤ p.mask → IsPreparedLoop es n.symbols ls l → (converted n.line false None (Turns l qs) p).point.mask ≤ k1
       → ((converted_parts n.line false None qs (entered None p.mask p.mask)).point.mask ≤ k1 → Walked (ls ++ l ∷ []) (all_parts_of n.line (converted_parts n.line false None qs (entered None p.mask p.mask)).made) (loops_in_parts qs))
       → Walked ls (all_parts_of n.line (converted n.line false None (Turns l qs) p).made) (loops_of (Turns l qs)) × Behind (converted n.line false None (Turns l qs) p).point
   loop_walks l qs p ls e top few own bound inner = by p.skips e bound
@@ -370,7 +370,7 @@ module _ (es : List Declaration) (around : List (List ℕ)) (deepest k0 k1 : ℕ
         (part_clean n.line false None q p clean) (part_ahead n.line false None q (labels_ahead ps later) p j.0 ahead) first.1.few bound in
         subst (λ qs. Walked ls qs (loops_of q ++ loops_in_parts ps)) (sym (parts-append n.line c.made d.made)) (both_walked ls (all_parts_of n.line c.made) (all_parts_of n.line d.made) (loops_of q) (loops_in_parts ps) first.0 more)
 
-    part_walks : (q : Part) (ps : Parts) (later : List ℕ) (ls : List Loop) (p : Point) → AllJumpAhead later (part q ps) → AreStraight (part q ps) → AreFree (part q ps) → AreCounters ls → All Was (statements_in_parts ls (part q ps))
+    part_walks : (q : Part) (ps : Parts) (later : List ℕ) (ls : List Loop) (p : MaskPoint) → AllJumpAhead later (part q ps) → AreStraight (part q ps) → AreFree (part q ps) → AreCounters ls → All Was (statements_in_parts ls (part q ps))
         → All (IsPreparedTest es n.symbols deepest) (tests_in_parts ls (part q ps)) → EachLoopIn (IsPreparedLoop es n.symbols) ls (part q ps) → IsTop k0 p → IsClean None p → Ahead (labels_ahead (part q ps) later) p.pending → length p.pending ≤ p.mask
         → (converted n.line false None q p).point.mask ≤ k1 → Walked ls (all_parts_of n.line (converted n.line false None q p).made) (loops_of q) × Behind (converted n.line false None q p).point
     part_walks (Run g) ps later ls p j st fr cs ss ts ea top clean ahead few bound = plain_walks (Run g) ps ls p st.0 refl fr.0 cs ss ts top few bound

@@ -14,7 +14,7 @@ use Rattle.nest_steps.proofs.Acts.{Leads-then}
 use Rattle.pass_laws.specs.prepared_nests.Made.{AreOf64Bits}
 use Rattle.pass_laws.specs.prepared_nests.Nests.{IsPrepared}
 use Rattle.scalar_expand.specs.Endings.{AreSettled}
-use Rattle.scalar_expand.specs.Expanded.{expanded, last_values, with_arrays}
+use Rattle.scalar_expand.specs.Expanded.{expanded, last_values, with_made_arrays}
 use Rattle.scalar_expand.specs.Laws.{AreAlike, IsExpandable, IsKept, own_of}
 use Rattle.scalar_expand.specs.Numbers.{ends_of, limits_of, trip_at}
 use Rattle.scalar_expand.specs.Privates.{private_scalars}
@@ -36,11 +36,11 @@ does_block_then bits (statement c cs) b s = does_block_then bits cs b (does (seq
 -- ---- the whole nest
 
 after_is : (m : Nest) → (expanded m).after ≡ block_then m.after (block (last_values m.symbols m.line (own_of m)))
-unfolding with_arrays with_parts
+unfolding with_made_arrays with_parts
 after_is m = refl
 
 line_is : (m : Nest) → (expanded m).line ≡ m.line
-unfolding with_arrays with_parts
+unfolding with_made_arrays with_parts
 line_is m = refl
 
 module _ (bits : ℕ) (es : List Declaration) (around : List (List ℕ)) (deepest : ℕ) (m : Nest) (loop : Loop) (body : Parts) (values : ℕ → ℤ) (low : 31 ≤ bits)

@@ -8,9 +8,9 @@ use Rattle.nest_order.proofs.orders.Membership.{map-In}
 use Rattle.nest_order.specs.orders.Lists.{In}
 use Rattle.pass_laws.proofs.NormalFacts.FoundSymbols.{chosen}
 use Rattle.pass_laws.proofs.PreparedNests.Lists.{Contains-In, In-Contains}
-use Rattle.statement_passes.specs.Shifted.{with_symbol, with_symbols}
+use Rattle.statement_passes.specs.Shifted.{with_nest_symbol, with_nest_symbols}
 use Rattle.statement_passes.specs.Standings.{IsLoop}
-use Rattle.statement_passes.specs.Symbols.{place_of}
+use Rattle.statement_passes.specs.Symbols.{place_among}
 use Rattle.symbols_anew.specs.Found.{is_new, known_names, names_assigned, new_symbols}
 use Rattle.symbols_anew.specs.Nests.{each_canonised, with_new, with_symbols_found, with_texts}
 use Rattle.prepared_passes.proofs.SymbolsAnew.Comes.{loop_stays, symbols_are}
@@ -22,15 +22,15 @@ use Rattle.tree.specs.Plain.{Declaration}
 -- ---- what stays, whatever nest it was made of
 
 symbols_rest : (n : Nest) (xs : List (List ℕ))
-    → with_symbols n xs ≡ record n { symbols = (with_symbols n xs).symbols; body = (with_symbols n xs).body }
+    → with_nest_symbols n xs ≡ record n { symbols = (with_nest_symbols n xs).symbols; body = (with_nest_symbols n xs).body }
 symbols_rest n [] = refl
-symbols_rest n (x ∷ xs) = symbols_rest (with_symbol n x) xs
+symbols_rest n (x ∷ xs) = symbols_rest (with_nest_symbol n x) xs
 
 new_rest : (n : Nest) (xs : List (List ℕ))
     → with_new n xs ≡ record n { symbols = (with_new n xs).symbols; body = (with_new n xs).body }
 new_rest n [] = refl
 new_rest n (x ∷ xs) =
-    ap (λ (k : Nest). record k { body = (with_texts (with_symbols n (x ∷ xs))).body }) (symbols_rest n (x ∷ xs))
+    ap (λ (k : Nest). record k { body = (with_texts (with_nest_symbols n (x ∷ xs))).body }) (symbols_rest n (x ∷ xs))
 
 -- all but its symbols and its body
 pub rest_anew : (m j k : Nest) → k ≡ with_symbols_found m j → k ≡ record j { symbols = k.symbols; body = k.body }
@@ -42,14 +42,14 @@ pub masks_anew : (m j k : Nest) → k ≡ with_symbols_found m j → k.masks ≡
 masks_anew m j k anew = ap (λ (z : Nest). z.masks) (rest_anew m j k anew)
 
 -- a loop stays one
-symbols_loop : (n : Nest) (xs : List (List ℕ)) → IsLoop n.body → IsLoop (with_symbols n xs).body
+symbols_loop : (n : Nest) (xs : List (List ℕ)) → IsLoop n.body → IsLoop (with_nest_symbols n xs).body
 symbols_loop n [] h = h
-symbols_loop n (x ∷ xs) h = symbols_loop (with_symbol n x) xs (loop_stays (place_of n.symbols x) n.body h)
+symbols_loop n (x ∷ xs) h = symbols_loop (with_nest_symbol n x) xs (loop_stays (place_among n.symbols x) n.body h)
 
 new_loop : (n : Nest) (xs : List (List ℕ)) → IsLoop n.body → IsLoop (with_new n xs).body
 new_loop n [] h = h
 new_loop n (x ∷ xs) h =
-    let m = with_symbols n (x ∷ xs) in mapped_loop (each_canonised m.symbols) m.body (symbols_loop n (x ∷ xs) h)
+    let m = with_nest_symbols n (x ∷ xs) in mapped_loop (each_canonised m.symbols) m.body (symbols_loop n (x ∷ xs) h)
 
 pub loop_anew : (m j k : Nest) → k ≡ with_symbols_found m j → IsLoop j.body → IsLoop k.body
 unfolding with_symbols_found

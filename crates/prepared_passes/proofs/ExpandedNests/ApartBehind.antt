@@ -12,6 +12,7 @@ use Rattle.if_convert.specs.Converted.{converted_nest}
 use Rattle.if_convert.specs.Masks.{mask_name}
 use Rattle.meaning.specs.Blocks.{Surroundings}
 use Rattle.meaning.specs.Dialect.{fortran77}
+use Rattle.tree.specs.declared.width.Width.{Width}
 use Rattle.meaning.specs.Profile77.{IsProgram77, IsStatement}
 use Rattle.meaning.specs.Reads.{names_in_block}
 use Rattle.meaning.specs.Typed.{declared}
@@ -48,7 +49,7 @@ use Rattle.prepared_passes.specs.substitution.Behind.{IsApartBehind}
 use Rattle.prepared_passes.specs.symbols.Same.{IsSameButText}
 use Rattle.prepared_passes.specs.symbols.Sources.{IsOfSource}
 
-module _ (p : Program) (n m j : Nest) (ds es : List Declaration) (masks : ℕ) (w : Surroundings) (found_nest : IsFoundNest p n) (is : IsProgram77 fortran77 p)
+module _ (width : Width) (p : Program) (n m j : Nest) (ds es : List Declaration) (masks : ℕ) (w : Surroundings) (found_nest : IsFoundNest p n) (is : IsProgram77 (fortran77 width) p)
     (among : Contains (found_in p) (InNest n)) (made : normalised n ≡ Some m) (converted : converted_nest masks m ≡ Some j) (few : j.masks ≤ 2 ^ 32)
     (add : AddMadeNames p.declarations ds) (none : (i : ℕ) → declared ds (mask_name i) ≡ None)
     (counters : All (λ (l : Loop). IsSomeAnd (declared ds l.variable) IsCounter) (nest_loops m)) (more : AddMadeNames p.declarations es)
@@ -58,10 +59,10 @@ module _ (p : Program) (n m j : Nest) (ds es : List Declaration) (masks : ℕ) (
   -- ---- the nest with its symbols found anew
 
   pub masked_prepared : IsPrepared es w.variables normal_depth j
-  masked_prepared = converted_prepared p n m j ds es masks w found_nest is among made converted few add none counters more marks counted number round stated
+  masked_prepared = converted_prepared width p n m j ds es masks w found_nest is among made converted few add none counters more marks counted number round stated
 
   masked_source : IsOfSource es j
-  masked_source = found_nest_is_of_source p n m j es masks is among made converted more
+  masked_source = found_nest_is_of_source width p n m j es masks is among made converted more
 
   abbrev pub a : Nest
   a = with_symbols_found m j
@@ -80,7 +81,7 @@ module _ (p : Program) (n m j : Nest) (ds es : List Declaration) (masks : ℕ) (
       let o = In-map (λ (x : Standing). x.statement.left.name) y (nest_statements (with_symbols_found m j)) i in
       subst (λ x. In x (names_assigned j)) (sym o.is) (same_but_text.assigned o.it o.inside)
 
-  made_from : IsMadeFrom p n m j ds es masks w found_nest is among made converted few add none counters more marks counted number round stated (with_symbols_found m j)
+  made_from : IsMadeFrom width p n m j ds es masks w found_nest is among made converted few add none counters more marks counted number round stated (with_symbols_found m j)
   made_from = record {
     assigned = λ x i s. same_but_text.assigned x i;
     kept = same_but_text.kept;
@@ -101,21 +102,21 @@ module _ (p : Program) (n m j : Nest) (ds es : List Declaration) (masks : ℕ) (
 
   symbol_apart : (y : List ℕ) → In y (with_symbols_found m j).symbols → IsApart y
   symbol_apart y i k =
-      let d = named_by es w.variables (normal_depth + 18) a anew_prepared anew_source y k in
-      no_symbol es w.variables (normal_depth + 18) a anew_prepared anew_source d.0 d.1 (subst (λ x. In x a.symbols) d.2 i)
+      let d = named_by width es w.variables (normal_depth + 18) a anew_prepared anew_source y k in
+      no_symbol width es w.variables (normal_depth + 18) a anew_prepared anew_source d.0 d.1 (subst (λ x. In x a.symbols) d.2 i)
 
   unwritten_apart : (y : List ℕ) → ¬ In y (names_assigned j) → IsApart y
   unwritten_apart y f k =
-      let d = named_by es w.variables (normal_depth + 18) a anew_prepared anew_source y k in
+      let d = named_by width es w.variables (normal_depth + 18) a anew_prepared anew_source y k in
       f (subst (λ x. In x (names_assigned j)) (sym d.2)
-      (assigned_before d.0.name (is_written es w.variables (normal_depth + 18) a anew_prepared anew_source d.0 d.1)))
+      (assigned_before d.0.name (is_written width es w.variables (normal_depth + 18) a anew_prepared anew_source d.0 d.1)))
 
   free : AreFree IsApart MayBeGiven j.after
   free =
-      free_by p n m j ds es masks w found_nest is among made converted few add none counters more marks counted number round stated IsApart MayBeGiven
+      free_by width p n m j ds es masks w found_nest is among made converted few add none counters more marks counted number round stated IsApart MayBeGiven
       (λ y i. symbol_apart y (same_but_text.kept y i))
-      (λ l i e. (let apart = unwritten_apart l.turns.variable (not_assigned p n m j ds es masks w found_nest is among made converted few add none counters more marks counted number round stated l i e) in
-      (apart, λ right. (apart, none_of_symbols p n m j ds es masks w found_nest is among made converted few add none counters more marks counted number round stated a made_from l i e))))
+      (λ l i e. (let apart = unwritten_apart l.turns.variable (not_assigned width p n m j ds es masks w found_nest is among made converted few add none counters more marks counted number round stated l i e) in
+      (apart, λ right. (apart, none_of_symbols width p n m j ds es masks w found_nest is among made converted few add none counters more marks counted number round stated a made_from l i e))))
 
   pub behind_is : (with_symbols_found m j).after ≡ j.after
   behind_is = ap (λ (z : Nest). z.after) (rest_anew m j (with_symbols_found m j) refl)
@@ -134,6 +135,6 @@ module _ (p : Program) (n m j : Nest) (ds es : List Declaration) (masks : ℕ) (
             (λ u i e c. (all_given IsApart MayBeGiven a.after b u i e).1.1 (Contains-In u.name a.symbols c)));
       }
 
-pub found_nest_is_apart_behind : FoundNestIsApartBehind
-found_nest_is_apart_behind p n m j ds es masks w found_nest is among made converted few add none counters more marks counted number round stated =
-    apart_behind p n m j ds es masks w found_nest is among made converted few add none counters more marks counted number round stated
+pub found_nest_is_apart_behind : (width : Width) → FoundNestIsApartBehind width
+found_nest_is_apart_behind width p n m j ds es masks w found_nest is among made converted few add none counters more marks counted number round stated =
+    apart_behind width p n m j ds es masks w found_nest is among made converted few add none counters more marks counted number round stated

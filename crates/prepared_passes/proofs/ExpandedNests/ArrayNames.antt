@@ -6,7 +6,7 @@ use Rattle.nest_order.specs.orders.Lists.{In}
 use Rattle.pass_laws.proofs.NormalFacts.MadeStatements.{counter_same}
 use Rattle.pass_laws.proofs.PreparedNests.Lists.{In-Contains, within_32}
 use Rattle.tree.specs.Names.{IsSourceName}
-use Rattle.scalar_expand.specs.Privates.{array_name, number_behind}
+use Rattle.scalar_expand.specs.Privates.{expanded_name, number_behind}
 use Rattle.prepared_passes.specs.expansion.Found.{ArrayNamesAreApart}
 use Rattle.prepared_passes.proofs.ExpandedNests.Names.{front_cancelled, source_is}
 
@@ -49,7 +49,7 @@ one_number i j low high e = by (i == 1) (j == 1) refl refl e
         let same : decimal i ≡ decimal j = front_cancelled (codes "_") (decimal i) (decimal j) h in
         counter_same i j low high (ap (λ (ds : List ℕ). codes "FV_LOOP_" ++ ds) same)
 
-full_name : (n : ℕ) (x : List ℕ) → IsSourceName x → array_name n x ≡ (codes "FV_EXP_" ++ x) ++ number_behind n
+full_name : (n : ℕ) (x : List ℕ) → IsSourceName x → expanded_name n x ≡ (codes "FV_EXP_" ++ x) ++ number_behind n
 full_name n x s = ap (λ b. cond b ((codes "FV_EXP_" ++ x) ++ number_behind n) x) (source_is x s)
 
 behind_front : (n : ℕ) (x : List ℕ) → (codes "FV_EXP_" ++ x) ++ number_behind n ≡ codes "FV_EXP_" ++ (x ++ number_behind n)

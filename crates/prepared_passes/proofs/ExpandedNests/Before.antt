@@ -12,6 +12,7 @@ use Rattle.tree.specs.declared.ops.Value.{Value}
 use Rattle.tree.specs.declared.ops.Value.TheVariants.{Int}
 use Rattle.linear_forms.specs.Laws.{HoldsSized}
 use Rattle.meaning.specs.Dialect.{fortran77}
+use Rattle.tree.specs.declared.width.Width.{Width}
 use Rattle.meaning.specs.Holding.{HasBounds, HoldsProgram, IsStorable}
 use Rattle.meaning.specs.Store.{Agree, Cell, Store, nought, nought_like}
 use Rattle.meaning.specs.Typed.{declared}
@@ -31,6 +32,8 @@ use Rattle.prepared_passes.specs.expansion.Laws.{value_among}
 use Rattle.prepared_passes.specs.expansion.Places.{IsExpandedInPlaces}
 use Rattle.prepared_passes.proofs.ExpandedNests.MadeArrays.{made_are, made_of, made_or_not, name_in, named_in, stays_made, symbols_are}
 use Rattle.prepared_passes.proofs.ExpandedNests.Names.{found_kind, start}
+use Rattle.tree.specs.Widths.{bits_of}
+use Rattle.meaning.proofs.Widths.{in_range_more, narrowest}
 
 -- ---- the store
 
@@ -64,16 +67,16 @@ same_holding None w k b f g h = tt
 same_holding (Some d) None k b f g h = absurd g
 same_holding (Some d) (Some e) k b f g h = subst (λ (x : Extent). HasBounds x b) (g.1 ∙ sym f.1) h
 
-same_storable : (o w : Option Declaration) (k : Kind) (v : Value)
+same_storable : (width : Width) (o w : Option Declaration) (k : Kind) (v : Value)
     → IsSomeAnd o (λ (d : Declaration). (d.kind ≡ k) × IsGivenScalar d) → IsSomeAnd w (λ (d : Declaration). (d.kind ≡ k) × IsGivenScalar d)
-    → IfSome w (λ (d : Declaration). IsStorable fortran77 d.kind v) → IfSome o (λ (d : Declaration). IsStorable fortran77 d.kind v)
-same_storable None w k v f g h = tt
-same_storable (Some d) None k v f g h = absurd g
-same_storable (Some d) (Some e) k v f g h = subst (λ (x : Kind). IsStorable fortran77 x v) (g.0 ∙ sym f.0) h
+    → IfSome w (λ (d : Declaration). IsStorable (fortran77 width) d.kind v) → IfSome o (λ (d : Declaration). IsStorable (fortran77 width) d.kind v)
+same_storable width None w k v f g h = tt
+same_storable width (Some d) None k v f g h = absurd g
+same_storable width (Some d) (Some e) k v f g h = subst (λ (x : Kind). IsStorable (fortran77 width) x v) (g.0 ∙ sym f.0) h
 
-nought_kind : (k : Kind) → IsStorable fortran77 k (nought k)
-nought_kind Integer = record { kind = refl; within = refl }
-nought_kind Logical = record { kind = refl; within = refl }
+nought_kind : (width : Width) (k : Kind) → IsStorable (fortran77 width) k (nought k)
+nought_kind width Integer = record { kind = refl; within = in_range_more 31 (bits_of width) (narrowest width) (Int (pos 0)) refl }
+nought_kind width Logical = record { kind = refl; within = refl }
 
 nought_sized : (k : Kind) (z : ℤ) → nought k ≡ Int z → nat_abs z ≤ 2 ^ 63
 nought_sized Integer z e =
@@ -119,7 +122,7 @@ has_place (y ∷ ys) j v x i = by (bytes_eq y x) refl i (λ k. has_place ys (suc
 
 -- ---- what both places have
 
-module _ (p b a : Program) (around : List (List ℕ)) (deepest deeper : ℕ) (m : Nest) (x : IsExpandedInPlaces p b a around deepest deeper m) where
+module _ (width : Width) (p b a : Program) (around : List (List ℕ)) (deepest deeper : ℕ) (m : Nest) (x : IsExpandedInPlaces p b a around deepest deeper m) where
   abbrev ps : List Private
   ps = private_scalars m
 
@@ -210,22 +213,22 @@ module _ (p b a : Program) (around : List (List ℕ)) (deepest deeper : ℕ) (m 
 
   -- ---- what a store holds
 
-  module _ (s : Store) (holds : HoldsProgram fortran77 a s) (sized : HoldsSized s) where
+  module _ (s : Store) (holds : HoldsProgram (fortran77 width) a s) (sized : HoldsSized s) where
     module _ (y : List ℕ) where
       abbrev Fine : Option (List (ℤ × ℤ)) → Type 0
       Fine o = IfSome (declared b.declarations y) (λ (d : Declaration). HasBounds d.extent o)
 
       abbrev FineValue : Value → Type 0
-      FineValue v = IfSome (declared b.declarations y) (λ (d : Declaration). IsStorable fortran77 d.kind v)
+      FineValue v = IfSome (declared b.declarations y) (λ (d : Declaration). IsStorable (fortran77 width) d.kind v)
 
       -- what a declares alike
       alike_fine : ¬ Contains (made_names m) y → Fine (s.bounds y) × ((c : Cell) → c.name ≡ y → FineValue (s.held c))
       alike_fine none = (
         if_some (declared b.declarations y) (λ (d : Declaration). HasBounds d.extent (s.bounds y))
             (λ d e. some_if (declared a.declarations y) d (λ (d : Declaration). HasBounds d.extent (s.bounds y)) (kept y d e none) (holds.bounds y)),
-        λ c n. if_some (declared b.declarations y) (λ (d : Declaration). IsStorable fortran77 d.kind (s.held c))
-            (λ d e. some_if (declared a.declarations y) d (λ (d : Declaration). IsStorable fortran77 d.kind (s.held c)) (kept y d e none)
-            (subst (λ z. IfSome (declared a.declarations z) (λ (d : Declaration). IsStorable fortran77 d.kind (s.held c))) n (holds.kinds c))),
+        λ c n. if_some (declared b.declarations y) (λ (d : Declaration). IsStorable (fortran77 width) d.kind (s.held c))
+            (λ d e. some_if (declared a.declarations y) d (λ (d : Declaration). IsStorable (fortran77 width) d.kind (s.held c)) (kept y d e none)
+            (subst (λ z. IfSome (declared a.declarations z) (λ (d : Declaration). IsStorable (fortran77 width) d.kind (s.held c))) n (holds.kinds c))),
       )
 
       -- what was made, and stays a scalar
@@ -236,8 +239,8 @@ module _ (p b a : Program) (around : List (List ℕ)) (deepest deeper : ℕ) (m 
           let there = subst (λ z. IsSomeAnd (declared a.declarations z) (λ (d : Declaration). (d.kind ≡ c.kind) × IsGivenScalar d)) is
           (made_scalar_there c i (ap (named_private (private_scalars m)) is ∙ none)) in (
             same_holding (declared b.declarations y) (declared a.declarations y) c.kind (s.bounds y) here there (holds.bounds y),
-            λ d n. same_storable (declared b.declarations y) (declared a.declarations y) c.kind (s.held d) here there
-                (subst (λ z. IfSome (declared a.declarations z) (λ (e : Declaration). IsStorable fortran77 e.kind (s.held d))) n (holds.kinds d)),
+            λ d n. same_storable width (declared b.declarations y) (declared a.declarations y) c.kind (s.held d) here there
+                (subst (λ z. IfSome (declared a.declarations z) (λ (e : Declaration). IsStorable (fortran77 width) e.kind (s.held d))) n (holds.kinds d)),
           )
 
       unchanged : (named_private (private_scalars m) y ≡ None) ⊎ ¬ Contains (made_names m) y
@@ -259,11 +262,11 @@ module _ (p b a : Program) (around : List (List ℕ)) (deepest deeper : ℕ) (m 
           of_scalar (declared b.declarations y) q.kind c.0.kind c.3 here
         where
           of_scalar : (o : Option Declaration) (j k : Kind) → k ≡ j → IsSomeAnd o (λ (d : Declaration). (d.kind ≡ k) × IsGivenScalar d)
-              → IfSome o (λ (d : Declaration). HasBounds d.extent (Some [])) × IfSome o (λ (d : Declaration). IsStorable fortran77 d.kind (nought j))
+              → IfSome o (λ (d : Declaration). HasBounds d.extent (Some [])) × IfSome o (λ (d : Declaration). IsStorable (fortran77 width) d.kind (nought j))
           of_scalar None j k e h = absurd h
           of_scalar (Some d) j k e h = (
             subst (λ (f : Extent). HasBounds f (Some [])) (sym h.1) refl,
-            subst (λ (l : Kind). IsStorable fortran77 l (nought j)) (sym e ∙ sym h.0) (nought_kind j),
+            subst (λ (l : Kind). IsStorable (fortran77 width) l (nought j)) (sym e ∙ sym h.0) (nought_kind width j),
           )
 
       both : Fine ((earlier m s).bounds y) × ((c : Cell) → c.name ≡ y → FineValue ((earlier m s).held c))
@@ -292,7 +295,7 @@ module _ (p b a : Program) (around : List (List ℕ)) (deepest deeper : ℕ) (m 
                     (subst (λ (w : Option Declaration). FineValue (value_or (Some q) w (s.held c))) (sym f) g.1)),
               )
 
-    pub holds_before : HoldsProgram fortran77 b (earlier m s)
+    pub holds_before : HoldsProgram (fortran77 width) b (earlier m s)
     holds_before = record { bounds = λ y. (both y).0; kinds = λ c. (both c.name).1 c refl }
 
     pub sized_before : HoldsSized (earlier m s)

@@ -14,6 +14,7 @@ use Rattle.linear_forms.specs.Expressed.{variable}
 use Rattle.linear_forms.specs.Laws.{HoldsSized}
 use Rattle.linear_forms.specs.Linear.{HaveValues}
 use Rattle.meaning.specs.Dialect.{fortran77}
+use Rattle.tree.specs.declared.width.Width.{Width}
 use Rattle.meaning.specs.Holding.{HasBounds}
 use Rattle.meaning.specs.Run.{State}
 use Rattle.meaning.specs.Store.{Cell, Store, cell_in}
@@ -58,6 +59,7 @@ use Rattle.prepared_passes.proofs.ExpandedNests.MadeArrays.{made_are, mask_made,
 use Rattle.prepared_passes.proofs.ExpandedNests.Names.{declared_in, is_scalar, named_is}
 use Rattle.prepared_passes.proofs.ExpandedNests.Sizes.{AllKnown, extents_known}
 use Rattle.prepared_passes.proofs.ExpandedNests.Trips.{symbol_values}
+use Rattle.tree.specs.Widths.{bits_of}
 
 -- ---- lists of texts
 
@@ -68,17 +70,17 @@ map_onto f (x ∷ xs) ys = map_onto f xs (x ∷ ys)
 pub map_reverse : {A B : Type 0} (f : A → B) (xs : List A) → map f (reverse xs) ≡ reverse (map f xs)
 map_reverse f xs = map_onto f xs []
 
-module _ (u : Store) where
-  pub tell_onto : (es : List Expression) (zs : List ℤ) (fs : List Expression) (ys : List ℤ) → Tell fortran77 u es zs → Tell fortran77 u fs ys
-      → Tell fortran77 u (reverse_aux es fs) (reverse_aux zs ys)
+module _ (width : Width) (u : Store) where
+  pub tell_onto : (es : List Expression) (zs : List ℤ) (fs : List Expression) (ys : List ℤ) → Tell (fortran77 width) u es zs → Tell (fortran77 width) u fs ys
+      → Tell (fortran77 width) u (reverse_aux es fs) (reverse_aux zs ys)
   tell_onto [] [] fs ys h k = k
   tell_onto [] (z ∷ zs) fs ys h k = absurd h
   tell_onto (e ∷ es) [] fs ys h k = absurd h
   tell_onto (e ∷ es) (z ∷ zs) fs ys h k = tell_onto es zs (e ∷ fs) (z ∷ ys) h.1 (h.0, k)
 
-  number_said : (e : Expression) (y z : ℤ) → Says fortran77 u e z → number_of fortran77 e u ≡ Ok y → y ≡ z
+  number_said : (e : Expression) (y z : ℤ) → Says (fortran77 width) u e z → number_of (fortran77 width) e u ≡ Ok y → y ≡ z
   number_said e y z h f =
-      let p = both_ok (value_of fortran77 e u) as_number y f in
+      let p = both_ok (value_of (fortran77 width) e u) as_number y f in
       same (subst (λ (v : Value). as_number v ≡ Ok y) (h p.0 p.1) p.2)
     where
       same : ◌≡◌ {A = Result ℤ Fault} (Ok z) (Ok y) → y ≡ z
@@ -87,7 +89,7 @@ module _ (u : Store) where
   -- bounds from 1 to numbers are those to the numbers that the texts have
   pub bounds_said : (symbols : List (List ℕ)) (values : ℕ → ℤ) → HaveValues symbols u (facts.values_from values 0 symbols)
       → (n : ℕ) (v : ℕ → ℤ) (es : List Expression) (zs : List ℤ) (bs : List (ℤ × ℤ))
-      → AreBoundsBy symbols values es bs → Tell fortran77 u es zs → bs ≡ map (from_place n v (pos 1)) zs
+      → AreBoundsBy symbols values es bs → Tell (fortran77 width) u es zs → bs ≡ map (from_place n v (pos 1)) zs
   bounds_said symbols values have n v [] [] [] h k = refl
   bounds_said symbols values have n v [] [] (c ∷ bs) h k = absurd h
   bounds_said symbols values have n v [] (z ∷ zs) bs h k = absurd k
@@ -95,7 +97,7 @@ module _ (u : Store) where
   bounds_said symbols values have n v (e ∷ es) (z ∷ zs) [] h k = absurd h
   bounds_said symbols values have n v (e ∷ es) (z ∷ zs) ((l, y) ∷ bs) h k =
       ap₂ (λ (c : ℤ × ℤ) (cs : List (ℤ × ℤ)). c ∷ cs)
-      (ap₂ (λ (i j : ℤ). (let c : ℤ × ℤ = (i, j) in c)) h.0 (number_said e y z k.0 (h.1 fortran77 u have)))
+      (ap₂ (λ (i j : ℤ). (let c : ℤ × ℤ = (i, j) in c)) h.0 (number_said e y z k.0 (h.1 (fortran77 width) u have)))
       (bounds_said symbols values have n v es zs bs h.2 k.1)
 
 -- ---- places of symbols
@@ -121,8 +123,8 @@ at_most (Some y) z = z
 
 -- ---- at the beginning
 
-module _ (p b a : Program) (around : List (List ℕ)) (deepest deeper : ℕ) (m : Nest) (x : IsExpandedInPlaces p b a around deepest deeper m)
-    (u : State) (may : MayRun a (expanded m) u) (sized : HoldsSized u.store) where
+module _ (width : Width) (p b a : Program) (around : List (List ℕ)) (deepest deeper : ℕ) (m : Nest) (x : IsExpandedInPlaces p b a around deepest deeper m)
+    (u : State) (may : MayRun width a (expanded m) u) (sized : HoldsSized u.store) where
   abbrev pub values : ℕ → ℤ
   values = values_in m.symbols u.store
 
@@ -135,7 +137,7 @@ module _ (p b a : Program) (around : List (List ℕ)) (deepest deeper : ℕ) (m 
   symbol y i = all_in (IsPreparedSymbol b.declarations) m.symbols x.before.parts.symbols y i
 
   pub symbol_kept : (y : List ℕ) → In y m.symbols → ((earlier m u.store).bounds y ≡ u.store.bounds y) × ((c : Cell) → c.name ≡ y → (earlier m u.store).held c ≡ u.store.held c)
-  symbol_kept y i = stays p b a around deepest deeper m x y (not_made p b a around deepest deeper m x y (symbol y i).name) u.store
+  symbol_kept y i = stays width p b a around deepest deeper m x y (not_made width p b a around deepest deeper m x y (symbol y i).name) u.store
 
   number_there : (y : List ℕ) → In y m.symbols → IsNumber a.declarations y
   number_there y i =
@@ -143,14 +145,14 @@ module _ (p b a : Program) (around : List (List ℕ)) (deepest deeper : ℕ) (m 
       let d = some_of IsCounter (declared b.declarations y) s.scalar in
       record {
         declaration = d.value;
-        is = kept p b a around deepest deeper m x y d.value d.is (not_made p b a around deepest deeper m x y s.name);
+        is = kept width p b a around deepest deeper m x y d.value d.is (not_made width p b a around deepest deeper m x y s.name);
         kind = d.has.kind;
         extent = d.has.scalar;
       }
 
   pub number_at : (k : ℕ) (y : List ℕ) → nth_of m.symbols k ≡ Some y → HoldsNumber u.store y (values k)
   number_at k y e =
-      value_there m.symbols u.store k y e (holds_number fortran77 a u.store y may.holds (number_there y (in_place m.symbols k y e)))
+      value_there m.symbols u.store k y e (holds_number (fortran77 width) a u.store y may.holds (number_there y (in_place m.symbols k y e)))
 
   pub fixed : (v : ℕ → ℤ) → ((k : ℕ) (y : List ℕ) → nth_of m.symbols k ≡ Some y → u.store.held (variable_cell y) ≡ Int (v k))
       → (y : List ℕ) → In y m.symbols → (u.store.bounds y ≡ Some []) × (u.store.held (cell_of y) ≡ Int (value_among m.symbols 0 v y))
@@ -183,13 +185,13 @@ module _ (p b a : Program) (around : List (List ℕ)) (deepest deeper : ℕ) (m 
                 → In (array_of m.symbols q) (made_before m.symbols (private_scalars m) m.made ++ made_now m.symbols (private_scalars m))
             one (Some d) f = absurd (mask_no_source q.name e (x.may.source q.name d f))
             one None f =
-                let c = made_private p b a around deepest deeper m x q i f in
+                let c = made_private width p b a around deepest deeper m x q i f in
                 In-left (array_of m.symbols q) (made_before m.symbols (private_scalars m) m.made) (made_now m.symbols (private_scalars m))
                 (mask_made m.symbols (private_scalars m) m.made c.0 q c.1 (ap is_mask c.2 ∙ e)
                 (ap (named_private (private_scalars m)) c.2 ∙ named_is b.declarations around deepest m x.before x.may q i))
 
     pub array_prepared : IsPreparedMade a.declarations m.symbols deeper (array_of m.symbols q)
-    array_prepared = made_there p b a around deepest deeper m x (array_of m.symbols q) made_array
+    array_prepared = made_there width p b a around deepest deeper m x (array_of m.symbols q) made_array
 
     few : length q.extents ≤ 7
     few =
@@ -206,16 +208,16 @@ module _ (p b a : Program) (around : List (List ℕ)) (deepest deeper : ℕ) (m 
         let e = extents_found (length m.symbols) v (trips_of (map round_loop f.standing.loops)) q.extents s.1.extents in
         extents_known (length m.symbols) [] (trips_of (map round_loop f.standing.loops)) q.extents e.divisors e.under tt
 
-    said : (k : ℕ) (y : List ℕ) → slice_get m.symbols k ≡ Some y → Says fortran77 u.store (variable y) (at_most (slice_get m.symbols k) (v k))
+    said : (k : ℕ) (y : List ℕ) → slice_get m.symbols k ≡ Some y → Says (fortran77 width) u.store (variable y) (at_most (slice_get m.symbols k) (v k))
     said k y e r f =
         let n = number_at k y (place_of m.symbols k y e) in
-        let there : value_of fortran77 (variable y) u.store ≡ Ok (Int (v k))
+        let there : value_of (fortran77 width) (variable y) u.store ≡ Ok (Int (v k))
         = ap (λ (o : Option (List (ℤ × ℤ))). do c ← cell_in o y []; Ok (u.store.held c)) n.bounds ∙ ap (λ (w : Value). let r : Result Value Fault = Ok w in r) (valued k y (place_of m.symbols k y e)) in
         sym (ok_same {F = Fault} (Int (v k)) r (sym there ∙ f)) ∙ ap (λ (o : Option (List ℕ)). Int (at_most o (v k))) (sym e)
 
-    told : Tell fortran77 u.store (extent_texts m.symbols q.extents) (numbers_under (length m.symbols) v [] q.extents)
+    told : Tell (fortran77 width) u.store (extent_texts m.symbols q.extents) (numbers_under (length m.symbols) v [] q.extents)
     told =
-        texts_tell fortran77 u.store m.symbols (λ k. at_most (slice_get m.symbols k) (v k)) said
+        texts_tell (fortran77 width) u.store m.symbols (λ k. at_most (slice_get m.symbols k) (v k)) said
         (λ k e. ap (λ (o : Option (List ℕ)). at_most o (v k)) e) v there q.extents [] [] known tt (let most = few in omega (arith, most))
       where
         there : (k : ℕ) → k < length m.symbols → at_most (slice_get m.symbols k) (v k) ≡ v k
@@ -236,10 +238,10 @@ module _ (p b a : Program) (around : List (List ℕ)) (deepest deeper : ℕ) (m 
         by h =
             h.is
             ∙ ap (λ (bs : List (ℤ × ℤ)). Some bs)
-            (bounds_said u.store m.symbols may.values (have_values may.values may_valued) (length m.symbols) v
+            (bounds_said width u.store m.symbols may.values (have_values may.values may_valued) (length m.symbols) v
             (reverse (extent_texts m.symbols q.extents)) (reverse (numbers_under (length m.symbols) v [] q.extents)) h.value
             (subst (λ (ss : List (List ℕ)). AreBoundsBy ss may.values (reverse (extent_texts m.symbols q.extents)) h.value) (symbols_are m) h.has)
-            (tell_onto u.store (extent_texts m.symbols q.extents) (numbers_under (length m.symbols) v [] q.extents) [] [] told tt)
+            (tell_onto width u.store (extent_texts m.symbols q.extents) (numbers_under (length m.symbols) v [] q.extents) [] [] told tt)
             ∙ map_reverse (from_place (length m.symbols) v (pos 1)) (numbers_under (length m.symbols) v [] q.extents))
 
   -- ---- counters
@@ -257,7 +259,7 @@ module _ (p b a : Program) (around : List (List ℕ)) (deepest deeper : ℕ) (m 
   private_bounds z q i is =
       by (declared b.declarations z)
       (subst (λ y. IsSomeAnd (declared b.declarations y) (λ (d : Declaration). d.extent ≡ Given [])) is (is_scalar b.declarations around deepest m x.before x.may q i))
-      ((holds_before p b a around deepest deeper m x u.store may.holds sized).bounds z)
+      ((holds_before width p b a around deepest deeper m x u.store may.holds sized).bounds z)
     where
       by : (o : Option Declaration) → IsSomeAnd o (λ (d : Declaration). d.extent ≡ Given [])
           → IfSome o (λ (d : Declaration). HasBounds d.extent ((earlier m u.store).bounds z)) → (earlier m u.store).bounds z ≡ Some []
@@ -268,22 +270,22 @@ module _ (p b a : Program) (around : List (List ℕ)) (deepest deeper : ℕ) (m 
       × ((c : Cell) → c.name ≡ q.name → (earlier m u.store).held c ≡ u.store.held c)
   own_kept q j =
       let d = declared_in b.declarations around deepest m x.before x.may m.declarations q j in
-      stays p b a around deepest deeper m x q.name (not_made p b a around deepest deeper m x q.name (x.may.source q.name d.0 d.1)) u.store
+      stays width p b a around deepest deeper m x q.name (not_made width p b a around deepest deeper m x q.name (x.may.source q.name d.0 d.1)) u.store
 
-  beside : AreBeside 31 (private_scalars m) (limits_of (length m.symbols) values (pos 1)) (ends_of (length m.symbols) values) m.symbols (value_among m.symbols 0 values)
+  beside : AreBeside (bits_of width) (private_scalars m) (limits_of (length m.symbols) values (pos 1)) (ends_of (length m.symbols) values) m.symbols (value_among m.symbols 0 values)
       (λ z. In z (counters_of m)) (λ q. In q (own_of m)) (earlier m u.store) u.store
   beside = record {
-    bounds = λ z none other. sym (stays_other p b a around deepest deeper m x z none u.store).0;
-    held = λ c none other. sym ((stays_other p b a around deepest deeper m x c.name none u.store).1 c refl);
+    bounds = λ z none other. sym (stays_other width p b a around deepest deeper m x z none u.store).0;
+    held = λ c none other. sym ((stays_other width p b a around deepest deeper m x c.name none u.store).1 c refl);
     scalars = λ z q e. (let f = found (private_scalars m) z q e in private_bounds z q f.0 f.1);
     arrays = λ q i. limits_there values (λ j y e. (number_at j y e).held) q i;
     own = λ q i j. sym (own_kept q j).0 ∙ private_bounds q.name q i refl;
     counters = λ z i. prepared.scalar_bounds (declared b.declarations z) ((earlier m u.store).bounds z) (counter_declared z i)
-        ((holds_before p b a around deepest deeper m x u.store may.holds sized).bounds z);
+        ((holds_before width p b a around deepest deeper m x u.store may.holds sized).bounds z);
     fixed = λ z i. (let k = symbol_kept z i in let f = fixed values (λ j y e. (number_at j y e).held) z i in (k.0 ∙ f.0, k.1 (cell_of z) refl ∙ f.1));
   }
 
-  pub alike : AreAlike 31 m (limits_of (length m.symbols) values (pos 1)) (ends_of (length m.symbols) values) (counters_of m) (value_among m.symbols 0 values) []
+  pub alike : AreAlike (bits_of width) m (limits_of (length m.symbols) values (pos 1)) (ends_of (length m.symbols) values) (counters_of m) (value_among m.symbols 0 values) []
       (earlier m u.store) u.store
   alike = record {
     beside = beside;

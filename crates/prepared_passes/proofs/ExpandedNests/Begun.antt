@@ -9,6 +9,7 @@ use Rattle.tree.specs.declared.ops.Fault.{Fault}
 use Rattle.tree.specs.declared.ops.Fault.TheVariants.{Bounds}
 use Rattle.linear_forms.specs.Laws.{HoldsSized}
 use Rattle.meaning.specs.Dialect.{fortran77}
+use Rattle.tree.specs.declared.width.Width.{Width}
 use Rattle.meaning.specs.Holding.{HasBounds, IsStorable}
 use Rattle.meaning.specs.Run.{State, does_all}
 use Rattle.meaning.specs.Store.{Cell, IsCell, cell_in, is_within, names_of, nought_like}
@@ -33,7 +34,7 @@ use Rattle.scalar_expand.specs.Endings.{AreSettled}
 use Rattle.scalar_expand.specs.Expanded.{declared_privates, expanded, named_private}
 use Rattle.scalar_expand.specs.Laws.{own_of}
 use Rattle.scalar_expand.specs.Numbers.{ends_of, limits_of}
-use Rattle.scalar_expand.specs.Privates.{or_none, private_scalars}
+use Rattle.scalar_expand.specs.Privates.{private_or_none, private_scalars}
 use Rattle.scalar_expand.specs.Stores.{arrays}
 use Rattle.scalar_expand.specs.declared.privates.Private.{Private}
 use Rattle.prepared_passes.specs.expansion.Laws.{counters_of}
@@ -45,6 +46,8 @@ use Rattle.prepared_passes.proofs.ExpandedNests.Beginning.{alike, in_place, numb
 use Rattle.prepared_passes.proofs.ExpandedNests.KeptKinds.{one_kind, run_keeps_kinds}
 use Rattle.prepared_passes.proofs.ExpandedNests.MadeArrays.{name_in}
 use Rattle.prepared_passes.proofs.ExpandedNests.Names.{source_no_array}
+use Rattle.tree.specs.Widths.{bits_of}
+use Rattle.meaning.proofs.Widths.{narrowest}
 
 -- ---- private scalars that the program declares
 
@@ -53,16 +56,16 @@ own_in : (ps : List Private) (ds : List Declaration) (q : Private) (d : Declarat
 own_in ps [] q d is e = cc
 own_in ps (c ∷ ds) q d is e = by (bytes_eq c.name q.name) refl e (λ f. own_in ps ds q d is f)
   where
-    first : (o : Option Private) → o ≡ Some q → In q (or_none o ++ declared_privates ps ds)
+    first : (o : Option Private) → o ≡ Some q → In q (private_or_none o ++ declared_privates ps ds)
     first None f = cc
     first (Some r) f = inl (let same : r ≡ q = cc in sym same)
 
-    later : (o : Option Private) → In q (declared_privates ps ds) → In q (or_none o ++ declared_privates ps ds)
+    later : (o : Option Private) → In q (declared_privates ps ds) → In q (private_or_none o ++ declared_privates ps ds)
     later None i = i
     later (Some r) i = inr i
 
     by : (t : Bool) → bytes_eq c.name q.name ≡ t → cond t (Some c) (declared ds q.name) ≡ Some d → (declared ds q.name ≡ Some d → In q (declared_privates ps ds))
-        → In q (or_none (named_private ps c.name) ++ declared_privates ps ds)
+        → In q (private_or_none (named_private ps c.name) ++ declared_privates ps ds)
     by true f g r = first (named_private ps c.name) (ap (named_private ps) ((bytes_eq-Decides c.name q.name).0 f) ∙ is)
     by false f g r = later (named_private ps c.name) (r g)
 
@@ -75,44 +78,44 @@ scalar_cell b c e f = by c.subscripts (ap (λ (o : Option (List (ℤ × ℤ))). 
     by [] g same = ap (λ (is : List ℤ). (let d : Cell = record { name = c.name; subscripts = is } in d)) same
     by (i ∷ is) g same = cc
 
-module _ (p b a : Program) (around : List (List ℕ)) (deepest deeper : ℕ) (m : Nest) (x : IsExpandedInPlaces p b a around deepest deeper m)
-    (u : State) (may : MayRun a (expanded m) u) (sized : HoldsSized u.store) where
+module _ (width : Width) (p b a : Program) (around : List (List ℕ)) (deepest deeper : ℕ) (m : Nest) (x : IsExpandedInPlaces p b a around deepest deeper m)
+    (u : State) (may : MayRun width a (expanded m) u) (sized : HoldsSized u.store) where
   abbrev v : State
   v = record u { store = earlier m u.store }
 
   abbrev limits : Private → List (ℤ × ℤ)
-  limits = limits_of (length m.symbols) (values p b a around deepest deeper m x u may sized) (pos 1)
+  limits = limits_of (length m.symbols) (values width p b a around deepest deeper m x u may sized) (pos 1)
 
   abbrev lasts : Private → List ℕ
-  lasts = ends_of (length m.symbols) (values p b a around deepest deeper m x u may sized)
+  lasts = ends_of (length m.symbols) (values width p b a around deepest deeper m x u may sized)
 
   -- ---- the nest may be run there
 
-  scalar_there : (c : Made) → In c m.made → IsSomeAnd ((earlier m u.store).bounds c.name) (AreBoundsBy m.symbols (values p b a around deepest deeper m x u may sized) c.extents)
+  scalar_there : (c : Made) → In c m.made → IsSomeAnd ((earlier m u.store).bounds c.name) (AreBoundsBy m.symbols (values width p b a around deepest deeper m x u may sized) c.extents)
   scalar_there c i =
       let is = all_in (IsPreparedMade b.declarations m.symbols deepest) m.made x.before.parts.made c i in
       let none = all_in (λ (c : Made). c.extents ≡ []) m.made x.scalars c i in
-      by (declared b.declarations c.name) is.declaration ((holds_before p b a around deepest deeper m x u.store may.holds sized).bounds c.name) none
+      by (declared b.declarations c.name) is.declaration ((holds_before width p b a around deepest deeper m x u.store may.holds sized).bounds c.name) none
     where
       by : (o : Option Declaration) → IsSomeAnd o (λ (d : Declaration). (d.kind ≡ c.kind) × (d.extent ≡ extent_for c.extents))
           → IfSome o (λ (d : Declaration). HasBounds d.extent ((earlier m u.store).bounds c.name)) → c.extents ≡ []
-          → IsSomeAnd ((earlier m u.store).bounds c.name) (AreBoundsBy m.symbols (values p b a around deepest deeper m x u may sized) c.extents)
+          → IsSomeAnd ((earlier m u.store).bounds c.name) (AreBoundsBy m.symbols (values width p b a around deepest deeper m x u may sized) c.extents)
       by None h g none = absurd h
       by (Some d) h g none =
           let there : (earlier m u.store).bounds c.name ≡ Some [] = subst (λ (e : Extent). HasBounds e ((earlier m u.store).bounds c.name)) (h.1 ∙ ap extent_for none) g in
-          subst (λ (o : Option (List (ℤ × ℤ))). IsSomeAnd o (AreBoundsBy m.symbols (values p b a around deepest deeper m x u may sized) c.extents)) (sym there)
-          (subst (λ es. AreBoundsBy m.symbols (values p b a around deepest deeper m x u may sized) es []) (sym none) tt)
+          subst (λ (o : Option (List (ℤ × ℤ))). IsSomeAnd o (AreBoundsBy m.symbols (values width p b a around deepest deeper m x u may sized) c.extents)) (sym there)
+          (subst (λ es. AreBoundsBy m.symbols (values width p b a around deepest deeper m x u may sized) es []) (sym none) tt)
 
-  may_before : MayRun b m v
+  may_before : MayRun width b m v
   may_before = record {
     going = may.going;
-    holds = holds_before p b a around deepest deeper m x u.store may.holds sized;
-    values = values p b a around deepest deeper m x u may sized;
-    valued = λ k y e. (let n = number_at p b a around deepest deeper m x u may sized k y e in
+    holds = holds_before width p b a around deepest deeper m x u.store may.holds sized;
+    values = values width p b a around deepest deeper m x u may sized;
+    valued = λ k y e. (let n = number_at width p b a around deepest deeper m x u may sized k y e in
         let i = in_place m.symbols k y e in
-        (symbol_kept p b a around deepest deeper m x u may sized y i).1 (cell_of y) refl ∙ n.held);
-    made = Each-All (λ (c : Made). IsSomeAnd ((earlier m u.store).bounds c.name) (AreBoundsBy m.symbols (values p b a around deepest deeper m x u may sized) c.extents)) m.made
-        (each_from (λ (c : Made). IsSomeAnd ((earlier m u.store).bounds c.name) (AreBoundsBy m.symbols (values p b a around deepest deeper m x u may sized) c.extents)) m.made scalar_there);
+        (symbol_kept width p b a around deepest deeper m x u may sized y i).1 (cell_of y) refl ∙ n.held);
+    made = Each-All (λ (c : Made). IsSomeAnd ((earlier m u.store).bounds c.name) (AreBoundsBy m.symbols (values width p b a around deepest deeper m x u may sized) c.extents)) m.made
+        (each_from (λ (c : Made). IsSomeAnd ((earlier m u.store).bounds c.name) (AreBoundsBy m.symbols (values width p b a around deepest deeper m x u may sized) c.extents)) m.made scalar_there);
   }
 
   -- ---- names of the program
@@ -134,28 +137,28 @@ module _ (p b a : Program) (around : List (List ℕ)) (deepest deeper : ℕ) (m 
         by : In q (private_scalars m) → q.name ≡ y → (w : Option Declaration) → declared m.declarations q.name ≡ w → In q (own_of m)
         by i is (Some d) g = own_in (private_scalars m) m.declarations q d (ap (named_private (private_scalars m)) is ∙ e) g
         by i is None g =
-            let c = made_private p b a around deepest deeper m x q i g in
-            absurd (not_made p b a around deepest deeper m x y source (subst (λ z. Contains (made_names m) z) (c.2 ∙ is) (name_in m.made c.0 c.1)))
+            let c = made_private width p b a around deepest deeper m x q i g in
+            absurd (not_made width p b a around deepest deeper m x y source (subst (λ z. Contains (made_names m) z) (c.2 ∙ is) (name_in m.made c.0 c.1)))
 
   -- ---- the end
 
-  module _ (sound : IsSound (does_all fortran77 None (loops_then_after m) v).way) where
-    settled : IsSettled 31 m (values p b a around deepest deeper m x u may sized) (does_all fortran77 None (loops_then_after m) v)
-        (does_all fortran77 None (loops_then_after (expanded m)) u)
+  module _ (sound : IsSound (does_all (fortran77 width) None (loops_then_after m) v).way) where
+    settled : IsSettled (bits_of width) m (values width p b a around deepest deeper m x u may sized) (does_all (fortran77 width) None (loops_then_after m) v)
+        (does_all (fortran77 width) None (loops_then_after (expanded m)) u)
     settled =
-        prepared_nest_runs_expanded 31 b.declarations around deepest m x.loop x.body (values p b a around deepest deeper m x u may sized) v u.store u.steps
-        (omega arith) x.before x.turns x.may x.free (wide p b a around deepest deeper m x u may sized) may.going
-        (alike p b a around deepest deeper m x u may sized) sound
+        prepared_nest_runs_expanded (bits_of width) b.declarations around deepest m x.loop x.body (values width p b a around deepest deeper m x u may sized) v u.store u.steps
+        (narrowest width) x.before x.turns x.may x.free (wide width p b a around deepest deeper m x u may sized) may.going
+        (alike width p b a around deepest deeper m x u may sized) sound
 
-    led : Led (AreSettled 31 m limits lasts (counters_of m) settled.value) (does_all fortran77 None (loops_then_after m) v)
-        (does_all fortran77 None (loops_then_after (expanded m)) u)
+    led : Led (AreSettled (bits_of width) m limits lasts (counters_of m) settled.value) (does_all (fortran77 width) None (loops_then_after m) v)
+        (does_all (fortran77 width) None (loops_then_after (expanded m)) u)
     led = settled.led
 
     abbrev s : State
-    s = does_all fortran77 None (loops_then_after m) v
+    s = does_all (fortran77 width) None (loops_then_after m) v
 
     abbrev t : State
-    t = does_all fortran77 None (loops_then_after (expanded m)) u
+    t = does_all (fortran77 width) None (loops_then_after (expanded m)) u
 
     sound_behind : IsSound t.way
     sound_behind = subst IsSound (sym (ap (λ (r : State). r.way) led.rest ∙ led.going)) tt
@@ -163,11 +166,11 @@ module _ (p b a : Program) (around : List (List ℕ)) (deepest deeper : ℕ) (m 
     kinds : (c : Cell) → Contains (names_of p) c.name → nought_like (s.store.held c) ≡ nought_like (t.store.held c)
     kinds c i =
         let d = is_declared p.declarations c.name i in
-        let k = run_keeps_kinds b around deepest m v x.before may_before sound c (counts_none c.name i) in
-        let l = run_keeps_kinds a around deeper (expanded m) u x.behind may sound_behind c (counts_none c.name i) in
-        let one = subst (λ (o : Option Declaration). IfSome o (λ (e : Declaration). IsStorable fortran77 e.kind (s.store.held c)))
+        let k = run_keeps_kinds width b around deepest m v x.before may_before sound c (counts_none c.name i) in
+        let l = run_keeps_kinds width a around deeper (expanded m) u x.behind may sound_behind c (counts_none c.name i) in
+        let one = subst (λ (o : Option Declaration). IfSome o (λ (e : Declaration). IsStorable (fortran77 width) e.kind (s.store.held c)))
         (kept_declaration p.declarations b.declarations x.places.before c.name d.0 d.1) k in
-        let two = subst (λ (o : Option Declaration). IfSome o (λ (e : Declaration). IsStorable fortran77 e.kind (t.store.held c)))
+        let two = subst (λ (o : Option Declaration). IfSome o (λ (e : Declaration). IsStorable (fortran77 width) e.kind (t.store.held c)))
         (kept_declaration p.declarations a.declarations x.places.behind c.name d.0 d.1) l in
         one_kind d.0.kind (s.store.held c) (t.store.held c) one.kind two.kind
 
@@ -197,16 +200,16 @@ module _ (p b a : Program) (around : List (List ℕ)) (deepest deeper : ℕ) (m 
       rest = led.rest;
     }
 
-pub expanded_nest_is_begun_before : ExpandedNestIsBegunBefore
-expanded_nest_is_begun_before p b a around deepest deeper m u x may sized = record {
+pub expanded_nest_is_begun_before : (width : Width) → ExpandedNestIsBegunBefore width
+expanded_nest_is_begun_before width p b a around deepest deeper m u x may sized = record {
   state = record u { store = earlier m u.store };
-  holds = holds_before p b a around deepest deeper m x u.store may.holds sized;
-  sized = sized_before p b a around deepest deeper m x u.store may.holds sized;
-  others = others_before p b a around deepest deeper m x u.store may.holds sized;
+  holds = holds_before width p b a around deepest deeper m x u.store may.holds sized;
+  sized = sized_before width p b a around deepest deeper m x u.store may.holds sized;
+  others = others_before width p b a around deepest deeper m x u.store may.holds sized;
   alike = record {
     going = may.going;
-    agree = agrees_before p b a around deepest deeper m x u.store may.holds sized;
+    agree = agrees_before width p b a around deepest deeper m x u.store may.holds sized;
     rest = refl;
   };
-  leads = λ sound. goes_on p b a around deepest deeper m x u may sized sound;
+  leads = λ sound. goes_on width p b a around deepest deeper m x u may sized sound;
 }

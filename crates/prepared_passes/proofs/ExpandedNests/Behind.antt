@@ -40,7 +40,7 @@ use Rattle.tree.specs.Plain.{Label, Named, Number, Print, Read, Statement, Stop,
 use Rattle.tree.specs.Plain.{no_subscripts, statement}
 use Rattle.tree.specs.declared.ops.Kind.TheVariants.{Integer, Logical}
 use Rattle.tree.specs.declared.ops.Op.TheVariants.{And, Ge}
-use Rattle.scalar_expand.specs.Expanded.{as_expression, has_known_end, known_trip, last_assignment, last_element, last_value, last_values, trip_tests}
+use Rattle.scalar_expand.specs.Expanded.{as_expression, has_known_end, trip_expression, last_assignment, last_element, last_value, last_values, trip_tests}
 use Rattle.scalar_expand.specs.Laws.{own_of}
 use Rattle.scalar_expand.specs.Privates.{private_scalars, round_loop, trip_or_none, trips_of}
 use Rattle.scalar_expand.specs.Stores.{arrays}
@@ -240,7 +240,7 @@ module _ (es fs : List Declaration) (around : List (List ℕ)) (deepest : ℕ) (
     names : (y : List ℕ) → In y (names_in e) → In y m.symbols
     deep : depth_of e ≤ 36
 
-  trip_known : (p : Private) → In p (private_scalars m) → (l : RoundLoop) → In l p.loops → IsKnownTrip (known_trip m.symbols l)
+  trip_known : (p : Private) → In p (private_scalars m) → (l : RoundLoop) → In l p.loops → IsKnownTrip (trip_expression m.symbols l)
   trip_known p i l j =
       let o = round_loop_is es around deepest m h may p i l j in
       let r = each_asked (IsPreparedLoop es m.symbols) (nest_loops m) [] m.body h.plain (walked (IsPreparedLoop es m.symbols) [] m.body h.parts.loops) o.0 o.1 in
@@ -281,14 +281,14 @@ module _ (es fs : List Declaration) (around : List (List ℕ)) (deepest : ℕ) (
   tests_joined [] ys h k = k
   tests_joined (x ∷ xs) ys h k = (h.0, tests_joined xs ys h.1 k)
 
-  tests_are : (ls : List RoundLoop) → ((l : RoundLoop) → In l ls → IsKnownTrip (known_trip m.symbols l)) → AreTests (trip_tests m.symbols ls) × (length (trip_tests m.symbols ls) ≤ length ls)
+  tests_are : (ls : List RoundLoop) → ((l : RoundLoop) → In l ls → IsKnownTrip (trip_expression m.symbols l)) → AreTests (trip_tests m.symbols ls) × (length (trip_tests m.symbols ls) ≤ length ls)
   tests_are [] f = (tt, omega arith)
   tests_are (l ∷ ls) f = by (is_positive l.trip) (tests_are ls (λ k i. f k (inr i)))
     where
       by : (b : Bool) → AreTests (trip_tests m.symbols ls) × (length (trip_tests m.symbols ls) ≤ length ls)
-          → AreTests (cond b [] (at_least_one (known_trip m.symbols l) ∷ []) ++ trip_tests m.symbols ls) × (length (cond b [] (at_least_one (known_trip m.symbols l) ∷ []) ++ trip_tests m.symbols ls) ≤ suc (length ls))
+          → AreTests (cond b [] (at_least_one (trip_expression m.symbols l) ∷ []) ++ trip_tests m.symbols ls) × (length (cond b [] (at_least_one (trip_expression m.symbols l) ∷ []) ++ trip_tests m.symbols ls) ≤ suc (length ls))
       by true r = let few = r.1 in (r.0, omega (arith, few))
-      by false r = let few = r.1 in ((test_is (known_trip m.symbols l) (f l (inl refl)), r.0), omega (arith, few))
+      by false r = let few = r.1 in ((test_is (trip_expression m.symbols l) (f l (inl refl)), r.0), omega (arith, few))
 
   joined_is : (n : ℕ) (e : Expression) (ts : List Expression) → 38 ≤ n → IsTrueTest n e → AreTests ts → IsTrueTest (n + 2 * length ts) (all_hold e ts)
   joined_is n e [] low h k = record { scalar = h.scalar; names = h.names; deep = (let x = h.deep in omega (arith, x)) }
@@ -314,7 +314,7 @@ module _ (es fs : List Declaration) (around : List (List ℕ)) (deepest : ℕ) (
     symbol_none y i k e = symbol_no_counter es around deepest m h may y k i e
 
     abbrev known_trip_in : RoundLoop → Expression
-    known_trip_in l = known_trip m.symbols l
+    known_trip_in l = trip_expression m.symbols l
 
     assigned_good : (p : Private) → In p (own_of m) → IsGood fs around (deepest + 1) (block (last_assignment m.symbols m.line p ∷ []))
     assigned_good p own =

@@ -20,7 +20,7 @@ use Rattle.pass_laws.proofs.PreparedNests.Normal.LoopSizes.{IsSized, sum_sized, 
 use Rattle.pass_laws.proofs.PreparedNests.Walks.{walked}
 use Rattle.subscripts.specs.declared.affine.Affine.{Affine}
 use Rattle.tree.specs.Plain.{Declaration}
-use Rattle.scalar_expand.specs.Extents.{extent_under, extents_of, extents_under, greatest_from}
+use Rattle.scalar_expand.specs.Extents.{extent_under, extents_of_trips, extents_under, greatest_from}
 use Rattle.scalar_expand.specs.Privates.{private_scalars, trip_or_none, trips_of}
 use Rattle.scalar_expand.specs.declared.privates.Private.{Private}
 use Rattle.scalar_expand.specs.declared.privates.RoundLoop.{RoundLoop}
@@ -92,7 +92,7 @@ module _ (es : List Declaration) (around : List (List ℕ)) (deepest : ℕ) (m :
   pub found_extents : (p : Private) → In p (private_scalars m) → Found (length m.symbols) (λ k. pos 0) (trips_of p.loops) p.extents
   found_extents p i =
       let b = begins es around deepest m h may p i in
-      extents_found (length m.symbols) (λ k. pos 0) (trips_of p.loops) p.extents (ap (λ (ls : List RoundLoop). extents_of (length m.symbols) (trips_of ls)) b.2.loops ∙ b.2.extents)
+      extents_found (length m.symbols) (λ k. pos 0) (trips_of p.loops) p.extents (ap (λ (ls : List RoundLoop). extents_of_trips (length m.symbols) (trips_of ls)) b.2.loops ∙ b.2.extents)
 
   pub all_small : (p : Private) → In p (private_scalars m) → AllSmall p.extents
   all_small p i = extents_small (length m.symbols) [] (trips_of p.loops) p.extents (trips_small p i) (found_extents p i).under tt

@@ -16,7 +16,7 @@ use Rattle.tree.specs.declared.ops.Value.{Value}
 use Rattle.tree.specs.declared.ops.Value.TheVariants.{Int}
 use Rattle.last_values.specs.normal_forms.Combinations.{coefficient_in}
 use Rattle.last_values.specs.normal_forms.Numbers.{number_of_form, products}
-use Rattle.last_values.specs.normal_forms.Texts.{quotient}
+use Rattle.last_values.specs.normal_forms.Texts.{quotient_text}
 use Rattle.last_values.proofs.NormalForms.Numbers.{looked_up}
 use Rattle.linear_forms.specs.Expressed.{minus_term, plus_term, term, variable, with_constant, with_term, with_terms}
 use Rattle.linear_forms.specs.Places.{terms_from}
@@ -33,7 +33,7 @@ use Rattle.pass_laws.proofs.NormalValues.Quotients.{by_one}
 use Rattle.subscripts.specs.Forms.{over_loops, over_symbols}
 use Rattle.subscripts.specs.declared.affine.Affine.{Affine}
 use Rattle.scalar_expand.specs.Numbers.{at_loops, number_under, numbers_under}
-use Rattle.scalar_expand.specs.Texts.{extent_text, form_text, texts_with, with_each_symbol, with_named}
+use Rattle.scalar_expand.specs.Texts.{made_extent_text, extent_form_text, texts_with, with_each_symbol, with_named}
 use Rattle.prepared_passes.proofs.ExpandedNests.Sizes.{AllKnown, IsKnown}
 use Rattle.prepared_passes.proofs.ExpandedNests.Trips.{nowhere, quotient_is, shift, terms_sum}
 
@@ -199,9 +199,9 @@ module _ (lang : Dialect) (u : Store) where
           ∙ products_same n 0 (λ j. coefficient_in a.syms j) V values (λ i j. same i (omega (arith, j)))))
 
       says_form : (texts : List Expression) (zs : List ℤ) (a : Affine) → IsKnownForm n a → Tell texts zs → length zs ≤ 7
-          → Says (form_text symbols texts a) (number_of_form n (at_loops zs) values a)
+          → Says (extent_form_text symbols texts a) (number_of_form n (at_loops zs) values a)
       says_form texts zs a k h few =
-          says_also (form_text symbols texts a) (((pos 0 +ℤ over_symbols a.syms V) +ℤ over_loops a.loops zs) +ℤ a.constant)
+          says_also (extent_form_text symbols texts a) (((pos 0 +ℤ over_symbols a.syms V) +ℤ over_loops a.loops zs) +ℤ a.constant)
           (number_of_form n (at_loops zs) values a)
           (turned (over_symbols a.syms V) (over_loops a.loops zs) a.constant
           ∙ ap₂ (λ p q. p +ℤ (q +ℤ a.constant)) (over_at_most 7 a.loops zs few) (symbols_number a k))
@@ -213,7 +213,7 @@ module _ (lang : Dialect) (u : Store) where
           turned : (a b c : ℤ) → ((pos 0 +ℤ a) +ℤ b) +ℤ c ≡ b +ℤ (a +ℤ c)
           turned a b c = omega (arith, ints)
 
-      says_quotient : (e : Expression) (z : ℤ) (d : ℕ) → Says e z → Says (quotient e (pos d)) (int_div z (pos d))
+      says_quotient : (e : Expression) (z : ℤ) (d : ℕ) → Says e z → Says (quotient_text e (pos d)) (int_div z (pos d))
       says_quotient e z d h = by (int_eq (pos d) (pos 1)) refl
         where
           by : (b : Bool) → int_eq (pos d) (pos 1) ≡ b → Says (cond b e (Binary Div e (Number (pos d)))) (int_div z (pos d))
@@ -223,11 +223,11 @@ module _ (lang : Dialect) (u : Store) where
               quotient_is z d v (ap (λ q. apply Div q (Int (pos d))) (sym (h p.0 p.1)) ∙ p.2)
 
       says_extent : (texts : List Expression) (zs : List ℤ) (t : Trip) → IsKnown n t → Tell texts zs → length zs ≤ 7
-          → Says (extent_text symbols texts t) (number_under n values zs t)
+          → Says (made_extent_text symbols texts t) (number_under n values zs t)
       says_extent texts zs t k h few =
-          subst (λ b. Says (quotient (form_text symbols texts t.top) b) (int_div (number_of_form n (at_loops zs) values t.top) b))
+          subst (λ b. Says (quotient_text (extent_form_text symbols texts t.top) b) (int_div (number_of_form n (at_loops zs) values t.top) b))
           (sym k.by)
-          (says_quotient (form_text symbols texts t.top) (number_of_form n (at_loops zs) values t.top) k.divisor
+          (says_quotient (extent_form_text symbols texts t.top) (number_of_form n (at_loops zs) values t.top) k.divisor
           (says_form texts zs t.top k.form h few))
 
       pub texts_tell : (ts : List Trip) (texts : List Expression) (zs : List ℤ) → AllKnown n ts → Tell texts zs
@@ -235,8 +235,8 @@ module _ (lang : Dialect) (u : Store) where
       texts_tell [] texts zs k h few = h
       texts_tell (t ∷ ts) texts zs k h few =
           let more = length-append zs (number_under n values zs t ∷ []) in
-          texts_tell ts (texts ++ extent_text symbols texts t ∷ []) (zs ++ number_under n values zs t ∷ []) k.1
-          (tell_last texts zs (extent_text symbols texts t) (number_under n values zs t) h
+          texts_tell ts (texts ++ made_extent_text symbols texts t ∷ []) (zs ++ number_under n values zs t ∷ []) k.1
+          (tell_last texts zs (made_extent_text symbols texts t) (number_under n values zs t) h
           (says_extent texts zs t k.0 h (omega (arith, few)))) (omega (arith, few, more))
 
 -- ---- how many texts there are
@@ -245,6 +245,6 @@ pub texts_length : (symbols : List (List ℕ)) (texts : List Expression) (ts : L
     → length (texts_with symbols texts ts) ≡ length texts + length ts
 texts_length symbols texts [] = let e : length texts ≡ length texts + 0 = omega arith in e
 texts_length symbols texts (t ∷ ts) =
-    let more = length-append texts (extent_text symbols texts t ∷ []) in
-    let rest = texts_length symbols (texts ++ extent_text symbols texts t ∷ []) ts in
+    let more = length-append texts (made_extent_text symbols texts t ∷ []) in
+    let rest = texts_length symbols (texts ++ made_extent_text symbols texts t ∷ []) ts in
     omega (arith, more, rest)

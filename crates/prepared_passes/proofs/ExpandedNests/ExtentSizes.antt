@@ -10,7 +10,7 @@ use Rattle.linear_forms.proofs.Sizes.{abs-product, abs-sum, smaller}
 use Rattle.last_values.proofs.NormalForms.Numbers.{combination_has_number, none_among_zeros, products-alike, products-zero}
 use Rattle.last_values.specs.declared.normal_forms.combinations.Multiple.{Multiple}
 use Rattle.last_values.specs.declared.normal_forms.places.Place.TheVariants as place
-use Rattle.last_values.specs.normal_forms.Combinations.{at, coefficient_in, combination, no_symbols, number_form, times, without_loops, zero_loops}
+use Rattle.last_values.specs.normal_forms.Combinations.{number_of_place, coefficient_in, combination, no_symbols, number_form, times, without_loops, zero_loops}
 use Rattle.last_values.specs.normal_forms.NormalLoops.{is_constant, is_undivided, loop_form, trip_of}
 use Rattle.last_values.specs.normal_forms.Numbers.{number_of_form, products, sum_of_numbers}
 use Rattle.nest.specs.declared.parts.Trip.{Trip}
@@ -19,7 +19,7 @@ use Rattle.pass_laws.proofs.NormalFacts.StatementKinds.{IsSmallForm}
 use Rattle.pass_laws.proofs.PreparedNests.Normal.LoopSizes.{IsSized}
 use Rattle.subscripts.specs.Shapes.{IsSmall}
 use Rattle.subscripts.specs.declared.affine.Affine.{Affine}
-use Rattle.scalar_expand.specs.Extents.{extent_form, greatest, greatest_from, greatest_size, size_of, sized, sized_terms, sizes_from}
+use Rattle.scalar_expand.specs.Extents.{extent_form, greatest, greatest_from, greatest_size, size_of_number, sized, sized_terms, sizes_from}
 
 abbrev pub widest : ℕ
 widest = 2 ^ 63
@@ -33,7 +33,7 @@ nothing j = pos 0
 
 -- ---- small numbers
 
-small_size : (c : ℤ) → IsSmall c → size_of c ≡ pos (nat_abs c)
+small_size : (c : ℤ) → IsSmall c → size_of_number c ≡ pos (nat_abs c)
 small_size c h = ap (λ b. cond b (pos (nat_abs c)) (pos (suc (2 ^ 40)))) (le-leb (nat_abs c) (2 ^ 40) (omega (arith, ints, h)))
 
 small_place : (cs : List ℤ) (k : ℕ) → Each IsSmall cs → IsSmall (get_or cs k (pos 0))
@@ -88,7 +88,7 @@ module _ (n : ℕ) where
   Number F G a = number_of_form n F G a
 
   abbrev pub symbols_part : (ℕ → ℤ) → Affine → ℤ
-  symbols_part G a = products n 0 (λ j. at a (place.Symbol j)) G
+  symbols_part G a = products n 0 (λ j. number_of_place a (place.Symbol j)) G
 
   pub loopless : (F G : ℕ → ℤ) (ts : List (ℕ × ℤ)) (z : ℤ) → Number F G (record { loops = zero_loops; syms = ts; constant = z }) ≡ products n 0 (λ j. coefficient_in ts j) G +ℤ z
   loopless F G ts z =
@@ -101,7 +101,7 @@ module _ (n : ℕ) where
   number_number : (F G : ℕ → ℤ) (z : ℤ) → Number F G (number_form z) ≡ z
   number_number F G z = loopless F G no_symbols z ∙ (ap (λ x. x +ℤ z) (no_part G) ∙ front_zeros z)
 
-  one : (F : ℕ → ℤ) (k : ℕ) → k < 7 → products 7 0 (λ j. at (loop_form k) (place.Loop j)) F ≡ F k
+  one : (F : ℕ → ℤ) (k : ℕ) → k < 7 → products 7 0 (λ j. number_of_place (loop_form k) (place.Loop j)) F ≡ F k
   one F zero h = omega (arith, ints)
   one F (suc zero) h = omega (arith, ints)
   one F (suc (suc zero)) h = omega (arith, ints)
@@ -127,12 +127,12 @@ module _ (n : ℕ) where
   -- ---- the size of a form's symbols and constant
 
   abbrev pub rest_size : Affine → ℕ
-  rest_size a = sizes n 0 (λ j. at a (place.Symbol j)) + nat_abs a.constant
+  rest_size a = sizes n 0 (λ j. number_of_place a (place.Symbol j)) + nat_abs a.constant
 
   rest_most : (F G : ℕ → ℤ) (a : Affine) → ((i : ℕ) → nat_abs (G i) ≤ 2 ^ 63) → nat_abs (Number F G (without_loops a)) ≤ rest_size a
   rest_most F G a h =
       let same = loopless F G a.syms a.constant in
-      let part = products_most n 0 (λ j. at a (place.Symbol j)) G h in
+      let part = products_most n 0 (λ j. number_of_place a (place.Symbol j)) G h in
       let sum = abs-sum (symbols_part G a) a.constant in
       subst (λ z. nat_abs z ≤ rest_size a) (sym same) (omega (arith, part, sum))
 
@@ -163,15 +163,15 @@ module _ (n : ℕ) where
       listed (suc m) d (u ∷ us) l s =
           by (u.0 == j) (ap (λ ws. coefficient_in ws j) (shifted m 0 u us) ∙ listed m d us (omega (arith, l)) s.1)
         where
-          by : (b : Bool) → coefficient_in (from m 1 (u ∷ us)) j ≡ pos (nat_abs (coefficient_in us j)) → cond b (size_of u.1) (coefficient_in (from m 1 (u ∷ us)) j) ≡ pos (nat_abs (cond b u.1 (coefficient_in us j)))
+          by : (b : Bool) → coefficient_in (from m 1 (u ∷ us)) j ≡ pos (nat_abs (coefficient_in us j)) → cond b (size_of_number u.1) (coefficient_in (from m 1 (u ∷ us)) j) ≡ pos (nat_abs (cond b u.1 (coefficient_in us j)))
           by true r = small_size u.1 s.0
           by false r = r
 
   rest_wide : (a : Affine) → IsSmallForm a → IsSized a → Number nothing wide (sized a) ≡ pos (rest_size a)
   unfolding sized
   rest_wide a s z =
-      loopless nothing wide (sized_terms a.syms 0 ∷ sized_terms a.syms 1 ∷ sized_terms a.syms 2 ∷ sized_terms a.syms 3 ∷ sized_terms a.syms 4 ∷ sized_terms a.syms 5 ∷ sized_terms a.syms 6 ∷ sized_terms a.syms 7 ∷ []) (size_of a.constant)
-      ∙ ap₂ (λ x y. x +ℤ y) (products_wide n 0 (λ j. at a (place.Symbol j)) (λ j. coefficient_in (sized_terms a.syms 0 ∷ sized_terms a.syms 1 ∷ sized_terms a.syms 2 ∷ sized_terms a.syms 3 ∷ sized_terms a.syms 4 ∷ sized_terms a.syms 5 ∷ sized_terms a.syms 6 ∷ sized_terms a.syms 7 ∷ []) j)
+      loopless nothing wide (sized_terms a.syms 0 ∷ sized_terms a.syms 1 ∷ sized_terms a.syms 2 ∷ sized_terms a.syms 3 ∷ sized_terms a.syms 4 ∷ sized_terms a.syms 5 ∷ sized_terms a.syms 6 ∷ sized_terms a.syms 7 ∷ []) (size_of_number a.constant)
+      ∙ ap₂ (λ x y. x +ℤ y) (products_wide n 0 (λ j. number_of_place a (place.Symbol j)) (λ j. coefficient_in (sized_terms a.syms 0 ∷ sized_terms a.syms 1 ∷ sized_terms a.syms 2 ∷ sized_terms a.syms 3 ∷ sized_terms a.syms 4 ∷ sized_terms a.syms 5 ∷ sized_terms a.syms 6 ∷ sized_terms a.syms 7 ∷ []) j)
       (λ j. sized_places a.syms z.symbols s.symbols j)) (small_size a.constant s.constant)
 
   -- ---- outer loops
@@ -184,7 +184,7 @@ module _ (n : ℕ) where
 
   abbrev pub loops_size : ℕ → Affine → List ℕ → ℕ
   loops_size k a [] = 0
-  loops_size k a (s ∷ ss) = nat_abs (at a (place.Loop k)) * cond (int_lt (pos 0) (at a (place.Loop k))) s 1 + loops_size (k + 1) a ss
+  loops_size k a (s ∷ ss) = nat_abs (number_of_place a (place.Loop k)) * cond (int_lt (pos 0) (number_of_place a (place.Loop k))) s 1 + loops_size (k + 1) a ss
 
   one_wide : (c : ℤ) (f : Affine) (s : ℕ) → IsSmall c → Number nothing wide f ≡ pos s → (greatest_size c f).times *ℤ Number nothing wide (greatest_size c f).form ≡ pos (nat_abs c * cond (int_lt (pos 0) c) s 1)
   unfolding greatest_size
@@ -199,7 +199,7 @@ module _ (n : ℕ) where
   loops_wide k a [] (s ∷ ss) h r = absurd r
   loops_wide k a (f ∷ fs) [] h r = absurd r
   loops_wide k a (f ∷ fs) (s ∷ ss) h r =
-      ap₂ (λ x y. x +ℤ y) (one_wide (at a (place.Loop k)) f s (small_place a.loops k h) r.0) (loops_wide (k + 1) a fs ss h r.1)
+      ap₂ (λ x y. x +ℤ y) (one_wide (number_of_place a (place.Loop k)) f s (small_place a.loops k h) r.0) (loops_wide (k + 1) a fs ss h r.1)
 
   module _ (F G : ℕ → ℤ) where
     -- the extents, from the k-th on, have no larger numbers
@@ -223,9 +223,9 @@ module _ (n : ℕ) where
     loops_most k a [] (s ∷ ss) h = absurd h
     loops_most k a (t ∷ ts) [] h = absurd h
     loops_most k a (t ∷ ts) (s ∷ ss) h =
-        let first = one_most (at a (place.Loop k)) k t s h.0 in
+        let first = one_most (number_of_place a (place.Loop k)) k t s h.0 in
         let rest = loops_most (k + 1) a ts ss h.1 in
-        let sum = abs-sum ((greatest (at a (place.Loop k)) k t).times *ℤ Number F G (greatest (at a (place.Loop k)) k t).form) (sum_of_numbers n F G (greatest_from (k + 1) a ts)) in
+        let sum = abs-sum ((greatest (number_of_place a (place.Loop k)) k t).times *ℤ Number F G (greatest (number_of_place a (place.Loop k)) k t).form) (sum_of_numbers n F G (greatest_from (k + 1) a ts)) in
         omega (arith, first, rest, sum)
 
   -- ---- one extent more
@@ -276,7 +276,7 @@ module _ (n : ℕ) where
           zeros z = omega (arith, ints)
 
       alone : Number nothing nothing a ≡ a.constant
-      alone = ap₂ (λ x y. x +ℤ (y +ℤ a.constant)) (nought 7 0 (λ k. at a (place.Loop k))) (nought n 0 (λ j. at a (place.Symbol j))) ∙ zeros a.constant
+      alone = ap₂ (λ x y. x +ℤ (y +ℤ a.constant)) (nought 7 0 (λ k. number_of_place a (place.Loop k))) (nought n 0 (λ j. number_of_place a (place.Symbol j))) ∙ zeros a.constant
         where
           zeros : (z : ℤ) → pos 0 +ℤ (pos 0 +ℤ z) ≡ z
           zeros z = omega (arith, ints)

@@ -12,6 +12,7 @@ use Rattle.if_convert.specs.Converted.{converted_nest}
 use Rattle.if_convert.specs.Masks.{made_mask, mask_name}
 use Rattle.meaning.specs.Blocks.{Surroundings}
 use Rattle.meaning.specs.Dialect.{fortran77}
+use Rattle.tree.specs.declared.width.Width.{Width}
 use Rattle.meaning.specs.Profile77.{IsProgram77, IsStatement}
 use Rattle.meaning.specs.Store.{names_of}
 use Rattle.meaning.specs.Typed.{declared}
@@ -72,7 +73,7 @@ no_change : (xs : List (List ℕ)) (o : Option Declaration) → option_map (chan
 no_change xs None e = refl
 no_change xs (Some d) e = cc
 
-module _ (p a : Program) (n m masked k : Nest) (masks : ℕ) (is : IsProgram77 fortran77 p) (among : Contains (found_in p) (InNest n))
+module _ (width : Width) (p a : Program) (n m masked k : Nest) (masks : ℕ) (is : IsProgram77 (fortran77 width) p) (among : Contains (found_in p) (InNest n))
     (normal : normalised n ≡ Some m) (made : converted_nest masks m ≡ Some masked) (few : masked.masks ≤ 4294967296)
     (anew : k ≡ unexpanded m masked) (ranges_few : HaveFewRanges (substituted m masked)) (add : AddMadeNames p.declarations a.declarations)
     (counters : All (λ (l : Loop). IsSomeAnd (declared a.declarations l.variable) IsCounter) (nest_loops m)) (made_so : AreDeclaredAsMade a (expanded k)) where
@@ -81,16 +82,16 @@ module _ (p a : Program) (n m masked k : Nest) (masks : ℕ) (is : IsProgram77 f
 
   -- declarations by which it is prepared
   abbrev ds : List Declaration
-  ds = with_three p n m masked masks is among normal made few ranges_few
+  ds = with_three width p n m masked masks is among normal made few ranges_few
 
   abbrev outside : List (List ℕ)
-  outside = (stands p n m masked masks is among normal made few).round.variables
+  outside = (stands width p n m masked masks is among normal made few).round.variables
 
   h : IsPrepared ds outside unexpanded_depth k
-  h = prepared p n m masked k masks is among normal made few anew ranges_few
+  h = prepared width p n m masked k masks is among normal made few anew ranges_few
 
   may : MayBeExpanded ds k
-  may = may_be_expanded p n m masked k masks is among normal made few anew ranges_few ds (are_three p n m masked masks is among normal made few ranges_few).more
+  may = may_be_expanded width p n m masked k masks is among normal made few anew ranges_few ds (are_three width p n m masked masks is among normal made few ranges_few).more
 
   -- those before expansion
   abbrev before : List Declaration
@@ -98,8 +99,8 @@ module _ (p a : Program) (n m masked k : Nest) (masks : ℕ) (is : IsProgram77 f
 
   add_before : AddMadeNames p.declarations before
   add_before =
-      add_made_names (made_names k) p.declarations a.declarations (made_no_source p n m masked k masks is among normal made few anew ranges_few)
-      (own_source p n m masked masks is among normal made few) add
+      add_made_names (made_names k) p.declarations a.declarations (made_no_source width p n m masked k masks is among normal made few anew ranges_few)
+      (own_source width p n m masked masks is among normal made few) add
 
   counters_before : All (λ (l : Loop). IsSomeAnd (declared before l.variable) IsCounter) (nest_loops m)
   counters_before =
@@ -157,7 +158,7 @@ module _ (p a : Program) (n m masked k : Nest) (masks : ℕ) (is : IsProgram77 f
       by f.1 (array_is ds outside unexpanded_depth k h may q f.0) (mask_of q f.0)
     where
       by : q.name ≡ x.name → Named-so ds outside unexpanded_depth k h may q → (is_source q.name ≡ false → IsMaskOf q) → (q.array ≡ x.name) × (q.kind ≡ x.kind)
-      by f (inl (s, g)) r = absurd (made_no_source p n m masked k masks is among normal made few anew ranges_few x.name (map-In (λ (y : Made). y.name) x k.made i) (subst IsSourceName f s))
+      by f (inl (s, g)) r = absurd (made_no_source width p n m masked k masks is among normal made few anew ranges_few x.name (map-In (λ (y : Made). y.name) x k.made i) (subst IsSourceName f s))
       by f (inr (s, g)) r =
           let o = r s in
           let same : o.mask ≡ x = one_named k.made h.parts.made_once o.mask x o.inside i (o.name ∙ f) in
@@ -190,7 +191,7 @@ module _ (p a : Program) (n m masked k : Nest) (masks : ℕ) (is : IsProgram77 f
       (sym (scalar_before x.name r.0 (map-In (λ (y : Made). y.name) x k.made i) r.1 r.2)) (r.3, refl)
 
   masks_before : (j : ℕ) → masks ≤ j → j < k.masks → IsSomeAnd (declared before (mask_name j)) IsMask
-  masks_before j low high = by (declared before (mask_name j)) (scalar_there (made_mask j) (mask_made p n m masked k masks is among normal made few anew ranges_few j low high))
+  masks_before j low high = by (declared before (mask_name j)) (scalar_there (made_mask j) (mask_made width p n m masked k masks is among normal made few anew ranges_few j low high))
     where
       by : (o : Option Declaration) → IsSomeAnd o (λ (d : Declaration). (d.kind ≡ Logical) × (d.extent ≡ Given [])) → IsSomeAnd o IsMask
       by None g = absurd g
@@ -199,10 +200,10 @@ module _ (p a : Program) (n m masked k : Nest) (masks : ℕ) (is : IsProgram77 f
   -- as they are of the nest with masks
   masks_first : (j : ℕ) → masks ≤ j → j < masked.masks → IsSomeAnd (declared before (mask_name j)) IsMask
   masks_first j low high =
-      masks_before j low (subst (λ (i : ℕ). j < i) (sym (same_masks p n m masked k masks is among normal made few anew ranges_few)) high)
+      masks_before j low (subst (λ (i : ℕ). j < i) (sym (same_masks width p n m masked k masks is among normal made few anew ranges_few)) high)
 
   names_before : AreNamesDeclared before (substituted m masked)
-  names_before x i = scalar_there x (range_made p n m masked k masks is among normal made few anew ranges_few x i)
+  names_before x i = scalar_there x (range_made width p n m masked k masks is among normal made few anew ranges_few x i)
 
   -- ---- both have the same names but for these
 
@@ -220,7 +221,7 @@ module _ (p a : Program) (n m masked k : Nest) (masks : ℕ) (is : IsProgram77 f
           let is_so : declared a.declarations y.name ≡ Some (as_made y) = declared_so y (among_before y (stays_made k.symbols ps k.made y i g)) in
           let scalar : as_scalar (as_made y) ≡ as_made y
           = ap (λ (e : Extent). let d : Declaration = record { name = y.name; kind = y.kind; extent = e } in d)
-          (sym (ap extent_for (no_extents p n m masked k masks is among normal made few anew ranges_few y i))) in
+          (sym (ap extent_for (no_extents width p n m masked k masks is among normal made few anew ranges_few y i))) in
           let then = scalar_before y.name (as_made y) (map-In (λ (z : Made). z.name) y k.made i) is_so refl in
           let same : d ≡ as_made y = some_same d (as_made y) (sym e ∙ (ap (declared before) (sym f) ∙ (then ∙ ap Some scalar))) in
           ap (declared a.declarations) (sym f) ∙ (is_so ∙ ap Some (sym same))
@@ -239,7 +240,7 @@ module _ (p a : Program) (n m masked k : Nest) (masks : ℕ) (is : IsProgram77 f
   source_names : (x : List ℕ) → Contains (names_of p) x → IsSourceName x
   source_names x c =
       let o = of_map (λ (d : Declaration). d.name) p.declarations x c in
-      subst IsSourceName o.2 (own_source p n m masked masks is among normal made few o.0 o.1)
+      subst IsSourceName o.2 (own_source width p n m masked masks is among normal made few o.0 o.1)
 
   places : ArePlacesOf p (before_expansion a k) a k
   places = record {
@@ -252,13 +253,13 @@ module _ (p a : Program) (n m masked k : Nest) (masks : ℕ) (is : IsProgram77 f
   -- ---- in its places
 
   module _ (w : Surroundings) (found_nest : IsFoundNest p n) (number : n.number < 2 ^ 32) (round : All IsSourceName w.variables) (stated : IsStatement p.declarations (as_statement found_nest.loop.loop.loop) w) where
-    there : IsUnexpandedIn p (before_expansion a k) m masked k w.variables
+    there : IsUnexpandedIn width p (before_expansion a k) m masked k w.variables
     there =
-        is_unexpanded p (before_expansion a k) n m masked k (with_counters p n m masked masks is among normal made few) masks w found_nest is among normal made anew ranges_few few
-        (are_counters p n m masked masks is among normal made few).more (no_mask p n m masked masks is among normal made few)
-        (counted_first p n m masked masks is among normal made few) add_before masks_first counters_before names_before number round stated
+        is_unexpanded width p (before_expansion a k) n m masked k (with_counters width p n m masked masks is among normal made few) masks w found_nest is among normal made anew ranges_few few
+        (are_counters width p n m masked masks is among normal made few).more (no_mask width p n m masked masks is among normal made few)
+        (counted_first width p n m masked masks is among normal made few) add_before masks_first counters_before names_before number round stated
 
-    pub in_places : IsFoundInPlaces p a m masked k masks w.variables
+    pub in_places : IsFoundInPlaces width p a m masked k masks w.variables
     in_places = record {
       counters = counters_before;
       masks = masks_before;
@@ -266,17 +267,17 @@ module _ (p a : Program) (n m masked k : Nest) (masks : ℕ) (is : IsProgram77 f
       goes_on = there.goes_on;
       places = record {
         places = places;
-        loop = (one_loop p n m masked k masks is among normal made few anew ranges_few).loop;
-        body = (one_loop p n m masked k masks is among normal made few anew ranges_few).body;
-        turns = (one_loop p n m masked k masks is among normal made few anew ranges_few).is_loop;
+        loop = (one_loop width p n m masked k masks is among normal made few anew ranges_few).loop;
+        body = (one_loop width p n m masked k masks is among normal made few anew ranges_few).body;
+        turns = (one_loop width p n m masked k masks is among normal made few anew ranges_few).is_loop;
         before = there.prepared;
-        behind = expanded_nest_is_prepared before a.declarations w.variables unexpanded_depth k (one_loop p n m masked k masks is among normal made few anew ranges_few).loop (one_loop p n m masked k masks is among normal made few anew ranges_few).body there.prepared (one_loop p n m masked k masks is among normal made few anew ranges_few).is_loop there.may there.free declared_for (omega arith);
+        behind = expanded_nest_is_prepared before a.declarations w.variables unexpanded_depth k (one_loop width p n m masked k masks is among normal made few anew ranges_few).loop (one_loop width p n m masked k masks is among normal made few anew ranges_few).body there.prepared (one_loop width p n m masked k masks is among normal made few anew ranges_few).is_loop there.may there.free declared_for (omega arith);
         may = there.may;
         free = there.free;
-        scalars = are_scalars p n m masked k masks is among normal made few anew ranges_few;
+        scalars = are_scalars width p n m masked k masks is among normal made few anew ranges_few;
       };
     }
 
-pub found_nest_is_expanded_in_places : FoundNestIsExpandedInPlaces
-found_nest_is_expanded_in_places p a n m masked k masks w found_nest is among normal made anew ranges_few few add counters made_so number round stated =
-    in_places p a n m masked k masks is among normal made (few_before m masked k anew few) anew ranges_few add counters made_so w found_nest number round stated
+pub found_nest_is_expanded_in_places : (width : Width) → FoundNestIsExpandedInPlaces width
+found_nest_is_expanded_in_places width p a n m masked k masks w found_nest is among normal made anew ranges_few few add counters made_so number round stated =
+    in_places width p a n m masked k masks is among normal made (few_before m masked k anew few) anew ranges_few add counters made_so w found_nest number round stated

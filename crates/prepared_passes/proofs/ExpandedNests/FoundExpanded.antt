@@ -14,6 +14,7 @@ use Rattle.find_nests.specs.Found.{InNest, found_in}
 use Rattle.if_convert.specs.Converted.{converted_nest}
 use Rattle.if_convert.specs.Masks.{mask_name}
 use Rattle.meaning.specs.Dialect.{fortran77}
+use Rattle.tree.specs.declared.width.Width.{Width}
 use Rattle.meaning.specs.Profile77.{IsProgram77}
 use Rattle.meaning.specs.Profile90.{IsDeclaration, IsExtent}
 use Rattle.meaning.specs.SymbolicNames.{IsLongName}
@@ -35,7 +36,7 @@ use Rattle.tree.specs.Names.{IsSourceName}
 use Rattle.tree.specs.Plain.{Declaration, Expression, Extent, Given, Program}
 use Rattle.tree.specs.declared.ops.Kind.TheVariants.{Logical}
 use Rattle.scalar_expand.specs.Expanded.{array_of, expanded, named_private}
-use Rattle.scalar_expand.specs.Privates.{array_name, made_kind, number_behind, private_scalars}
+use Rattle.scalar_expand.specs.Privates.{expanded_name, made_kind, number_behind, private_scalars}
 use Rattle.scalar_expand.specs.Texts.{extent_texts}
 use Rattle.scalar_expand.specs.declared.privates.Private.{Private}
 use Rattle.scalar_expand.specs.declared.privates.RoundLoop.{RoundLoop}
@@ -89,28 +90,28 @@ extent_later (e ∷ es) = refl
 abbrev as_made : Made → Declaration
 as_made x = record { name = x.name; kind = x.kind; extent = extent_for x.extents }
 
-module _ (p : Program) (n m masked k : Nest) (masks : ℕ) (is : IsProgram77 fortran77 p) (among : Contains (found_in p) (InNest n))
+module _ (width : Width) (p : Program) (n m masked k : Nest) (masks : ℕ) (is : IsProgram77 (fortran77 width) p) (among : Contains (found_in p) (InNest n))
     (normal : normalised n ≡ Some m) (made : converted_nest masks m ≡ Some masked) (few : masked.masks ≤ 4294967296)
     (anew : k ≡ unexpanded m masked) (ranges_few : HaveFewRanges (substituted m masked)) where
   abbrev ps : List Private
   ps = private_scalars k
 
   abbrev ds : List Declaration
-  ds = with_three p n m masked masks is among normal made few ranges_few
+  ds = with_three width p n m masked masks is among normal made few ranges_few
 
   abbrev outside : List (List ℕ)
-  outside = (stands p n m masked masks is among normal made few).round.variables
+  outside = (stands width p n m masked masks is among normal made few).round.variables
 
   h : IsPrepared ds outside unexpanded_depth k
-  h = prepared p n m masked k masks is among normal made few anew ranges_few
+  h = prepared width p n m masked k masks is among normal made few anew ranges_few
 
   may : MayBeExpanded ds k
-  may = may_be_expanded p n m masked k masks is among normal made few anew ranges_few ds (are_three p n m masked masks is among normal made few ranges_few).more
+  may = may_be_expanded width p n m masked k masks is among normal made few anew ranges_few ds (are_three width p n m masked masks is among normal made few ranges_few).more
 
   -- ---- what is declared
 
   abbrev counted : List Declaration
-  counted = counters p n m masked masks is among normal made few
+  counted = counters width p n m masked masks is among normal made few
 
   abbrev arrays : List Declaration
   arrays = map as_made (expanded k).made
@@ -129,20 +130,20 @@ module _ (p : Program) (n m masked k : Nest) (masks : ℕ) (is : IsProgram77 for
   as_scalar_is x e = ap (λ (y : Extent). let d : Declaration = record { name = x.name; kind = x.kind; extent = y } in d) (sym (ap extent_for e))
 
   scalar_is_made : (x : Made) → In x k.made → IsMadeDeclaration (as_made x)
-  scalar_is_made x i = by (made_is_one p n m masked k masks is among normal made few anew ranges_few x i)
+  scalar_is_made x i = by (made_is_one width p n m masked k masks is among normal made few anew ranges_few x i)
     where
-      by : IsOneOf masks (k.masks - masks) x ⊎ In x (names_made (substituted m masked)) → IsMadeDeclaration (as_made x)
+      by : IsOneOf width masks (k.masks - masks) x ⊎ In x (names_made (substituted m masked)) → IsMadeDeclaration (as_made x)
       by (inl o) =
-          let up = rise p n m masked k masks is among normal made few anew ranges_few in
-          let as_many = same_masks p n m masked k masks is among normal made few anew ranges_few in
+          let up = rise width p n m masked k masks is among normal made few anew ranges_few in
+          let as_many = same_masks width p n m masked k masks is among normal made few anew ranges_few in
           let below = o.below in
           let d = scalar_of Logical (mask_name o.number) in
           subst (λ (z : Made). IsMadeDeclaration (as_made z)) (sym o.is)
-          (is_made d (counter_or_mask (nest_loops m) (numbered p n m masked masks is among normal made few) masked.masks few d
+          (is_made d (counter_or_mask (nest_loops m) (numbered width p n m masked masks is among normal made few) masked.masks few d
           (Contains-append_right counted (masks_below masked.masks) d (mask_below masked.masks o.number (omega (arith, up, below, as_many))))))
       by (inr r) =
-          subst IsMadeDeclaration (as_scalar_is x (no_extents p n m masked k masks is among normal made few anew ranges_few x i))
-          (range_is_made p n m masked masks is among normal made few ranges_few x r)
+          subst IsMadeDeclaration (as_scalar_is x (no_extents width p n m masked k masks is among normal made few anew ranges_few x i))
+          (range_is_made width p n m masked masks is among normal made few ranges_few x r)
 
   -- its name, where the program has the scalar
   long_name : (q : Private) → In q ps → IsSourceName q.name → list_all stands_in_name q.name ≡ true
@@ -150,12 +151,12 @@ module _ (p : Program) (n m masked k : Nest) (masks : ℕ) (is : IsProgram77 for
     where
       by : ((d : Declaration) × (declared k.declarations q.name ≡ Some d) × (d.extent ≡ Given [])) ⊎ ((declared k.declarations q.name ≡ None) × (made_kind k.made q.name ≡ Some q.kind)) → list_all stands_in_name q.name ≡ true
       by (inl r) =
-          let f = found p.declarations q.name r.0 (subst (λ es. declared es q.name ≡ Some r.0) (same_declarations p n m masked k masks is among normal made few anew ranges_few) r.1) in
-          let d : IsDeclaration r.0 = all_at IsDeclaration p.declarations r.0 (own_are p n m masked masks is among normal made few).each f.among in
+          let f = found p.declarations q.name r.0 (subst (λ es. declared es q.name ≡ Some r.0) (same_declarations width p n m masked k masks is among normal made few anew ranges_few) r.1) in
+          let d : IsDeclaration r.0 = all_at IsDeclaration p.declarations r.0 (own_are width p n m masked masks is among normal made few).each f.among in
           subst (λ x. list_all stands_in_name x ≡ true) f.name d.name.goes_on
       by (inr r) =
           let o = made_of k.made q.name q.kind r.1 in
-          absurd (made_no_source p n m masked k masks is among normal made few anew ranges_few q.name (subst (λ x. In x (map (λ (a : Made). a.name) k.made)) o.name (map-In (λ (a : Made). a.name) o.made k.made o.inside)) s)
+          absurd (made_no_source width p n m masked k masks is among normal made few anew ranges_few q.name (subst (λ x. In x (map (λ (a : Made). a.name) k.made)) o.name (map-In (λ (a : Made). a.name) o.made k.made o.inside)) s)
 
   array_is_made : (q : Private) → In q ps → IsMadeDeclaration (as_made (array_of k.symbols q))
   array_is_made q i = by (array_is ds outside unexpanded_depth k h may q i)
@@ -205,11 +206,11 @@ module _ (p : Program) (n m masked k : Nest) (masks : ℕ) (is : IsProgram77 for
   named_so x i = by (stays x i)
     where
       of_scalar : (y : Made) → In y k.made → x.name ≡ y.name → x.kind ≡ y.kind → IsNamedOfNest x
-      of_scalar y j name kind = of (made_is_one p n m masked k masks is among normal made few anew ranges_few y j)
+      of_scalar y j name kind = of (made_is_one width p n m masked k masks is among normal made few anew ranges_few y j)
         where
-          of : IsOneOf masks (k.masks - masks) y ⊎ In y (names_made (substituted m masked)) → IsNamedOfNest x
+          of : IsOneOf width masks (k.masks - masks) y ⊎ In y (names_made (substituted m masked)) → IsNamedOfNest x
           of (inl o) =
-              let up = rise p n m masked k masks is among normal made few anew ranges_few in
+              let up = rise width p n m masked k masks is among normal made few anew ranges_few in
               let below = o.below in
               inl (record {
                 number = o.number;
@@ -219,22 +220,22 @@ module _ (p : Program) (n m masked k : Nest) (masks : ℕ) (is : IsProgram77 for
                 kind = kind ∙ ap (λ (z : Made). z.kind) o.is;
               })
           of (inr r) =
-              let q = range_of p n m masked masks is among normal made few y r in
+              let q = range_of width p n m masked masks is among normal made few y r in
               let below = q.below in
-              let most = few_ranges p n m masked masks is among normal made few ranges_few q.web q.inside in
+              let most = few_ranges width p n m masked masks is among normal made few ranges_few q.web q.inside in
               inr (inr (record {
                 scalar = q.web.name;
-                source = scalar_is p n m masked masks is among normal made few q.web q.inside;
+                source = scalar_is width p n m masked masks is among normal made few q.web q.inside;
                 range = q.range;
                 few = omega (arith, below, most);
-                name = name ∙ (name_is p n m masked masks is among normal made few y r ∙ ap (λ c. range_name c q.web.name q.range) (sub_number p n m masked masks is among normal made few));
+                name = name ∙ (name_is width p n m masked masks is among normal made few y r ∙ ap (λ c. range_name c q.web.name q.range) (sub_number width p n m masked masks is among normal made few));
               }))
 
       of_array : (q : Private) → In q ps → x ≡ array_of k.symbols q → Named-so ds outside unexpanded_depth k h may q → IsNamedOfNest x
       of_array q j e (inl (s, f)) = inr (inl (record {
         scalar = q.name;
         source = s;
-        name = ap (λ (z : Made). z.name) e ∙ (array_named k q j ∙ ap (λ c. array_name c q.name) (same_number p n m masked k masks is among normal made few anew ranges_few));
+        name = ap (λ (z : Made). z.name) e ∙ (array_named k q j ∙ ap (λ c. expanded_name c q.name) (same_number width p n m masked k masks is among normal made few anew ranges_few));
       }))
       of_array q j e (inr (none, f)) = of (found_kind k.declarations (made_kind k.made q.name) q.name q.kind (start ds outside unexpanded_depth k h may q j).kind)
         where
@@ -251,7 +252,7 @@ module _ (p : Program) (n m masked k : Nest) (masks : ℕ) (is : IsProgram77 for
   -- ---- they are declared together
 
   counter_is : (e : Declaration) → Contains counted e → IsMadeDeclaration e
-  counter_is e c = is_made e (a_counter (nest_loops m) (numbered p n m masked masks is among normal made few) masked.masks few e c)
+  counter_is e c = is_made e (a_counter (nest_loops m) (numbered width p n m masked masks is among normal made few) masked.masks few e c)
 
   each_made : (e : Declaration) → Contains new e → IsMadeDeclaration e
   each_made e c = by (Contains-append_cases counted arrays e c)
@@ -264,19 +265,19 @@ module _ (p : Program) (n m masked k : Nest) (masks : ℕ) (is : IsProgram77 for
   counts_none : (d : Declaration) (x : Made) → Contains counted d → In x (expanded k).made → ¬ (d.name ≡ x.name)
   counts_none d x c i e = by (stays x i)
     where
-      of_scalar : IsOneOf masks (k.masks - masks) x ⊎ In x (names_made (substituted m masked)) → ⊥
+      of_scalar : IsOneOf width masks (k.masks - masks) x ⊎ In x (names_made (substituted m masked)) → ⊥
       of_scalar (inl one) =
-          let o = of_counter (nest_loops m) (numbered p n m masked masks is among normal made few) d c in
+          let o = of_counter (nest_loops m) (numbered width p n m masked masks is among normal made few) d c in
           counter_apart_mask o.numbered.number one.number (o.numbered.is ∙ (e ∙ ap (λ (z : Made). z.name) one.is))
       of_scalar (inr r) =
-          let o = of_counter (nest_loops m) (numbered p n m masked masks is among normal made few) d c in
-          let bad : 78 ≡ 76 = sym (fourth_letter p n m masked masks is among normal made few x r) ∙ (ap fourth (sym e ∙ sym o.numbered.is) ∙ fourth_loop o.numbered.number) in
+          let o = of_counter (nest_loops m) (numbered width p n m masked masks is among normal made few) d c in
+          let bad : 78 ≡ 76 = sym (fourth_letter width p n m masked masks is among normal made few x r) ∙ (ap fourth (sym e ∙ sym o.numbered.is) ∙ fourth_loop o.numbered.number) in
           absurd (omega (arith, bad))
 
       by : Stays x → ⊥
-      by (inl r) = of_scalar (made_is_one p n m masked k masks is among normal made few anew ranges_few x r.0)
+      by (inl r) = of_scalar (made_is_one width p n m masked k masks is among normal made few anew ranges_few x r.0)
       by (inr r) =
-          let o = of_counter (nest_loops m) (numbered p n m masked masks is among normal made few) d c in
+          let o = of_counter (nest_loops m) (numbered width p n m masked masks is among normal made few) d c in
           array_no_counter ds outside unexpanded_depth k h may r.0 r.1 o.numbered.number (sym (ap (λ (z : Made). z.name) r.2) ∙ (sym e ∙ sym o.numbered.is))
 
   pub once : Distinct (map (λ (a : Made). a.name) (expanded k).made)
@@ -287,8 +288,8 @@ module _ (p : Program) (n m masked k : Nest) (masks : ℕ) (is : IsProgram77 for
     where
       by : Contains counted d ⊎ Contains arrays d → Contains counted e ⊎ Contains arrays e → d ≡ e
       by (inl f) (inl g) =
-          agree d e (a_counter (nest_loops m) (numbered p n m masked masks is among normal made few) masked.masks few d f)
-          (a_counter (nest_loops m) (numbered p n m masked masks is among normal made few) masked.masks few e g) same
+          agree d e (a_counter (nest_loops m) (numbered width p n m masked masks is among normal made few) masked.masks few d f)
+          (a_counter (nest_loops m) (numbered width p n m masked masks is among normal made few) masked.masks few e g) same
       by (inl f) (inr g) =
           let o = of_map as_made (expanded k).made e g in
           absurd (counts_none d o.0 f (Contains-In o.0 (expanded k).made o.1) (same ∙ sym (ap (λ (z : Declaration). z.name) o.2)))
@@ -306,34 +307,34 @@ module _ (p : Program) (n m masked k : Nest) (masks : ℕ) (is : IsProgram77 for
 
   are_all : AreWith p.declarations new all
   are_all =
-      with_made_names p.declarations new (own_are p n m masked masks is among normal made few) (each_member IsMadeDeclaration new each_made) alone
-      (λ d e c i same. (each_made e i).made (subst IsSourceName same (own_source p n m masked masks is among normal made few d c)))
+      with_made_names p.declarations new (own_are width p n m masked masks is among normal made few) (each_member IsMadeDeclaration new each_made) alone
+      (λ d e c i same. (each_made e i).made (subst IsSourceName same (own_source width p n m masked masks is among normal made few d c)))
 
   -- ---- the expanded nest
 
   counted_so : All (λ (l : Loop). IsSomeAnd (declared all l.variable) IsCounter) (nest_loops m)
   counted_so =
       each_member (λ (l : Loop). IsSomeAnd (declared all l.variable) IsCounter) (nest_loops m)
-      (λ l c. counts p n m masked masks is among normal made few all l (are_all.declared (counter_of l) (Contains-append_left counted arrays (counter_of l) (counter_in p n m masked masks is among normal made few l c))))
+      (λ l c. counts width p n m masked masks is among normal made few all l (are_all.declared (counter_of l) (Contains-append_left counted arrays (counter_of l) (counter_in width p n m masked masks is among normal made few l c))))
 
   has : HasExpandedDeclarations k
   has =
-      let s = stands p n m masked masks is among normal made few in
-      let f = in_places p (record p { declarations = all }) n m masked k masks is among normal made few anew ranges_few are_all.more counted_so
-      (λ x c. are_all.declared (as_made x) (Contains-append_right counted arrays (as_made x) (in_map as_made (expanded k).made x c))) s.round (here p n m masked masks is among normal made few) (number p n m masked masks is among normal made few) s.named s.is in
+      let s = stands width p n m masked masks is among normal made few in
+      let f = in_places width p (record p { declarations = all }) n m masked k masks is among normal made few anew ranges_few are_all.more counted_so
+      (λ x c. are_all.declared (as_made x) (Contains-append_right counted arrays (as_made x) (in_map as_made (expanded k).made x c))) s.round (here width p n m masked masks is among normal made few) (number width p n m masked masks is among normal made few) s.named s.is in
       record { declarations = all; around = s.round.variables; are = are_all.more.are; prepared = f.places.behind }
 
-pub found_nest_has_expanded_declarations : FoundNestHasExpandedDeclarations
-found_nest_has_expanded_declarations p n m masked k masks is among normal made anew ranges_few few =
-    has p n m masked k masks is among normal made (few_before m masked k anew few) anew ranges_few
+pub found_nest_has_expanded_declarations : (width : Width) → FoundNestHasExpandedDeclarations width
+found_nest_has_expanded_declarations width p n m masked k masks is among normal made anew ranges_few few =
+    has width p n m masked k masks is among normal made (few_before m masked k anew few) anew ranges_few
 
-pub found_nest_has_made_names : FoundNestHasMadeNames
-found_nest_has_made_names p n m masked k masks is among normal made anew ranges_few few x c =
-    named_so p n m masked k masks is among normal made (few_before m masked k anew few) anew ranges_few x (Contains-In x (expanded k).made c)
+pub found_nest_has_made_names : (width : Width) → FoundNestHasMadeNames width
+found_nest_has_made_names width p n m masked k masks is among normal made anew ranges_few few x c =
+    named_so width p n m masked k masks is among normal made (few_before m masked k anew few) anew ranges_few x (Contains-In x (expanded k).made c)
 
-pub found_nest_has_no_private_scalars : FoundNestHasNoPrivateScalars
-found_nest_has_no_private_scalars p n m masked k masks is among normal made anew ranges_few few =
+pub found_nest_has_no_private_scalars : (width : Width) → FoundNestHasNoPrivateScalars width
+found_nest_has_no_private_scalars width p n m masked k masks is among normal made anew ranges_few few =
     let least = few_before m masked k anew few in
-    let o = one_loop p n m masked k masks is among normal made least anew ranges_few in
-    expanded_nest_has_no_private_scalars (ds p n m masked k masks is among normal made least anew ranges_few) (outside p n m masked k masks is among normal made least anew ranges_few) unexpanded_depth k o.loop o.body
-    (h p n m masked k masks is among normal made least anew ranges_few) o.is_loop (may p n m masked k masks is among normal made least anew ranges_few)
+    let o = one_loop width p n m masked k masks is among normal made least anew ranges_few in
+    expanded_nest_has_no_private_scalars (ds width p n m masked k masks is among normal made least anew ranges_few) (outside width p n m masked k masks is among normal made least anew ranges_few) unexpanded_depth k o.loop o.body
+    (h width p n m masked k masks is among normal made least anew ranges_few) o.is_loop (may width p n m masked k masks is among normal made least anew ranges_few)

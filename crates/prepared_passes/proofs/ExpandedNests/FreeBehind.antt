@@ -20,6 +20,8 @@ use Rattle.last_values.specs.Behind.{stands_behind}
 use Rattle.last_values.specs.declared.behind.NestedLoop.{NestedLoop}
 use Rattle.meaning.specs.Blocks.{Surroundings}
 use Rattle.meaning.specs.Dialect.{fortran77}
+use Rattle.tree.specs.declared.width.Width.TheVariants.{Plain}
+use Rattle.tree.specs.declared.width.Width.{Width}
 use Rattle.meaning.specs.Profile77.{IsProgram77, IsStatement}
 use Rattle.meaning.specs.Typed.{declared}
 use Rattle.meaning_laws.specs.profiles.Profiles.{AddMadeNames}
@@ -156,7 +158,7 @@ not_in (y ∷ ys) x e (inr i) = not_in ys x (either_false (bytes_eq y x) (is_amo
 
 -- ---- the nest
 
-module _ (p : Program) (n m j : Nest) (ds es : List Declaration) (masks : ℕ) (w : Surroundings) (found_nest : IsFoundNest p n) (is : IsProgram77 fortran77 p)
+module _ (width : Width) (p : Program) (n m j : Nest) (ds es : List Declaration) (masks : ℕ) (w : Surroundings) (found_nest : IsFoundNest p n) (is : IsProgram77 (fortran77 width) p)
     (among : Contains (found_in p) (InNest n)) (made : normalised n ≡ Some m) (converted : converted_nest masks m ≡ Some j) (few : j.masks ≤ 2 ^ 32)
     (add : AddMadeNames p.declarations ds) (none : (i : ℕ) → declared ds (mask_name i) ≡ None)
     (counters : All (λ (l : Loop). IsSomeAnd (declared ds l.variable) IsCounter) (nest_loops m)) (more : AddMadeNames p.declarations es)
@@ -164,18 +166,18 @@ module _ (p : Program) (n m j : Nest) (ds es : List Declaration) (masks : ℕ) (
     (counted : All (λ (l : Loop). IsSomeAnd (declared es l.variable) IsCounter) (nest_loops m)) (number : n.number < 2 ^ 32) (round : All IsSourceName w.variables)
     (stated : IsStatement p.declarations (as_statement found_nest.loop.loop.loop) w) where
   without : IsBranched ds w.variables normal_depth m
-  without = normal_nest_is_branched p n m ds w found_nest is among made add counters number round stated
+  without = normal_nest_is_branched width p n m ds w found_nest is among made add counters number round stated
 
   with_masks : IsBranched es w.variables normal_depth m
-  with_masks = normal_nest_is_branched p n m es w found_nest is among made more counted number round stated
+  with_masks = normal_nest_is_branched width p n m es w found_nest is among made more counted number round stated
 
   pub converted_prepared : IsPrepared es w.variables normal_depth j
   converted_prepared =
-      converted_branched_nest_is_prepared ds es w.variables normal_depth masks m j without none (found_nest_is_unguarded p n m is among made) converted few (omega arith)
+      converted_branched_nest_is_prepared ds es w.variables normal_depth masks m j without none (found_nest_is_unguarded width p n m is among made) converted few (omega arith)
       with_masks marks
 
   source : IsBranchedSource n
-  source = found_nest_is_branched_source p n is among
+  source = found_nest_is_branched_source width p n is among
 
   symbols_same : j.symbols ≡ n.symbols
   symbols_same = symbols_kept masks m j converted ∙ (normal.made_of n m made).symbols
@@ -193,7 +195,7 @@ module _ (p : Program) (n m j : Nest) (ds es : List Declaration) (masks : ℕ) (
         each_in (λ (o : NestedLoop). IsSourceName o.turns.variable) (loops_in n)
         (nested_named n.symbols (IsSoundStatement es w) (IsSoundLoop w) IsSourceName (λ o h. h.source) [] n.body tt
         (subst (λ (z : Nest). EachIn (IsSoundStatement es w) (IsSoundLoop w) z.body) (sym found_nest.is)
-        (loop_is p.declarations es (extends fortran77 p es is more) (declared_source fortran77 p is) w found_nest.loop.loop stated))) l inside
+        (loop_is p.declarations es (extends (fortran77 width) p es is more) (declared_source (fortran77 width) p is) w found_nest.loop.loop stated))) l inside
 
     ends : ends_behind n l.turns.variable ≡ true
     ends = ap (λ b. b && stands_behind (length n.symbols) (loops_in n) n.body l.turns.variable) (among_map (loops_in n) l inside) ∙ behind
@@ -213,7 +215,7 @@ module _ (p : Program) (n m j : Nest) (ds es : List Declaration) (masks : ℕ) (
         let b = branched_alone ds w.variables normal_depth m l.turns.variable source_name without left in
         let d = branched_alone es w.variables normal_depth m l.turns.variable source_name with_masks left in
         let is_prepared = converted_branched_nest_is_prepared ds es (l.turns.variable ∷ []) normal_depth masks (alone_in m) (converted_loop (alone_in m) masks f.loop f.within)
-        b none (found_nest_is_unguarded p n m is among made) (of_body masks (alone_in m) f.loop f.within f.body)
+        b none (found_nest_is_unguarded width p n m is among made) (of_body masks (alone_in m) f.loop f.within f.body)
         (subst (λ (z : Nest). z.masks ≤ 2 ^ 32) (sym f.made) few) (omega arith) d
         (subst (λ (z : Nest). (i : ℕ) → masks ≤ i → i < z.masks → IsSomeAnd (declared es (mask_name i)) IsMask) (sym f.made) marks) in
         all_in (λ (x : Standing). ¬ Contains (l.turns.variable ∷ []) x.statement.left.name) (nest_statements (converted_loop (alone_in m) masks f.loop f.within))
@@ -284,8 +286,8 @@ module _ (p : Program) (n m j : Nest) (ds es : List Declaration) (masks : ℕ) (
         free_by (IsOther k) (MayGet k) (λ y i. symbol_apart es w.variables d k prepared may y (same.kept y i))
         (λ l i e. (other l i e, λ right. (other l i e, no_counter l i e, λ there. absurd (none_of_symbols k same l i e there))))
 
-pub found_nest_is_free_behind : FoundNestIsFreeBehind
-found_nest_is_free_behind p n m k ds es masks w found_nest is among made converted few add none counters more marks counted number round stated may =
-    free_behind p n m k ds es masks w found_nest is among made converted few add none counters more marks counted number round stated k normal_depth
-    (converted_prepared p n m k ds es masks w found_nest is among made converted few add none counters more marks counted number round stated) may
+pub found_nest_is_free_behind : (width : Width) → FoundNestIsFreeBehind width
+found_nest_is_free_behind width p n m k ds es masks w found_nest is among made converted few add none counters more marks counted number round stated may =
+    free_behind width p n m k ds es masks w found_nest is among made converted few add none counters more marks counted number round stated k normal_depth
+    (converted_prepared width p n m k ds es masks w found_nest is among made converted few add none counters more marks counted number round stated) may
     (record { assigned = λ x i s. assigned_in (nest_statements k) x i; kept = λ y i. i; new = λ y i. inl i })

@@ -55,6 +55,7 @@ use Rattle.nest_order.specs.runs.Touched.{MayHaveEach}
 use Rattle.nest_order.proofs.orders.Membership.{map-In}
 use Rattle.nest_rewrite.specs.Statements.{rewritten_statement}
 use Rattle.scalar_expand.specs.Expanded.{made_before, made_now}
+use Rattle.tree.specs.declared.width.Width.{Width}
 
 -- ---- lists
 
@@ -94,18 +95,18 @@ given_bounds (d ∷ ds) y bs e = by (bytes_eq d.name y) refl e (λ f. given_boun
 
 -- ---- all of it
 
-module _ (p b a : Program) (around : List (List ℕ)) (deepest deeper : ℕ) (m : Nest) (x : IsExpandedInPlaces p b a around deepest deeper m)
-    (u : State) (may : MayRun a (expanded m) u) (sized : HoldsSized u.store) where
+module _ (width : Width) (p b a : Program) (around : List (List ℕ)) (deepest deeper : ℕ) (m : Nest) (x : IsExpandedInPlaces p b a around deepest deeper m)
+    (u : State) (may : MayRun width a (expanded m) u) (sized : HoldsSized u.store) where
   abbrev k : Nest
   k = expanded m
 
   abbrev w : Setting
-  w = setting_at may
+  w = setting_at width may
 
-  declared_there : HasDeclaredBounds (expanded m) (setting_at may)
+  declared_there : HasDeclaredBounds (expanded m) (setting_at width may)
   declared_there y bs e =
       let d = given_bounds m.declarations y bs (ap (λ (ds : List Declaration). opening_bounds ds y) (sym (declarations_are m)) ∙ e) in
-      let there = kept p b a around deepest deeper m x y d.0 (x.may.among y d.0 d.1) (not_made p b a around deepest deeper m x y (x.may.source y d.0 d.1)) in
+      let there = kept width p b a around deepest deeper m x y d.0 (x.may.among y d.0 d.1) (not_made width p b a around deepest deeper m x y (x.may.source y d.0 d.1)) in
       by d.0 d.2 (subst (λ (o : Option Declaration). IfSome o (λ (f : Declaration). HasBounds f.extent (u.store.bounds y))) there (may.holds.bounds y))
     where
       by : (d : Declaration) → d.extent ≡ Given bs → HasBounds d.extent (u.store.bounds y) → u.store.bounds y ≡ Some bs
@@ -123,7 +124,7 @@ module _ (p b a : Program) (around : List (List ℕ)) (deepest deeper : ℕ) (m 
 
     -- a scalar that stays has its cell
     scalar_cells : (r : Reference) → In r (y.statement.left ∷ read_by (private_scalars m) y.statement) → (c : Made) → In c m.made
-        → named_private (private_scalars m) c.name ≡ None → c.name ≡ r.name → HasCells (run_nest (expanded m)) (setting_at may) s r
+        → named_private (private_scalars m) c.name ≡ None → c.name ≡ r.name → HasCells (run_nest (expanded m)) (setting_at width may) s r
     scalar_cells r i c j none same = record {
       linear = subst (AreLinear (run_nest (expanded m)) s) (sym bare) tt;
       names = λ o instance at. record {
@@ -135,7 +136,7 @@ module _ (p b a : Program) (around : List (List ℕ)) (deepest deeper : ℕ) (m 
       where
         scalar : IsSomeAnd (declared a.declarations r.name) (λ (d : Declaration). (d.kind ≡ c.kind) × (d.extent ≡ Given []))
         scalar = subst (λ n. IsSomeAnd (declared a.declarations n) (λ (d : Declaration). (d.kind ≡ c.kind) × (d.extent ≡ Given []))) same
-            (made_scalar_there p b a around deepest deeper m x c j none)
+            (made_scalar_there width p b a around deepest deeper m x c j none)
 
         given : IsSomeAnd (declared a.declarations r.name) (λ (d : Declaration). d.extent ≡ Given [])
         given = by (declared a.declarations r.name) scalar
@@ -179,7 +180,7 @@ module _ (p b a : Program) (around : List (List ℕ)) (deepest deeper : ℕ) (m 
         cell_there : cell_in (u.store.bounds q.array) q.array (numbers js) ≡ Ok (element_cell q js)
         cell_there =
             ap (λ (o : Option (List (ℤ × ℤ))). cell_in o q.array (numbers js))
-            (limits_there p b a around deepest deeper m x u may sized may.values (may_valued p b a around deepest deeper m x u may sized) q among)
+            (limits_there width p b a around deepest deeper m x u may sized may.values (may_valued width p b a around deepest deeper m x u may sized) q among)
             ∙ ap (λ (t : Bool). cond t (Ok (element_cell q js)) (Err Bounds)) covers
 
         each_there : Pairs (Here (run_nest (expanded m)) may.values s js) (map (λ (l : RoundLoop). l.variable) q.loops) js
@@ -188,7 +189,7 @@ module _ (p b a : Program) (around : List (List ℕ)) (deepest deeper : ℕ) (m 
             (each_here a.declarations around deeper (expanded m) x.behind may.values s y there inside js turns)
 
       names_cell : (o : Instance) → IsInstance (run_nest (expanded m)).loops_of ((run_nest (expanded m)).turns_of may.values) (run_nest (expanded m)).shape o → o.statement ≡ s
-          → NamesCell (run_nest (expanded m)) (setting_at may) o (element q)
+          → NamesCell (run_nest (expanded m)) (setting_at width may) o (element q)
       names_cell o instance at =
           let turns = subst (λ (ls : List ℕ). Within ((run_nest (expanded m)).turns_of may.values) [] ls o.iterations)
           (ap (run_nest (expanded m)).loops_of at ∙ ap rounds_of there) instance.1 in
@@ -202,7 +203,7 @@ module _ (p b a : Program) (around : List (List ℕ)) (deepest deeper : ℕ) (m 
             within = cell_there o.iterations turns;
           }
 
-      element_cells : HasCells (run_nest (expanded m)) (setting_at may) s (element q)
+      element_cells : HasCells (run_nest (expanded m)) (setting_at width may) s (element q)
       element_cells = record {
         linear = are_linear (run_nest (expanded m)) s q.loops
             (λ l i. linear_variable a.declarations around deeper (expanded m) x.behind may.values s y there inside l.variable (name_there l i));
@@ -212,7 +213,7 @@ module _ (p b a : Program) (around : List (List ℕ)) (deepest deeper : ℕ) (m 
     -- ---- whichever it is
 
     cells : (r : Reference) → In r (y.statement.left ∷ read_by (private_scalars m) y.statement) → is_made (expanded m) r.name ≡ true
-        → HasCells (run_nest (expanded m)) (setting_at may) s r
+        → HasCells (run_nest (expanded m)) (setting_at width may) s r
     cells r i e =
         let c = made_named (expanded m).made r.name e in
         let j = subst (In c.0) (made_are m) c.1 in
@@ -220,12 +221,12 @@ module _ (p b a : Program) (around : List (List ℕ)) (deepest deeper : ℕ) (m 
         (subst (λ (v : Standing). In r (v.statement.left ∷ read_by (private_scalars m) v.statement)) is i))
       where
         by : (c : Made) → In c (expanded m).made → In c (made_before m.symbols (private_scalars m) m.made ++ made_now m.symbols (private_scalars m)) → c.name ≡ r.name
-            → ComesFrom (private_scalars m) (all_of (private_scalars m) z.statement) r → HasCells (run_nest (expanded m)) (setting_at may) s r
+            → ComesFrom (private_scalars m) (all_of (private_scalars m) z.statement) r → HasCells (run_nest (expanded m)) (setting_at width may) s r
         by c k j same (inl h) =
             let st_here = subst (λ n. stands_in_statement n z.statement ≡ true) h.name
             (stands (private_scalars m) z.statement st.plain.0 st.plain.1 st.plain.2 h.first h.inside) in
             let round = loops_round m x.before.plain (distinct_too (numbers_of (nest_loops m)) x.before.parts.once) h.scalar h.among z first st_here in
-            subst (HasCells (run_nest (expanded m)) (setting_at may) s) (sym h.is)
+            subst (HasCells (run_nest (expanded m)) (setting_at width may) s) (sym h.is)
             (element_cells h.scalar h.among (round ∙ ap (λ (v : Standing). map round_loop v.loops) (sym is)))
         by c k j same (inr (inl h)) =
             let n = names_scalar b.declarations around deepest m x.before x.may z first r h c j same in
@@ -234,9 +235,9 @@ module _ (p b a : Program) (around : List (List ℕ)) (deepest deeper : ℕ) (m 
             let n = counts_by b.declarations around deepest m x.before x.may h.scalar h.among h.loop h.inside in
             absurd ((all_in (IsPreparedMade a.declarations (expanded m).symbols deeper) (expanded m).made x.behind.parts.made c k).counter n.0 (same ∙ (h.name ∙ n.1)))
 
-pub expanded_nest_has_guarded_names : ExpandedNestHasGuardedNames
-expanded_nest_has_guarded_names p b a around deepest deeper m u x may sized s within guarded = record {
-  declared = declared_there p b a around deepest deeper m x u may sized;
+pub expanded_nest_has_guarded_names : (width : Width) → ExpandedNestHasGuardedNames width
+expanded_nest_has_guarded_names width p b a around deepest deeper m u x may sized s within guarded = record {
+  declared = declared_there width p b a around deepest deeper m x u may sized;
   made = λ r i e. by (statement_made m x.before.plain (standing_at (expanded m) s) inside) r i e;
 }
   where
@@ -247,8 +248,8 @@ expanded_nest_has_guarded_names p b a around deepest deeper m u x may sized s wi
     there = nth_at (nest_statements (expanded m)) s no_statement within
 
     by : IsMadeOf (expanding (private_scalars m)) (nest_statements m) (standing_at (expanded m) s) → (r : Reference) → IsReferenceOf (run_nest (expanded m)) s r → is_made (expanded m) r.name ≡ true
-        → HasCells (run_nest (expanded m)) (setting_at may) s r
+        → HasCells (run_nest (expanded m)) (setting_at width may) s r
     by (inr none) r i e = absurd (guarded none)
     by (inl h) r i e =
-        cells p b a around deepest deeper m x u may sized s (standing_at (expanded m) s) h.first there inside h.inside h.is r
-        (subst (λ (g : runs.Guarded). In r (g.left ∷ references_read g)) (ap guarded_of there) i) e
+        cells width p b a around deepest deeper m x u may sized s (standing_at (expanded m) s) h.first there inside h.inside h.is r
+        (subst (λ (g : runs.GuardedAssignment). In r (g.left ∷ references_read g)) (ap guarded_of there) i) e

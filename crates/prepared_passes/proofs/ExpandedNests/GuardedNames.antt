@@ -15,7 +15,7 @@ use Rattle.nest_order.proofs.orders.Lists.{In-append, In-left, In-right}
 use Rattle.nest_order.proofs.orders.Membership.{In-map}
 use Rattle.nest_order.specs.orders.Lists.{In}
 use Rattle.nest_order.specs.runs.Guarded.{names_of_guard}
-use Rattle.nest_order.specs.runs.Touched.{ArePlain, EachIsPlain, IsPlain, IsPlainGuard, references_in, references_in_each, references_in_guard, references_in_subscripts}
+use Rattle.nest_order.specs.runs.Touched.{ArePlain, EachIsPlain, IsPlain, IsPlainGuard, touched_in, references_in_each, touched_in_guard, touched_in_subscripts}
 use Rattle.pass_laws.proofs.NormalFacts.Tables.{all_in}
 use Rattle.pass_laws.proofs.PreparedNests.Ready.{round_statement}
 use Rattle.pass_laws.proofs.PreparedNests.Walks.{Follow}
@@ -41,7 +41,7 @@ either f g (inl x) = f x
 either f g (inr y) = g y
 
 mutual
-  pub name_in : (e : Expression) → IsPlain e → (r : Reference) → In r (references_in e) → In r.name (names_in e)
+  pub name_in : (e : Expression) → IsPlain e → (r : Reference) → In r (touched_in e) → In r.name (names_in e)
   name_in (Number n) plain r i = absurd i
   name_in (Logic b) plain r i = absurd i
   name_in (Named x qs) plain r (inl e) = inl (ap (λ (q : Reference). q.name) e)
@@ -49,7 +49,7 @@ mutual
   name_in (Unary o a) plain r i = name_in a plain r i
   name_in (Binary o a b) plain r i =
       either (λ j. In-left r.name (names_in a) (names_in b) (name_in a plain.0 r j)) (λ j. In-right r.name (names_in a) (names_in b) (name_in b plain.1 r j))
-      (In-append r (references_in a) (references_in b) i)
+      (In-append r (touched_in a) (touched_in b) i)
   name_in (Apply f es) plain r i = name_in_each es plain r i
   name_in (Constructor es ls) plain r i = absurd plain
   name_in (Spread a d n) plain r i = absurd plain
@@ -61,33 +61,33 @@ mutual
   name_in_each no_expressions plain r i = absurd i
   name_in_each (expression e es) plain r i =
       either (λ j. In-left r.name (names_in e) (names_in_each es) (name_in e plain.0 r j)) (λ j. In-right r.name (names_in e) (names_in_each es) (name_in_each es plain.1 r j))
-      (In-append r (references_in e) (references_in_each es) i)
+      (In-append r (touched_in e) (references_in_each es) i)
 
-  pub name_in_subscripts : (qs : Subscripts) → ArePlain qs → (r : Reference) → In r (references_in_subscripts qs) → In r.name (names_in_subscripts qs)
+  pub name_in_subscripts : (qs : Subscripts) → ArePlain qs → (r : Reference) → In r (touched_in_subscripts qs) → In r.name (names_in_subscripts qs)
   name_in_subscripts no_subscripts plain r i = absurd i
   name_in_subscripts (subscript (Only e) qs) plain r i =
       either (λ j. In-left r.name (names_in e) (names_in_subscripts qs) (name_in e plain.0 r j)) (λ j. In-right r.name (names_in e) (names_in_subscripts qs) (name_in_subscripts qs plain.1 r j))
-      (In-append r (references_in e) (references_in_subscripts qs) i)
+      (In-append r (touched_in e) (touched_in_subscripts qs) i)
   name_in_subscripts (subscript (Section a b c) qs) plain r i = absurd plain.0
 
 -- ---- statements
 
 -- what stands where in a statement
 parted : (ps : List Private) (g : Guarded) (r : Reference) → In r (all_of ps g)
-    → In r (references_in_guard g.guard) ⊎ In r (references_in (named g.left)) ⊎ In r (references_in g.right)
+    → In r (touched_in_guard g.guard) ⊎ In r (touched_in (named g.left)) ⊎ In r (touched_in g.right)
 parted ps g r i =
-    either (λ j. inl j) (λ j. inr (In-append r (references_in (named g.left)) (references_in g.right) j))
-    (In-append r (references_in_guard g.guard) (references_in (named g.left) ++ references_in g.right) i)
+    either (λ j. inl j) (λ j. inr (In-append r (touched_in (named g.left)) (touched_in g.right) j))
+    (In-append r (touched_in_guard g.guard) (touched_in (named g.left) ++ touched_in g.right) i)
 
 pub stands : (ps : List Private) (g : Guarded) → IsPlainGuard g.guard → IsPlain g.right → ArePlain g.left.subscripts → (r : Reference) → In r (all_of ps g)
     → stands_in_statement r.name g ≡ true
 stands ps g guard right left r i = by (parted ps g r i)
   where
-    in_condition : (o : Option Expression) → IsPlainGuard o → In r (references_in_guard o) → In r.name (names_of_guard o)
+    in_condition : (o : Option Expression) → IsPlainGuard o → In r (touched_in_guard o) → In r.name (names_of_guard o)
     in_condition None plain j = absurd j
     in_condition (Some e) plain j = name_in e plain r j
 
-    by : In r (references_in_guard g.guard) ⊎ In r (references_in (named g.left)) ⊎ In r (references_in g.right) → stands_in_statement r.name g ≡ true
+    by : In r (touched_in_guard g.guard) ⊎ In r (touched_in (named g.left)) ⊎ In r (touched_in g.right) → stands_in_statement r.name g ≡ true
     by (inl j) = in_guard g r.name (in_condition g.guard guard j)
     by (inr (inl j)) = in_left g r.name (name_in (named g.left) left r j)
     by (inr (inr j)) = in_right g r.name (name_in g.right right r j)
@@ -95,29 +95,29 @@ stands ps g guard right left r i = by (parted ps g r i)
 -- all that is read, and the left side, are references of the statement
 pub read_in_all : (ps : List Private) (g : Guarded) (r : Reference) → In r (g.left ∷ read_by ps g) → In r (all_of ps g)
 read_in_all ps g r (inl e) =
-    In-right r (references_in_guard g.guard) (references_in (named g.left) ++ references_in g.right)
-    (In-left r (references_in (named g.left)) (references_in g.right) (inl e))
-read_in_all ps g r (inr i) = by (In-append r (references_in_guard g.guard) (references_in_subscripts g.left.subscripts ++ references_in g.right) i)
+    In-right r (touched_in_guard g.guard) (touched_in (named g.left) ++ touched_in g.right)
+    (In-left r (touched_in (named g.left)) (touched_in g.right) (inl e))
+read_in_all ps g r (inr i) = by (In-append r (touched_in_guard g.guard) (touched_in_subscripts g.left.subscripts ++ touched_in g.right) i)
   where
-    rest : In r (references_in_subscripts g.left.subscripts) ⊎ In r (references_in g.right) → In r (references_in (named g.left) ++ references_in g.right)
-    rest (inl j) = In-left r (references_in (named g.left)) (references_in g.right) (inr j)
-    rest (inr j) = In-right r (references_in (named g.left)) (references_in g.right) j
+    rest : In r (touched_in_subscripts g.left.subscripts) ⊎ In r (touched_in g.right) → In r (touched_in (named g.left) ++ touched_in g.right)
+    rest (inl j) = In-left r (touched_in (named g.left)) (touched_in g.right) (inr j)
+    rest (inr j) = In-right r (touched_in (named g.left)) (touched_in g.right) j
 
-    by : In r (references_in_guard g.guard) ⊎ In r (references_in_subscripts g.left.subscripts ++ references_in g.right) → In r (all_of ps g)
-    by (inl j) = In-left r (references_in_guard g.guard) (references_in (named g.left) ++ references_in g.right) j
+    by : In r (touched_in_guard g.guard) ⊎ In r (touched_in_subscripts g.left.subscripts ++ touched_in g.right) → In r (all_of ps g)
+    by (inl j) = In-left r (touched_in_guard g.guard) (touched_in (named g.left) ++ touched_in g.right) j
     by (inr j) =
-        In-right r (references_in_guard g.guard) (references_in (named g.left) ++ references_in g.right)
-        (rest (In-append r (references_in_subscripts g.left.subscripts) (references_in g.right) j))
+        In-right r (touched_in_guard g.guard) (touched_in (named g.left) ++ touched_in g.right)
+        (rest (In-append r (touched_in_subscripts g.left.subscripts) (touched_in g.right) j))
 
 pub all_suit : (ps : List Private) (es : List Declaration) (m : Nest) (deepest : ℕ) (y : Standing) → IsPreparedStatement es m deepest y → (r : Reference)
     → In r (all_of ps y.statement) → Suits es r
 all_suit ps es m deepest y st r i = by (parted ps y.statement r i)
   where
-    in_condition : (o : Option Expression) → IsPlainGuard o → IfSome o (λ (e : Expression). IsScalar es e Logical) → In r (references_in_guard o) → Suits es r
+    in_condition : (o : Option Expression) → IsPlainGuard o → IfSome o (λ (e : Expression). IsScalar es e Logical) → In r (touched_in_guard o) → Suits es r
     in_condition None plain h j = absurd j
     in_condition (Some e) plain h j = each_suits es e Logical plain h.0 r j
 
-    by : In r (references_in_guard y.statement.guard) ⊎ In r (references_in (named y.statement.left)) ⊎ In r (references_in y.statement.right) → Suits es r
+    by : In r (touched_in_guard y.statement.guard) ⊎ In r (touched_in (named y.statement.left)) ⊎ In r (touched_in y.statement.right) → Suits es r
     by (inl j) = in_condition y.statement.guard st.plain.0 st.guard j
     by (inr (inl j)) = each_suits es (named y.statement.left) st.kind st.plain.2 st.left.0 r j
     by (inr (inr j)) = each_suits es y.statement.right st.kind st.plain.1 st.right.0 r j

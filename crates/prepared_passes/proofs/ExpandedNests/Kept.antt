@@ -7,7 +7,7 @@ use Rattle.nest_order.specs.shapes.Shapes.{ArePlain, IsPlain}
 use Rattle.nest_rewrite.specs.Assembled.{with_parts}
 use Rattle.rewrite.specs.Making.{Making}
 use Rattle.pass_laws.specs.prepared_nests.Loops.{EachLoop, EachLoopIn, IsPreparedLoop}
-use Rattle.scalar_expand.specs.Expanded.{copies_in, copied, expanded_part, expanded_parts, expanding, is_copied_in, with_arrays}
+use Rattle.scalar_expand.specs.Expanded.{copies_in, copied, expanded_part, expanded_parts, expanding, is_copied_in, with_made_arrays}
 use Rattle.scalar_expand.specs.Laws.{own_of}
 use Rattle.scalar_expand.specs.Privates.{private_scalars}
 use Rattle.scalar_expand.specs.declared.privates.Private.{Private}
@@ -97,7 +97,7 @@ module _ (line : ℕ) (m : Making) (own : List Private) where
       each_parts ls (part q qs) plain h = (each_part ls q plain.0 h.0, each_parts ls qs plain.1 h.1)
 
 pub expanded_nest_keeps_loops : ExpandedNestKeepsLoops
-unfolding with_arrays with_parts
+unfolding with_made_arrays with_parts
 expanded_nest_keeps_loops es around deepest m h = record {
   line = refl;
   number = refl;

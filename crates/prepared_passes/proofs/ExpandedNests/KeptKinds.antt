@@ -12,6 +12,7 @@ use Rattle.tree.specs.declared.ops.Value.TheVariants.{Int, Truth}
 use Rattle.emission.specs.graph_orders.Nests.{run_nest}
 use Rattle.meaning.specs.Blocks.{Surroundings}
 use Rattle.meaning.specs.Dialect.{fortran77}
+use Rattle.tree.specs.declared.width.Width.{Width}
 use Rattle.meaning.specs.Holding.{HoldsProgram, IsStorable}
 use Rattle.meaning.specs.Run.{State, does_all}
 use Rattle.meaning.specs.Store.{Cell, Store, nought, nought_like, put}
@@ -40,10 +41,12 @@ use Rattle.pass_laws.proofs.PreparedRuns.Instances.{run_of_prepared_nest}
 use Rattle.pass_laws.proofs.PreparedRuns.Together.{setting_holds}
 use Rattle.pass_laws.specs.prepared_runs.Running.{IsRunOfInstances, MayRun, loops_then_after}
 use Rattle.rewrite.specs.Following.{IsSound}
+use Rattle.tree.specs.Widths.{bits_of}
+use Rattle.meaning.proofs.Widths.{narrowest}
 
 -- ---- instances
 
-module _ (bits : ℕ) (n : nests.Nest) (w : Setting) (ok : IsNestIn bits n w) where
+module _ (bits : ℕ) (n : nests.RunNest) (w : Setting) (ok : IsNestIn bits n w) where
   abbrev IsIt : Instance → Type 0
   IsIt x = IsInstance n.loops_of (n.turns_of w.values) n.shape x
 
@@ -76,11 +79,11 @@ module _ (bits : ℕ) (n : nests.Nest) (w : Setting) (ok : IsNestIn bits n w) wh
 same_int : (x y : ℤ) → ◌≡◌ {A = Value} (Int x) (Int y) → x ≡ y
 same_int x y e = cc
 
-module _ (q : Program) (around : List (List ℕ)) (deepest : ℕ) (m : Nest) (s : State)
-    (h : IsPrepared q.declarations around deepest m) (may : MayRun q m s)
-    (sound : IsSound (does_all fortran77 None (loops_then_after m) s).way) where
-  run : IsRunOfInstances m s
-  run = run_of_prepared_nest q around deepest m s h may sound
+module _ (width : Width) (q : Program) (around : List (List ℕ)) (deepest : ℕ) (m : Nest) (s : State)
+    (h : IsPrepared q.declarations around deepest m) (may : MayRun width q m s)
+    (sound : IsSound (does_all (fortran77 width) None (loops_then_after m) s).way) where
+  run : IsRunOfInstances width m s
+  run = run_of_prepared_nest width q around deepest m s h may sound
 
   abbrev setting : Setting
   setting = record { program = q; bounds = s.store.bounds; values = run.values }
@@ -88,13 +91,13 @@ module _ (q : Program) (around : List (List ℕ)) (deepest : ℕ) (m : Nest) (s 
   small : (k : ℕ) (x : List ℕ) → nth_of m.symbols k ≡ Some x → nat_abs (run.values k) ≤ 2 ^ 63
   small k x e =
       subst (λ z. nat_abs z ≤ 2 ^ 63) (same_int (may.values k) (run.values k) (sym (may.valued k x e) ∙ run.valued k x e))
-      ((setting_holds q around deepest m s h may).values k x e)
+      ((setting_holds width q around deepest m s h may).values k x e)
 
-  in_setting : IsNestIn 31 (run_nest m) setting
+  in_setting : IsNestIn (bits_of width) (run_nest m) setting
   in_setting =
-      facts_suffice 31 (run_nest m) setting (facts around deepest m setting h may.holds.bounds small 31 (omega arith))
+      facts_suffice (bits_of width) (run_nest m) setting (facts around deepest m setting h may.holds.bounds small (bits_of width) (narrowest width))
 
-  held : HoldsNest 31 (run_nest m) setting s.store
+  held : HoldsNest (bits_of width) (run_nest m) setting s.store
   held = record { program = may.holds; bounds = λ x. refl; symbols = run.valued }
 
   abbrev all : List Instance
@@ -105,22 +108,22 @@ module _ (q : Program) (around : List (List ℕ)) (deepest : ℕ) (m : Nest) (s 
   each_is x i =
       ((in_sequence (run_nest m).loops_of ((run_nest m).turns_of run.values) (run_nest m).shape in_setting.text.nest []).each x).0 i
 
-  left_holds : HoldsNest 31 (run_nest m) setting run.left
-  left_holds = all_inside 31 (run_nest m) setting in_setting all each_is s.store run.left held run.one_by_one
+  left_holds : HoldsNest (bits_of width) (run_nest m) setting run.left
+  left_holds = all_inside (bits_of width) (run_nest m) setting in_setting all each_is s.store run.left held run.one_by_one
 
   abbrev place : Surroundings
   place = record { variables = around; ahead = [] }
 
-  end_holds : HoldsProgram fortran77 q (does_all fortran77 None m.after (record s { store = run.left })).store
+  end_holds : HoldsProgram (fortran77 width) q (does_all (fortran77 width) None m.after (record s { store = run.left })).store
   end_holds =
-      statements_keep_stores fortran77 None q m.after place (record s { store = run.left })
+      statements_keep_stores (fortran77 width) None q m.after place (record s { store = run.left })
       (h.parts.after.profile place refl) left_holds.program
 
   pub run_keeps_kinds : (c : Cell) → CountsNone c.name
       → IfSome (declared q.declarations c.name)
-      (λ (d : Declaration). IsStorable fortran77 d.kind ((does_all fortran77 None (loops_then_after m) s).store.held c))
+      (λ (d : Declaration). IsStorable (fortran77 width) d.kind ((does_all (fortran77 width) None (loops_then_after m) s).store.held c))
   run_keeps_kinds c none =
-      subst (λ (v : Value). IfSome (declared q.declarations c.name) (λ (d : Declaration). IsStorable fortran77 d.kind v))
+      subst (λ (v : Value). IfSome (declared q.declarations c.name) (λ (d : Declaration). IsStorable (fortran77 width) d.kind v))
       ((run.near false).near.held c (no_variable q.declarations around deepest m h c none)) (end_holds.kinds c)
 
 -- ---- values of one kind

@@ -7,9 +7,9 @@ use Rattle.tree.specs.Plain.{Allocate, Arms, Assignment, Block, Deallocate, Do, 
 use Rattle.components.specs.Lists.{Each}
 use Rattle.components.proofs.ListLaws.{Each-append}
 use Rattle.last_values.specs.Behind.{may_end_behind, stands_behind}
-use Rattle.last_values.specs.Endings.{Texts, after_statements, assigned, ending, last_texts, only_where, where_all_hold, with_last_forms}
+use Rattle.last_values.specs.Endings.{Texts, after_statements, assigned, loop_ending, last_texts, only_where, where_all_hold, with_last_forms}
 use Rattle.last_values.specs.Occurrences.{occurs_only_within}
-use Rattle.last_values.specs.ValuesBehind.{left_behind, or_none, values_behind}
+use Rattle.last_values.specs.ValuesBehind.{left_behind, statements_or_none, values_behind}
 use Rattle.last_values.specs.declared.behind.NestedLoop.{NestedLoop}
 use Rattle.last_values.specs.declared.normal_forms.last.LastForms.{LastForms}
 use Rattle.last_values.specs.declared.normal_forms.loops.NormalLoop.{NormalLoop}
@@ -48,7 +48,7 @@ module _ (v : List ℕ) where
     AllGive (statement c cs) = Gives c × AllGive cs
 
   module _ (line : ℕ) where
-    ending_gives : (t : Trip) (ts : Texts) → AllGive (block (ending line v t ts))
+    ending_gives : (t : Trip) (ts : Texts) → AllGive (block (loop_ending line v t ts))
     ending_gives t ts = by (is_positive t) (is_known t)
       where
         by : (b c : Bool) → AllGive
@@ -62,15 +62,15 @@ module _ (v : List ℕ) where
     where_gives [] cs h = h
     where_gives (e ∷ es) cs h = (h, tt)
 
-    after_gives : (symbols : List (List ℕ)) (round : List NormalLoop) (r : NormalLoop) → r.variable ≡ v → AllGive (block (or_none (after_statements symbols line round r)))
+    after_gives : (symbols : List (List ℕ)) (round : List NormalLoop) (r : NormalLoop) → r.variable ≡ v → AllGive (block (statements_or_none (after_statements symbols line round r)))
     unfolding after_statements
     after_gives symbols round r e = by (have_plain_trips round) (last_forms (length symbols) round r)
       where
-        by : (b : Bool) (o : Option LastForms) → AllGive (block (or_none (cond b (with_last_forms symbols line round r o) None)))
+        by : (b : Bool) (o : Option LastForms) → AllGive (block (statements_or_none (cond b (with_last_forms symbols line round r o) None)))
         by true None = tt
         by true (Some f) =
-            subst (λ x. AllGive (block (where_all_hold line (tests_of symbols round) (ending line x f.trip (last_texts symbols round f))))) (sym e)
-            (where_gives (tests_of symbols round) (ending line v f.trip (last_texts symbols round f)) (ending_gives f.trip (last_texts symbols round f)))
+            subst (λ x. AllGive (block (where_all_hold line (tests_of symbols round) (loop_ending line x f.trip (last_texts symbols round f))))) (sym e)
+            (where_gives (tests_of symbols round) (loop_ending line v f.trip (last_texts symbols round f)) (ending_gives f.trip (last_texts symbols round f)))
         by false o = tt
 
 -- ---- names that are read, and the one that gets values
@@ -135,10 +135,10 @@ module _ (symbols : List (List ℕ)) (line : ℕ) (p : Part) (R : List ℕ → T
           of_all ms (both (may_end_behind (length symbols) l.turns.variable o) (list_all (may_end_behind (length symbols) l.turns.variable) ms) f).1 j
 
   one_over : (l : NestedLoop) → R l.turns.variable → stands_behind (length symbols) (l ∷ []) p l.turns.variable ≡ true
-      → AreEndingsOver R (block (or_none (after_statements symbols line l.round l.turns)))
+      → AreEndingsOver R (block (statements_or_none (after_statements symbols line l.round l.turns)))
   unfolding values_behind
   one_over l h e =
-      subst (λ b. AreEndingsOver R (block (cond b (or_none (after_statements symbols line l.round l.turns)) []))) e
+      subst (λ b. AreEndingsOver R (block (cond b (statements_or_none (after_statements symbols line l.round l.turns)) []))) e
       (front_over R (left_behind symbols line (l ∷ []) p l) [] (values_over R line symbols are (l ∷ []) p (h, tt)))
 
   each_free : (all ls : List NestedLoop) → ((l : NestedLoop) → In l ls → In l all)
@@ -151,10 +151,10 @@ module _ (symbols : List (List ℕ)) (line : ℕ) (p : Part) (R : List ℕ → T
       (each_free all ls (λ o i. among o (inr i)) (λ o i. f o (inr i)))
     where
       by : (b : Bool) → stands_behind (length symbols) all p l.turns.variable ≡ b
-          → AreFree R W (block (cond b (or_none (after_statements symbols line l.round l.turns)) []))
+          → AreFree R W (block (cond b (statements_or_none (after_statements symbols line l.round l.turns)) []))
       by true e =
           let h = f l (inl refl) e in
-          all_free l.turns.variable R W h.1 (block (or_none (after_statements symbols line l.round l.turns)))
+          all_free l.turns.variable R W h.1 (block (statements_or_none (after_statements symbols line l.round l.turns)))
           (one_over l h.0 (alone all l (among l (inl refl)) e)) (after_gives l.turns.variable line symbols l.round l.turns refl)
       by false e = tt
 

@@ -14,9 +14,9 @@ use Rattle.nest_order.specs.orders.Lists.{In}
 use Rattle.last_values.specs.Endings.{assigned, only_where}
 use Rattle.last_values.specs.normal_forms.NormalLoops.{is_positive}
 use Rattle.last_values.specs.normal_forms.Texts.{at_least_one, trip_text}
-use Rattle.statement_passes.specs.Symbols.{place_of, with_name}
+use Rattle.statement_passes.specs.Symbols.{place_among, with_name_placed}
 use Rattle.subscripts.specs.declared.affine.Affine.{Affine}
-use Rattle.inductions.specs.Ends.{end_text, ending}
+use Rattle.inductions.specs.Ends.{induction_end_text, induction_ending}
 use Rattle.inductions.specs.declared.found.Induction.{Induction}
 use Rattle.prepared_passes.proofs.SymbolsAnew.Names.{in_either}
 use Rattle.prepared_passes.specs.expansion.Runs.{AreFree, IsFree, IsNumberBy}
@@ -124,8 +124,8 @@ module _ (S : List (List ℕ)) where
         by false = record { number = refl; names = either_in (names_in (text_of [] symbols [] t.top)) [] top.names (λ y i. absurd i) }
 
     module _ (d : Induction) (own : In d.name S) where
-      in_more : (y : List ℕ) → In y (with_name symbols d.name) → In y S
-      in_more y i = by (in_either symbols (place_of symbols d.name) d.name y i)
+      in_more : (y : List ℕ) → In y (with_name_placed symbols d.name) → In y S
+      in_more y i = by (in_either symbols (place_among symbols d.name) d.name y i)
         where
           by : (y ≡ d.name) ⊎ In y symbols → In y S
           by (inl e) = subst (λ z. In z S) (sym e) own
@@ -135,26 +135,26 @@ module _ (S : List (List ℕ)) where
       one_trip e (inl q) = subst IsTold (sym q) trip_told
       one_trip e (inr i) = absurd i
 
-      pub end_told : IsTold (end_text symbols t d)
-      end_told = text_told (with_name symbols d.name) (trip_text [] symbols [] t ∷ []) d.end in_more one_trip
+      pub end_told : IsTold (induction_end_text symbols t d)
+      end_told = text_told (with_name_placed symbols d.name) (trip_text [] symbols [] t ∷ []) d.end in_more one_trip
 
       each_name : (P : List ℕ → Type 0) → ((y : List ℕ) → In y S → P y) → (xs : List (List ℕ)) → ((y : List ℕ) → In y xs → In y S) → AllByRecursion P xs
       each_name P f [] g = tt
       each_name P f (x ∷ xs) g = (f x (g x (inl refl)), each_name P f xs (λ y i. g y (inr i)))
 
       -- the last value of an induction reads symbols, and gives the induction a number
-      pub ending_free : (R : List ℕ → Type 0) (W : List ℕ → Expression → Type 0) (line : ℕ) → ((y : List ℕ) → In y S → R y) → W d.name (end_text symbols t d) → IsFree R W (ending symbols line t d)
+      pub ending_free : (R : List ℕ → Type 0) (W : List ℕ → Expression → Type 0) (line : ℕ) → ((y : List ℕ) → In y S → R y) → W d.name (induction_end_text symbols t d) → IsFree R W (induction_ending symbols line t d)
       ending_free R W line f w = by (is_positive t)
         where
-          right : AllByRecursion R (names_in (end_text symbols t d))
-          right = each_name R f (names_in (end_text symbols t d)) end_told.names
+          right : AllByRecursion R (names_in (induction_end_text symbols t d))
+          right = each_name R f (names_in (induction_end_text symbols t d)) end_told.names
 
           test : AllByRecursion R (names_in (at_least_one (trip_text [] symbols [] t)))
           test = each_name R f (names_in (at_least_one (trip_text [] symbols [] t))) (either_in (names_in (trip_text [] symbols [] t)) [] trip_told.names (λ y i. absurd i))
 
           by : (b : Bool) → IsFree R W
-              (cond b (assigned line d.name (end_text symbols t d))
-              (only_where line (at_least_one (trip_text [] symbols [] t)) (assigned line d.name (end_text symbols t d) ∷ [])))
+              (cond b (assigned line d.name (induction_end_text symbols t d))
+              (only_where line (at_least_one (trip_text [] symbols [] t)) (assigned line d.name (induction_end_text symbols t d) ∷ [])))
           by true = (w, tt, right)
           by false = ((test, ((w, tt, right), tt), tt), tt)
 

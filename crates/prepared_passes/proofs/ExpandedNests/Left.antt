@@ -8,7 +8,7 @@ use Rattle.nest.specs.Bodies.{Standing, nest_loops, nest_statements, statements_
 use Rattle.nest.specs.Plain.{Choice, Guarded, Jump, Label, Loop, Nest, Part, Parts, Run, Turns, no_parts, part}
 use Rattle.nest_order.proofs.orders.Lists.{In-append, In-left}
 use Rattle.nest_order.specs.orders.Lists.{In}
-use Rattle.nest_order.specs.runs.Touched.{ArePlain as ArePlainSubscripts, EachIsPlain, IsPlain as IsPlainExpression, IsPlainGuard, references_in, references_in_each, references_in_guard, references_in_subscripts}
+use Rattle.nest_order.specs.runs.Touched.{ArePlain as ArePlainSubscripts, EachIsPlain, IsPlain as IsPlainExpression, IsPlainGuard, touched_in, references_in_each, touched_in_guard, touched_in_subscripts}
 use Rattle.nest_order.specs.shapes.Shapes.{ArePlain, IsPlain}
 use Rattle.nest_rewrite.specs.Statements.{rewritten_statement}
 use Rattle.pass_laws.proofs.NormalFacts.Tables.{all_in}
@@ -17,7 +17,7 @@ use Rattle.pass_laws.specs.prepared_nests.Statements.{IsPreparedStatement}
 use Rattle.rewrite.specs.Making.{made, made_expressions, made_left, made_subscripts}
 use Rattle.tree.specs.Plain.{Apply, Binary, Constructor, Declaration, Expression, Expressions, Logic, Named, Number, Only, Reduce, Reference, Reshape, Section, Spread, Subscript, Subscripts, Transpose}
 use Rattle.tree.specs.Plain.{Unary, expression, no_expressions, no_subscripts, subscript, subscripts}
-use Rattle.scalar_expand.specs.Expanded.{as_expression, copied, element, element_or, expanded, expanding, has_known_end, named_private, variable}
+use Rattle.scalar_expand.specs.Expanded.{as_expression, copied, element, element_or, expanded, expanding, has_known_end, named_private, loop_subscript}
 use Rattle.scalar_expand.specs.Laws.{own_of}
 use Rattle.scalar_expand.specs.Numbers.{ends_of, limits_of, trip_at}
 use Rattle.scalar_expand.specs.Privates.{private_scalars, round_loop}
@@ -26,7 +26,7 @@ use Rattle.scalar_expand.specs.declared.privates.RoundLoop.{RoundLoop}
 use Rattle.scalar_expand.proofs.Changes.{found}
 use Rattle.scalar_expand.proofs.Theorems.{in_declared, nest_flow}
 use Rattle.prepared_passes.specs.expansion.Laws.{MayBeExpanded, counters_of, value_among}
-use Rattle.prepared_passes.specs.expansion.Left.{ExpandedNestHasNoPrivateScalars, IsCopyOf, references_of}
+use Rattle.prepared_passes.specs.expansion.Left.{ExpandedNestHasNoPrivateScalars, IsCopyOf, references_touched}
 use Rattle.prepared_passes.proofs.ExpandedNests.Bodies.{part_is}
 use Rattle.prepared_passes.proofs.ExpandedNests.Elements.{as_many}
 use Rattle.prepared_passes.proofs.ExpandedNests.Expandable.{prepared_nest_is_expandable}
@@ -34,6 +34,8 @@ use Rattle.prepared_passes.proofs.ExpandedNests.Names.{named_is, not_counter, on
 use Rattle.prepared_passes.proofs.ExpandedNests.References.{variables_onto}
 use Rattle.prepared_passes.proofs.ExpandedNests.Round.{begins, counter_of, round_loop_is}
 use Rattle.prepared_passes.proofs.ExpandedNests.Standings.{body_is}
+use Rattle.tree.specs.Widths.{bits_of}
+use Rattle.tree.specs.declared.width.Width.TheVariants.{Plain}
 
 -- ---- a loop round a part stands round its statements
 
@@ -65,14 +67,14 @@ module _ (ps : List Private) (x : List ℕ) (is_one : ¬ (named_private ps x ≡
   name_same : (r q : Reference) → r ≡ q → r.name ≡ q.name
   name_same r q e = ap (λ (y : Reference). y.name) e
 
-  no_element : (q : Private) → In q ps → ¬ In (scalar x) (references_in (as_expression (element q)))
+  no_element : (q : Private) → In q ps → ¬ In (scalar x) (touched_in (as_expression (element q)))
   no_element q i (inl e) =
-      let many : number_of_subscripts (subscripts (reverse (map variable q.loops))) ≡ length q.loops = as_many variable q.loops in
-      let none : 0 ≡ number_of_subscripts (subscripts (reverse (map variable q.loops))) = ap (λ (r : Reference). number_of_subscripts r.subscripts) e in
+      let many : number_of_subscripts (subscripts (reverse (map loop_subscript q.loops))) ≡ length q.loops = as_many loop_subscript q.loops in
+      let none : 0 ≡ number_of_subscripts (subscripts (reverse (map loop_subscript q.loops))) = ap (λ (r : Reference). number_of_subscripts r.subscripts) e in
       looped q i (no_loops q.loops (sym many ∙ sym none))
   no_element q i (inr j) = by (variables_onto ps q.loops [] (scalar x) j)
     where
-      by : ((l : RoundLoop) × In l q.loops × (x ≡ l.variable)) ⊎ In (scalar x) (references_in_subscripts (subscripts [])) → ⊥
+      by : ((l : RoundLoop) × In l q.loops × (x ≡ l.variable)) ⊎ In (scalar x) (touched_in_subscripts (subscripts [])) → ⊥
       by (inl r) = apart q i r.0 r.1 r.2
       by (inr k) = absurd k
 
@@ -89,12 +91,12 @@ module _ (ps : List Private) (x : List ℕ) (is_one : ¬ (named_private ps x ≡
       absurd (omega (arith, none))
 
   mutual
-    not_in : (e : Expression) → IsPlainExpression e → ¬ In (scalar x) (references_in (made (expanding ps) e))
+    not_in : (e : Expression) → IsPlainExpression e → ¬ In (scalar x) (touched_in (made (expanding ps) e))
     not_in (Number n) plain i = i
     not_in (Logic b) plain i = i
     not_in (Named y no_subscripts) plain i = by (named_private ps y) refl i
       where
-        by : (o : Option Private) → named_private ps y ≡ o → In (scalar x) (references_in (as_expression (element_or o (record { name = y; subscripts = no_subscripts })))) → ⊥
+        by : (o : Option Private) → named_private ps y ≡ o → In (scalar x) (touched_in (as_expression (element_or o (record { name = y; subscripts = no_subscripts })))) → ⊥
         by None e (inl f) = is_one (ap (named_private ps) (name_same (scalar x) (record { name = y; subscripts = no_subscripts }) f) ∙ e)
         by None e (inr j) = j
         by (Some q) e j = no_element q (found ps y q e).0 j
@@ -102,7 +104,7 @@ module _ (ps : List Private) (x : List ℕ) (is_one : ¬ (named_private ps x ≡
     not_in (Named y (subscript (Only a) qs)) plain (inr j) = not_in_subscripts (subscript (Only a) qs) plain j
     not_in (Named y (subscript (Section a b c) qs)) plain i = absurd plain.0
     not_in (Unary o a) plain i = not_in a plain i
-    not_in (Binary o a b) plain i = in_neither (references_in (made (expanding ps) a)) (references_in (made (expanding ps) b)) (scalar x) (λ j. not_in a plain.0 j) (λ j. not_in b plain.1 j) i
+    not_in (Binary o a b) plain i = in_neither (touched_in (made (expanding ps) a)) (touched_in (made (expanding ps) b)) (scalar x) (λ j. not_in a plain.0 j) (λ j. not_in b plain.1 j) i
     not_in (Apply f es) plain i = not_in_each es plain i
     not_in (Constructor es ls) plain i = absurd plain
     not_in (Spread a d n) plain i = absurd plain
@@ -113,34 +115,34 @@ module _ (ps : List Private) (x : List ℕ) (is_one : ¬ (named_private ps x ≡
     not_in_each : (es : Expressions) → EachIsPlain es → ¬ In (scalar x) (references_in_each (made_expressions (expanding ps) es))
     not_in_each no_expressions plain i = i
     not_in_each (expression e es) plain i =
-        in_neither (references_in (made (expanding ps) e)) (references_in_each (made_expressions (expanding ps) es)) (scalar x) (λ j. not_in e plain.0 j) (λ j. not_in_each es plain.1 j) i
+        in_neither (touched_in (made (expanding ps) e)) (references_in_each (made_expressions (expanding ps) es)) (scalar x) (λ j. not_in e plain.0 j) (λ j. not_in_each es plain.1 j) i
 
-    not_in_subscripts : (qs : Subscripts) → ArePlainSubscripts qs → ¬ In (scalar x) (references_in_subscripts (made_subscripts (expanding ps) qs))
+    not_in_subscripts : (qs : Subscripts) → ArePlainSubscripts qs → ¬ In (scalar x) (touched_in_subscripts (made_subscripts (expanding ps) qs))
     not_in_subscripts no_subscripts plain i = i
     not_in_subscripts (subscript (Only e) qs) plain i =
-        in_neither (references_in (made (expanding ps) e)) (references_in_subscripts (made_subscripts (expanding ps) qs)) (scalar x) (λ j. not_in e plain.0 j) (λ j. not_in_subscripts qs plain.1 j) i
+        in_neither (touched_in (made (expanding ps) e)) (touched_in_subscripts (made_subscripts (expanding ps) qs)) (scalar x) (λ j. not_in e plain.0 j) (λ j. not_in_subscripts qs plain.1 j) i
     not_in_subscripts (subscript (Section a b c) qs) plain i = absurd plain.0
 
-  not_in_guard : (o : Option Expression) → IsPlainGuard o → ¬ In (scalar x) (references_in_guard (option_map (made (expanding ps)) o))
+  not_in_guard : (o : Option Expression) → IsPlainGuard o → ¬ In (scalar x) (touched_in_guard (option_map (made (expanding ps)) o))
   not_in_guard None plain i = i
   not_in_guard (Some e) plain i = not_in e plain i
 
   -- a left side becomes what it would as an expression
   left_stands : (y : List ℕ) (qs : Subscripts)
-      → (scalar x ≡ made_left (expanding ps) (record { name = y; subscripts = qs })) ⊎ In (scalar x) (references_in_subscripts (made_left (expanding ps) (record { name = y; subscripts = qs })).subscripts)
-      → In (scalar x) (references_in (made (expanding ps) (Named y qs)))
+      → (scalar x ≡ made_left (expanding ps) (record { name = y; subscripts = qs })) ⊎ In (scalar x) (touched_in_subscripts (made_left (expanding ps) (record { name = y; subscripts = qs })).subscripts)
+      → In (scalar x) (touched_in (made (expanding ps) (Named y qs)))
   left_stands y no_subscripts (inl e) = inl e
   left_stands y no_subscripts (inr j) = inr j
   left_stands y (subscript q qs) (inl e) = inl e
   left_stands y (subscript q qs) (inr j) = inr j
 
   not_left : (g : Guarded) → IsPlainGuard g.guard → ArePlainSubscripts g.left.subscripts → IsPlainExpression g.right
-      → ¬ In (scalar x) (references_of (rewritten_statement (expanding ps) g))
+      → ¬ In (scalar x) (references_touched (rewritten_statement (expanding ps) g))
   not_left g guard left right (inl e) = not_in (named g.left) left (left_stands g.left.name g.left.subscripts (inl e))
   not_left g guard left right (inr i) =
-      in_neither (references_in_guard (option_map (made (expanding ps)) g.guard)) (references_in_subscripts (made_left (expanding ps) g.left).subscripts ++ references_in (made (expanding ps) g.right)) (scalar x)
+      in_neither (touched_in_guard (option_map (made (expanding ps)) g.guard)) (touched_in_subscripts (made_left (expanding ps) g.left).subscripts ++ touched_in (made (expanding ps) g.right)) (scalar x)
       (λ j. not_in_guard g.guard guard j)
-      (in_neither (references_in_subscripts (made_left (expanding ps) g.left).subscripts) (references_in (made (expanding ps) g.right)) (scalar x)
+      (in_neither (touched_in_subscripts (made_left (expanding ps) g.left).subscripts) (touched_in (made (expanding ps) g.right)) (scalar x)
       (λ j. not_in (named g.left) left (left_stands g.left.name g.left.subscripts (inr j))) (λ j. not_in g.right right j)) i
 
 -- ---- the nest
@@ -168,7 +170,7 @@ module _ (es : List Declaration) (around : List (List ℕ)) (deepest : ℕ) (m :
   is_private e = let bad : ◌≡◌ {A = Option Private} (Some p) None = sym (named_is es around deepest m h may p i) ∙ e in cc
 
   abbrev IsLeft : Standing → Type 0
-  IsLeft s = In (scalar p.name) (references_of s.statement) → IsCopyOf m p s
+  IsLeft s = In (scalar p.name) (references_touched s.statement) → IsCopyOf m p s
 
   rewritten : (s : Standing) → In s (nest_statements m) → IsLeft (record { loops = s.loops; statement = rewritten_statement (expanding (private_scalars m)) s.statement })
   rewritten s j k =
@@ -182,7 +184,7 @@ module _ (es : List Declaration) (around : List (List ℕ)) (deepest : ℕ) (m :
       j : In q (private_scalars m)
       j = in_declared (private_scalars m) m.declarations q own
 
-      its : In (scalar p.name) (references_of (copied m.line q)) → p.name ≡ q.name
+      its : In (scalar p.name) (references_touched (copied m.line q)) → p.name ≡ q.name
       its (inl e) = ap (λ (r : Reference). r.name) e
       its (inr o) = absurd (no_element (private_scalars m) p.name is_private has_loops counts_none q j o)
 
@@ -197,11 +199,11 @@ module _ (es : List Declaration) (around : List (List ℕ)) (deepest : ℕ) (m :
 
   each_left : (s : Standing) → In s (nest_statements (expanded m)) → IsLeft s
   each_left s j =
-      let f = nest_flow 31 m (limits_of (length m.symbols) (λ k. pos 0) (pos 1)) (ends_of (length m.symbols) (λ k. pos 0)) (counters_of m) (value_among m.symbols 0 (λ k. pos 0)) (trip_at (length m.symbols) (λ k. pos 0))
-      (prepared_nest_is_expandable 31 es around deepest m loop body (λ k. pos 0) h turns may) in
+      let f = nest_flow (bits_of Plain) m (limits_of (length m.symbols) (λ k. pos 0) (pos 1)) (ends_of (length m.symbols) (λ k. pos 0)) (counters_of m) (value_among m.symbols 0 (λ k. pos 0)) (trip_at (length m.symbols) (λ k. pos 0))
+      (prepared_nest_is_expandable (bits_of Plain) es around deepest m loop body (λ k. pos 0) h turns may) in
       all_in IsLeft (nest_statements (expanded m))
       (subst (λ (ss : List Standing). All IsLeft ss) (sym (body_is m))
-      (part_is m (λ z. In z (counters_of m)) 31 (value_among m.symbols 0 (λ k. pos 0)) (trip_at (length m.symbols) (λ k. pos 0)) IsLeft rewritten a_copy
+      (part_is m (λ z. In z (counters_of m)) (bits_of Plain) (value_among m.symbols 0 (λ k. pos 0)) (trip_at (length m.symbols) (λ k. pos 0)) IsLeft rewritten a_copy
       [] m.body [] [] f.0 f.1 h.plain (λ x y. y) (λ o y. absurd y) (λ o y. y) f.2)) s j
 
 pub expanded_nest_has_no_private_scalars : ExpandedNestHasNoPrivateScalars

@@ -21,7 +21,7 @@ use Rattle.pass_laws.proofs.PreparedNests.Lists.{Contains-In, In-Contains}
 use Rattle.tree.specs.Names.{IsSourceName}
 use Rattle.tree.specs.Plain.{Declaration, Given}
 use Rattle.scalar_expand.specs.Expanded.{array_of, array_or, is_mask, made_before, made_now, named_private}
-use Rattle.scalar_expand.specs.Privates.{made_kind, names_written, or_none, private_among, private_scalar, private_scalars, privates_named}
+use Rattle.scalar_expand.specs.Privates.{made_kind, names_written, private_or_none, private_among, private_scalar, private_scalars, privates_named}
 use Rattle.scalar_expand.specs.Stores.{arrays}
 use Rattle.scalar_expand.specs.declared.privates.Private.{Private}
 use Rattle.scalar_expand.proofs.Changes.{found}
@@ -80,7 +80,7 @@ named_among : (m : Nest) (xs : List (List ℕ)) (p : Private) → In p (privates
 named_among m [] p i = i
 named_among m (x ∷ xs) p i = by (private_scalar m x) refl i (named_among m xs p)
   where
-    by : (o : Option Private) → private_scalar m x ≡ o → In p (or_none o ++ privates_named m xs) → (In p (privates_named m xs) → In p.name xs) → In p.name (x ∷ xs)
+    by : (o : Option Private) → private_scalar m x ≡ o → In p (private_or_none o ++ privates_named m xs) → (In p (privates_named m xs) → In p.name xs) → In p.name (x ∷ xs)
     by None e j r = inr (r j)
     by (Some q) e (inl f) r = inl (ap (λ (t : Private). t.name) f ∙ private_name m x q e)
     by (Some q) e (inr j) r = inr (r j)
@@ -92,7 +92,7 @@ privates_once : (m : Nest) (xs : List (List ℕ)) → Distinct xs → Distinct (
 privates_once m [] h = tt
 privates_once m (x ∷ xs) h = by (private_scalar m x) refl (privates_once m xs h.1)
   where
-    by : (o : Option Private) → private_scalar m x ≡ o → Distinct (names_of (privates_named m xs)) → Distinct (names_of (or_none o ++ privates_named m xs))
+    by : (o : Option Private) → private_scalar m x ≡ o → Distinct (names_of (privates_named m xs)) → Distinct (names_of (private_or_none o ++ privates_named m xs))
     by None e r = r
     by (Some p) e r = (apart_from p.name (names_of (privates_named m xs)) none, r)
       where

@@ -12,32 +12,32 @@ use Rattle.nest_order.proofs.orders.Lists.{In-append}
 use Rattle.nest_order.specs.orders.Lists.{In}
 use Rattle.nest_rewrite.specs.Assembled.{with_parts}
 use Rattle.pass_laws.proofs.PreparedNests.Lists.{Contains-In, In-Contains}
-use Rattle.scalar_expand.specs.Expanded.{array_of, array_or, begins_with, expanded, is_mask, made_before, made_now, named_private, with_arrays}
-use Rattle.scalar_expand.specs.Privates.{kind_if_scalar, made_kind, private_scalars}
+use Rattle.scalar_expand.specs.Expanded.{array_of, array_or, has_prefix, expanded, is_mask, made_before, made_now, named_private, with_made_arrays}
+use Rattle.scalar_expand.specs.Privates.{kind_if_bare, made_kind, private_scalars}
 use Rattle.scalar_expand.specs.declared.privates.Private.{Private}
 
 -- ---- the nest
 
 pub symbols_are : (m : Nest) → (expanded m).symbols ≡ m.symbols
-unfolding with_arrays with_parts
+unfolding with_made_arrays with_parts
 symbols_are m = refl
 
 pub declarations_are : (m : Nest) → (expanded m).declarations ≡ m.declarations
-unfolding with_arrays with_parts
+unfolding with_made_arrays with_parts
 declarations_are m = refl
 
 pub made_are : (m : Nest) → (expanded m).made ≡ made_before m.symbols (private_scalars m) m.made ++ made_now m.symbols (private_scalars m)
-unfolding with_arrays with_parts
+unfolding with_made_arrays with_parts
 made_are m = refl
 
 -- ---- names of masks
 
-no_longer : (xs ys : List ℕ) → begins_with xs ys ≡ true → length xs ≤ length ys
+no_longer : (xs ys : List ℕ) → has_prefix xs ys ≡ true → length xs ≤ length ys
 no_longer [] ys h = omega arith
 no_longer (x ∷ xs) [] h = cc
 no_longer (x ∷ xs) (y ∷ ys) h = by (x == y) h (λ g. no_longer xs ys g)
   where
-    by : (b : Bool) → (b && begins_with xs ys) ≡ true → (begins_with xs ys ≡ true → length xs ≤ length ys) → suc (length xs) ≤ suc (length ys)
+    by : (b : Bool) → (b && has_prefix xs ys) ≡ true → (has_prefix xs ys ≡ true → length xs ≤ length ys) → suc (length xs) ≤ suc (length ys)
     by true g more = let less = more g in omega (arith, less)
     by false g more = cc
 
@@ -87,11 +87,11 @@ made_of (a ∷ ms) x k e = by (bytes_eq a.name x) refl e (λ f. made_of ms x k f
     same : (j : Kind) → ◌≡◌ {A = Option Kind} (Some j) (Some k) → j ≡ k
     same j f = cc
 
-    one : (es : List Expression) → kind_if_scalar es a.kind ≡ Some k → a.kind ≡ k
+    one : (es : List Expression) → kind_if_bare es a.kind ≡ Some k → a.kind ≡ k
     one [] f = same a.kind f
     one (y ∷ es) f = cc
 
-    by : (b : Bool) → bytes_eq a.name x ≡ b → cond b (kind_if_scalar a.extents a.kind) (made_kind ms x) ≡ Some k
+    by : (b : Bool) → bytes_eq a.name x ≡ b → cond b (kind_if_bare a.extents a.kind) (made_kind ms x) ≡ Some k
         → (made_kind ms x ≡ Some k → IsMadeOf ms x k) → IsMadeOf (a ∷ ms) x k
     by true h f r = record { made = a; inside = inl refl; name = (bytes_eq-Decides a.name x).0 h; kind = one a.extents f }
     by false h f r = let m = r f in record { made = m.made; inside = inr m.inside; name = m.name; kind = m.kind }

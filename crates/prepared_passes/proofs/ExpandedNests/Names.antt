@@ -25,7 +25,7 @@ use Rattle.pass_laws.specs.prepared_nests.Nests.{IsPrepared, IsPreparedSymbol}
 use Rattle.pass_laws.specs.prepared_nests.Statements.{IsPreparedStatement, made_names}
 use Rattle.pass_laws.proofs.PreparedNests.Lists.{Contains-In, In-Contains}
 use Rattle.scalar_expand.specs.Expanded.{declared_privates, named_private}
-use Rattle.scalar_expand.specs.Privates.{array_name, declared_kind, is_source, kind_of_scalar, made_kind, kind_if_scalar, names_written, number_behind, or_none, private_among, private_scalar, private_scalars, round_loop, scalar_kind}
+use Rattle.scalar_expand.specs.Privates.{expanded_name, declared_kind, is_source, kind_of_scalar, made_kind, kind_if_bare, names_written, number_behind, private_or_none, private_among, private_scalar, private_scalars, round_loop, scalar_kind}
 use Rattle.scalar_expand.specs.Stores.{arrays}
 use Rattle.scalar_expand.specs.declared.privates.Private.{Private}
 use Rattle.scalar_expand.proofs.Changes.{found}
@@ -155,11 +155,11 @@ found_made : (as' : List Made) (x : List ℕ) (k : Kind) → made_kind as' x ≡
 found_made [] x k e = cc
 found_made (a ∷ as') x k e = by (bytes_eq a.name x) refl e (λ f. found_made as' x k f)
   where
-    none : (es : List Expression) → kind_if_scalar es a.kind ≡ Some k → es ≡ []
+    none : (es : List Expression) → kind_if_bare es a.kind ≡ Some k → es ≡ []
     none [] f = refl
     none (y ∷ es) f = cc
 
-    by : (b : Bool) → bytes_eq a.name x ≡ b → cond b (kind_if_scalar a.extents a.kind) (made_kind as' x) ≡ Some k → (made_kind as' x ≡ Some k → IsMadeScalar as' x) → IsMadeScalar (a ∷ as') x
+    by : (b : Bool) → bytes_eq a.name x ≡ b → cond b (kind_if_bare a.extents a.kind) (made_kind as' x) ≡ Some k → (made_kind as' x ≡ Some k → IsMadeScalar as' x) → IsMadeScalar (a ∷ as') x
     by true h f r = record { made = a; inside = inl refl; name = (bytes_eq-Decides a.name x).0 h; scalar = none a.extents f }
     by false h f r = let m = r f in record { made = m.made; inside = inr m.inside; name = m.name; scalar = m.scalar }
 
@@ -188,7 +188,7 @@ module _ (es : List Declaration) (around : List (List ℕ)) (deepest : ℕ) (m :
     pub target : standing.statement.left.name ≡ p.name
     pub stands : stands_in_statement p.name standing.statement ≡ true
     pub loops : p.loops ≡ map round_loop standing.loops
-    pub array : p.array ≡ array_name m.number p.name
+    pub array : p.array ≡ expanded_name m.number p.name
     pub kind : scalar_kind m p.name ≡ Some p.kind
 
   pub known : (p : Private) → In p (private_scalars m) → private_scalar m p.name ≡ Some p
@@ -362,7 +362,7 @@ module _ (es : List Declaration) (around : List (List ℕ)) (deepest : ℕ) (m :
       more true e r = (d, ap (λ b. cond b (Some d) (declared ds q.name)) e)
       more false e r = (r.0, ap (λ b. cond b (Some d) (declared ds q.name)) e ∙ r.1)
 
-      by : (o : Option Private) → named_private (private_scalars m) d.name ≡ o → In q (or_none o ++ declared_privates (private_scalars m) ds)
+      by : (o : Option Private) → named_private (private_scalars m) d.name ≡ o → In q (private_or_none o ++ declared_privates (private_scalars m) ds)
           → (In q (declared_privates (private_scalars m) ds) → (c : Declaration) × (declared ds q.name ≡ Some c)) → (c : Declaration) × (declared (d ∷ ds) q.name ≡ Some c)
       by None e j r = more (bytes_eq d.name q.name) refl (r j)
       by (Some p) e (inl f) r =

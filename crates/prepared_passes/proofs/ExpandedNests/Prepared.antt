@@ -27,7 +27,7 @@ use Rattle.pass_laws.specs.prepared_nests.Statements.{IsPreparedStatement, made_
 use Rattle.pass_laws.proofs.PreparedNests.Lists.{Contains-In, In-Contains}
 use Rattle.tree.specs.Plain.{Declaration, Expression, block}
 use Rattle.tree.specs.declared.ops.Kind.TheVariants.{Integer}
-use Rattle.scalar_expand.specs.Expanded.{array_of, expanded, expanded_part, expanding, last_values, made_before, made_now, named_private, with_arrays}
+use Rattle.scalar_expand.specs.Expanded.{array_of, expanded, expanded_part, expanding, last_values, made_before, made_now, named_private, with_made_arrays}
 use Rattle.scalar_expand.specs.Laws.{own_of}
 use Rattle.scalar_expand.specs.Numbers.{ends_of, limits_of, trip_at}
 use Rattle.scalar_expand.specs.Privates.{private_scalars}
@@ -53,6 +53,8 @@ use Rattle.prepared_passes.proofs.ExpandedNests.Round.{array_no_counter, as_many
 use Rattle.prepared_passes.proofs.ExpandedNests.Statements.{Is, array_not_source, copy_is, expanded_is}
 use Rattle.prepared_passes.proofs.ExpandedNests.Texts.{IsExtentText, all_texts}
 use Rattle.prepared_passes.proofs.ExpandedNests.Values.{extent_has_value}
+use Rattle.tree.specs.Widths.{bits_of}
+use Rattle.tree.specs.declared.width.Width.TheVariants.{Plain}
 
 -- ---- lists
 
@@ -197,10 +199,10 @@ module _ (es fs : List Declaration) (around : List (List ℕ)) (deepest : ℕ) (
 
     statements : All IsThere (nest_statements n)
     statements =
-        let f = nest_flow 31 m (limits_of (length m.symbols) (λ k. pos 0) (pos 1)) (ends_of (length m.symbols) (λ k. pos 0)) (counters_of m) (value_among m.symbols 0 (λ k. pos 0)) (trip_at (length m.symbols) (λ k. pos 0))
-        (prepared_nest_is_expandable 31 es around deepest m loop body (λ k. pos 0) h turns may) in
+        let f = nest_flow (bits_of Plain) m (limits_of (length m.symbols) (λ k. pos 0) (pos 1)) (ends_of (length m.symbols) (λ k. pos 0)) (counters_of m) (value_among m.symbols 0 (λ k. pos 0)) (trip_at (length m.symbols) (λ k. pos 0))
+        (prepared_nest_is_expandable (bits_of Plain) es around deepest m loop body (λ k. pos 0) h turns may) in
         subst (λ (q : Part). All IsThere (statements_in [] q)) (sym changed)
-        (part_is m (λ z. In z (counters_of m)) 31 (value_among m.symbols 0 (λ k. pos 0)) (trip_at (length m.symbols) (λ k. pos 0)) IsThere
+        (part_is m (λ z. In z (counters_of m)) (bits_of Plain) (value_among m.symbols 0 (λ k. pos 0)) (trip_at (length m.symbols) (λ k. pos 0)) IsThere
         (λ s i. expanded_is es fs around deepest m h may d n symbols stay new s i)
         (λ ls inside p i known same. copy_is es fs around deepest m h may d n symbols stay new ls inside p i (ap numbers_round same ∙ round_numbers ls))
         [] m.body [] [] f.0 f.1 h.plain (λ s i. i) (λ o i. absurd i) (λ o i. i) f.2)
@@ -225,7 +227,7 @@ module _ (es fs : List Declaration) (around : List (List ℕ)) (deepest : ℕ) (
     }
 
 pub expanded_nest_is_prepared : ExpandedNestIsPrepared
-unfolding with_arrays with_parts
+unfolding with_made_arrays with_parts
 expanded_nest_is_prepared es fs around deepest m loop body h turns may free d room =
     let keeps = expanded_nest_keeps_loops es around deepest m h in
     record { plain = keeps.plain; parts = parts es fs around deepest m loop body h turns may d room (expanded m) refl refl refl refl refl refl keeps free }

@@ -11,11 +11,11 @@ use Rattle.meaning.specs.Value.{named}
 use Rattle.nest.specs.Plain.{Guarded}
 use Rattle.nest_order.proofs.orders.Lists.{In-append, In-left, In-right}
 use Rattle.nest_order.specs.orders.Lists.{In}
-use Rattle.nest_order.specs.runs.Touched.{ArePlain, EachIsPlain, IsPlain, IsPlainGuard, references_in, references_in_each, references_in_guard, references_in_subscripts, references_read}
+use Rattle.nest_order.specs.runs.Touched.{ArePlain, EachIsPlain, IsPlain, IsPlainGuard, touched_in, references_in_each, touched_in_guard, touched_in_subscripts, references_read}
 use Rattle.nest_rewrite.specs.Statements.{rewritten_statement}
 use Rattle.rewrite.specs.Making.{made, made_expressions, made_left, made_subscripts}
 use Rattle.scalar_expand.proofs.Changes.{found}
-use Rattle.scalar_expand.specs.Expanded.{as_expression, element, element_or, expanding, named_private, variable}
+use Rattle.scalar_expand.specs.Expanded.{as_expression, element, element_or, expanding, named_private, loop_subscript}
 use Rattle.scalar_expand.specs.declared.privates.Private.{Private}
 use Rattle.scalar_expand.specs.declared.privates.RoundLoop.{RoundLoop}
 
@@ -57,23 +57,23 @@ module _ (ps : List Private) where
   -- ---- elements
 
   -- the subscripts of an element are the variables of its loops
-  pub variables_onto : (ls : List RoundLoop) (ss : List Subscript) (r : Reference) → In r (references_in_subscripts (subscripts (reverse_aux (map variable ls) ss)))
-      → ((l : RoundLoop) × In l ls × (r.name ≡ l.variable)) ⊎ In r (references_in_subscripts (subscripts ss))
+  pub variables_onto : (ls : List RoundLoop) (ss : List Subscript) (r : Reference) → In r (touched_in_subscripts (subscripts (reverse_aux (map loop_subscript ls) ss)))
+      → ((l : RoundLoop) × In l ls × (r.name ≡ l.variable)) ⊎ In r (touched_in_subscripts (subscripts ss))
   variables_onto [] ss r i = inr i
-  variables_onto (l ∷ ls) ss r i = by (variables_onto ls (variable l ∷ ss) r i)
+  variables_onto (l ∷ ls) ss r i = by (variables_onto ls (loop_subscript l ∷ ss) r i)
     where
-      by : ((k : RoundLoop) × In k ls × (r.name ≡ k.variable)) ⊎ In r (references_in_subscripts (subscripts (variable l ∷ ss)))
-          → ((k : RoundLoop) × In k (l ∷ ls) × (r.name ≡ k.variable)) ⊎ In r (references_in_subscripts (subscripts ss))
+      by : ((k : RoundLoop) × In k ls × (r.name ≡ k.variable)) ⊎ In r (touched_in_subscripts (subscripts (loop_subscript l ∷ ss)))
+          → ((k : RoundLoop) × In k (l ∷ ls) × (r.name ≡ k.variable)) ⊎ In r (touched_in_subscripts (subscripts ss))
       by (inl h) = inl (h.0, inr h.1, h.2)
       by (inr (inl e)) = inl (l, inl refl, ap (λ (q : Reference). q.name) e)
       by (inr (inr j)) = inr j
 
   of_element : (q : Private) → In q ps → (rs : List Reference) (first : Reference) → In first rs → first.name ≡ q.name → (r : Reference)
-      → In r (references_in (as_expression (element q))) → ComesFrom ps rs r
+      → In r (touched_in (as_expression (element q))) → ComesFrom ps rs r
   of_element q among rs first inside name r (inl e) = inl (record { scalar = q; among = among; is = e; first = first; inside = inside; name = name })
   of_element q among rs first inside name r (inr j) = by (variables_onto q.loops [] r j)
     where
-      by : ((l : RoundLoop) × In l q.loops × (r.name ≡ l.variable)) ⊎ In r (references_in_subscripts (subscripts [])) → ComesFrom ps rs r
+      by : ((l : RoundLoop) × In l q.loops × (r.name ≡ l.variable)) ⊎ In r (touched_in_subscripts (subscripts [])) → ComesFrom ps rs r
       by (inl h) = inr (inr (record { scalar = q; among = among; loop = h.0; inside = h.1; name = h.2 }))
       by (inr k) = absurd k
 
@@ -84,12 +84,12 @@ module _ (ps : List Private) where
   either rs us r f g (inr j) = more us (rs ++ us) r (λ y k. In-right y rs us k) (g j)
 
   mutual
-    pub of_expression : (e : Expression) → IsPlain e → (r : Reference) → In r (references_in (made (expanding ps) e)) → ComesFrom ps (references_in e) r
+    pub of_expression : (e : Expression) → IsPlain e → (r : Reference) → In r (touched_in (made (expanding ps) e)) → ComesFrom ps (touched_in e) r
     of_expression (Number n) plain r i = absurd i
     of_expression (Logic b) plain r i = absurd i
     of_expression (Named x no_subscripts) plain r i = by (named_private ps x) refl i
       where
-        by : (o : Option Private) → named_private ps x ≡ o → In r (references_in (as_expression (element_or o (record { name = x; subscripts = no_subscripts })))) → ComesFrom ps (references_in (Named x no_subscripts)) r
+        by : (o : Option Private) → named_private ps x ≡ o → In r (touched_in (as_expression (element_or o (record { name = x; subscripts = no_subscripts })))) → ComesFrom ps (touched_in (Named x no_subscripts)) r
         by None e (inl f) = inr (inl (record {
           first = record { name = x; subscripts = no_subscripts };
           inside = inl refl;
@@ -97,7 +97,7 @@ module _ (ps : List Private) where
           other = λ g. ap (λ (q : Reference). named_private ps q.name) f ∙ e;
         }))
         by None e (inr j) = absurd j
-        by (Some q) e j = let f = found ps x q e in of_element q f.0 (references_in (Named x no_subscripts)) (record { name = x; subscripts = no_subscripts }) (inl refl) (sym f.1) r j
+        by (Some q) e j = let f = found ps x q e in of_element q f.0 (touched_in (Named x no_subscripts)) (record { name = x; subscripts = no_subscripts }) (inl refl) (sym f.1) r j
     of_expression (Named x (subscript q qs)) plain r (inl f) = inr (inl (record {
       first = record { name = x; subscripts = subscript q qs };
       inside = inl refl;
@@ -105,11 +105,11 @@ module _ (ps : List Private) where
       other = λ g. cc;
     }))
     of_expression (Named x (subscript q qs)) plain r (inr j) =
-        more (references_in_subscripts (subscript q qs)) (references_in (Named x (subscript q qs))) r (λ y k. inr k) (of_subscripts (subscript q qs) plain r j)
+        more (touched_in_subscripts (subscript q qs)) (touched_in (Named x (subscript q qs))) r (λ y k. inr k) (of_subscripts (subscript q qs) plain r j)
     of_expression (Unary o a) plain r i = of_expression a plain r i
     of_expression (Binary o a b) plain r i =
-        either (references_in a) (references_in b) r (λ j. of_expression a plain.0 r j) (λ j. of_expression b plain.1 r j)
-        (In-append r (references_in (made (expanding ps) a)) (references_in (made (expanding ps) b)) i)
+        either (touched_in a) (touched_in b) r (λ j. of_expression a plain.0 r j) (λ j. of_expression b plain.1 r j)
+        (In-append r (touched_in (made (expanding ps) a)) (touched_in (made (expanding ps) b)) i)
     of_expression (Apply f es) plain r i = of_each es plain r i
     of_expression (Constructor es ls) plain r i = absurd plain
     of_expression (Spread a d n) plain r i = absurd plain
@@ -120,26 +120,26 @@ module _ (ps : List Private) where
     of_each : (es : Expressions) → EachIsPlain es → (r : Reference) → In r (references_in_each (made_expressions (expanding ps) es)) → ComesFrom ps (references_in_each es) r
     of_each no_expressions plain r i = absurd i
     of_each (expression e es) plain r i =
-        either (references_in e) (references_in_each es) r (λ j. of_expression e plain.0 r j) (λ j. of_each es plain.1 r j)
-        (In-append r (references_in (made (expanding ps) e)) (references_in_each (made_expressions (expanding ps) es)) i)
+        either (touched_in e) (references_in_each es) r (λ j. of_expression e plain.0 r j) (λ j. of_each es plain.1 r j)
+        (In-append r (touched_in (made (expanding ps) e)) (references_in_each (made_expressions (expanding ps) es)) i)
 
-    of_subscripts : (qs : Subscripts) → ArePlain qs → (r : Reference) → In r (references_in_subscripts (made_subscripts (expanding ps) qs)) → ComesFrom ps (references_in_subscripts qs) r
+    of_subscripts : (qs : Subscripts) → ArePlain qs → (r : Reference) → In r (touched_in_subscripts (made_subscripts (expanding ps) qs)) → ComesFrom ps (touched_in_subscripts qs) r
     of_subscripts no_subscripts plain r i = absurd i
     of_subscripts (subscript (Only e) qs) plain r i =
-        either (references_in e) (references_in_subscripts qs) r (λ j. of_expression e plain.0 r j) (λ j. of_subscripts qs plain.1 r j)
-        (In-append r (references_in (made (expanding ps) e)) (references_in_subscripts (made_subscripts (expanding ps) qs)) i)
+        either (touched_in e) (touched_in_subscripts qs) r (λ j. of_expression e plain.0 r j) (λ j. of_subscripts qs plain.1 r j)
+        (In-append r (touched_in (made (expanding ps) e)) (touched_in_subscripts (made_subscripts (expanding ps) qs)) i)
     of_subscripts (subscript (Section a b c) qs) plain r i = absurd plain.0
 
   -- ---- statements
 
   -- all references of a statement
   abbrev pub all_of : Guarded → List Reference
-  all_of g = references_in_guard g.guard ++ (references_in (named g.left) ++ references_in g.right)
+  all_of g = touched_in_guard g.guard ++ (touched_in (named g.left) ++ touched_in g.right)
 
   abbrev pub read_by : Guarded → List Reference
   read_by g = references_read (record { guard = g.guard; left = g.left; right = g.right })
 
-  of_guard : (o : Option Expression) → IsPlainGuard o → (r : Reference) → In r (references_in_guard (option_map (made (expanding ps)) o)) → ComesFrom ps (references_in_guard o) r
+  of_guard : (o : Option Expression) → IsPlainGuard o → (r : Reference) → In r (touched_in_guard (option_map (made (expanding ps)) o)) → ComesFrom ps (touched_in_guard o) r
   of_guard None plain r i = absurd i
   of_guard (Some e) plain r i = of_expression e plain r i
 
@@ -147,33 +147,33 @@ module _ (ps : List Private) where
       → In r ((rewritten_statement (expanding ps) g).left ∷ read_by (rewritten_statement (expanding ps) g)) → ComesFrom ps (all_of g) r
   of_statement g guard left right r i = by i
     where
-      left_is : (x : List ℕ) (qs : Subscripts) → (y : Reference) → y ≡ made_left (expanding ps) (record { name = x; subscripts = qs }) ⊎ In y (references_in_subscripts (made_left (expanding ps) (record { name = x; subscripts = qs })).subscripts)
-          → In y (references_in (made (expanding ps) (Named x qs)))
+      left_is : (x : List ℕ) (qs : Subscripts) → (y : Reference) → y ≡ made_left (expanding ps) (record { name = x; subscripts = qs }) ⊎ In y (touched_in_subscripts (made_left (expanding ps) (record { name = x; subscripts = qs })).subscripts)
+          → In y (touched_in (made (expanding ps) (Named x qs)))
       left_is x no_subscripts y (inl e) = inl e
       left_is x no_subscripts y (inr j) = inr j
       left_is x (subscript q qs) y (inl e) = inl e
       left_is x (subscript q qs) y (inr j) = inr j
 
-      at_left : (y : Reference) → y ≡ made_left (expanding ps) g.left ⊎ In y (references_in_subscripts (made_left (expanding ps) g.left).subscripts) → ComesFrom ps (all_of g) y
+      at_left : (y : Reference) → y ≡ made_left (expanding ps) g.left ⊎ In y (touched_in_subscripts (made_left (expanding ps) g.left).subscripts) → ComesFrom ps (all_of g) y
       at_left y j =
-          more (references_in (named g.left)) (all_of g) y
-          (λ z k. In-right z (references_in_guard g.guard) (references_in (named g.left) ++ references_in g.right) (In-left z (references_in (named g.left)) (references_in g.right) k))
+          more (touched_in (named g.left)) (all_of g) y
+          (λ z k. In-right z (touched_in_guard g.guard) (touched_in (named g.left) ++ touched_in g.right) (In-left z (touched_in (named g.left)) (touched_in g.right) k))
           (of_expression (named g.left) left y (left_is g.left.name g.left.subscripts y j))
 
-      others : In r (references_in_subscripts (made_left (expanding ps) g.left).subscripts) ⊎ In r (references_in (made (expanding ps) g.right)) → ComesFrom ps (all_of g) r
+      others : In r (touched_in_subscripts (made_left (expanding ps) g.left).subscripts) ⊎ In r (touched_in (made (expanding ps) g.right)) → ComesFrom ps (all_of g) r
       others (inl j) = at_left r (inr j)
       others (inr j) =
-          more (references_in g.right) (all_of g) r
-          (λ z k. In-right z (references_in_guard g.guard) (references_in (named g.left) ++ references_in g.right) (In-right z (references_in (named g.left)) (references_in g.right) k))
+          more (touched_in g.right) (all_of g) r
+          (λ z k. In-right z (touched_in_guard g.guard) (touched_in (named g.left) ++ touched_in g.right) (In-right z (touched_in (named g.left)) (touched_in g.right) k))
           (of_expression g.right right r j)
 
-      read : In r (references_in_guard (option_map (made (expanding ps)) g.guard)) ⊎ In r (references_in_subscripts (made_left (expanding ps) g.left).subscripts ++ references_in (made (expanding ps) g.right)) → ComesFrom ps (all_of g) r
-      read (inl j) = more (references_in_guard g.guard) (all_of g) r (λ z k. In-left z (references_in_guard g.guard) (references_in (named g.left) ++ references_in g.right) k) (of_guard g.guard guard r j)
-      read (inr j) = others (In-append r (references_in_subscripts (made_left (expanding ps) g.left).subscripts) (references_in (made (expanding ps) g.right)) j)
+      read : In r (touched_in_guard (option_map (made (expanding ps)) g.guard)) ⊎ In r (touched_in_subscripts (made_left (expanding ps) g.left).subscripts ++ touched_in (made (expanding ps) g.right)) → ComesFrom ps (all_of g) r
+      read (inl j) = more (touched_in_guard g.guard) (all_of g) r (λ z k. In-left z (touched_in_guard g.guard) (touched_in (named g.left) ++ touched_in g.right) k) (of_guard g.guard guard r j)
+      read (inr j) = others (In-append r (touched_in_subscripts (made_left (expanding ps) g.left).subscripts) (touched_in (made (expanding ps) g.right)) j)
 
       by : r ≡ made_left (expanding ps) g.left ⊎ In r (read_by (rewritten_statement (expanding ps) g)) → ComesFrom ps (all_of g) r
       by (inl e) = at_left r (inl e)
-      by (inr j) = read (In-append r (references_in_guard (option_map (made (expanding ps)) g.guard)) (references_in_subscripts (made_left (expanding ps) g.left).subscripts ++ references_in (made (expanding ps) g.right)) j)
+      by (inr j) = read (In-append r (touched_in_guard (option_map (made (expanding ps)) g.guard)) (touched_in_subscripts (made_left (expanding ps) g.left).subscripts ++ touched_in (made (expanding ps) g.right)) j)
 
 -- ---- references in an expression that has a kind
 
@@ -195,7 +195,7 @@ module _ (es : List Declaration) where
       by (inr j) = g j
 
   mutual
-    pub each_suits : (e : Expression) (k : Kind) → IsPlain e → HasKind es e k → (r : Reference) → In r (references_in e) → Suits r
+    pub each_suits : (e : Expression) (k : Kind) → IsPlain e → HasKind es e k → (r : Reference) → In r (touched_in e) → Suits r
     each_suits (Number n) k plain h r i = absurd i
     each_suits (Logic b) k plain h r i = absurd i
     each_suits (Named x qs) k plain h r (inl e) =
@@ -203,7 +203,7 @@ module _ (es : List Declaration) where
     each_suits (Named x qs) k plain h r (inr j) = in_subscripts qs plain h.1 r j
     each_suits (Unary o a) k plain h r i = each_suits a _ plain h.2 r i
     each_suits (Binary o a b) k plain h r i =
-        in_two (references_in a) (references_in b) r (λ j. each_suits a _ plain.0 h.2 r j) (λ j. each_suits b _ plain.1 h.3 r j) i
+        in_two (touched_in a) (touched_in b) r (λ j. each_suits a _ plain.0 h.2 r j) (λ j. each_suits b _ plain.1 h.3 r j) i
     each_suits (Apply f as') k plain h r i = in_each as' plain h.3 r i
     each_suits (Constructor as' ls) k plain h r i = absurd plain
     each_suits (Spread a d n) k plain h r i = absurd plain
@@ -214,12 +214,12 @@ module _ (es : List Declaration) where
     in_each : (as' : Expressions) → EachIsPlain as' → AreArguments es as' → (r : Reference) → In r (references_in_each as') → Suits r
     in_each no_expressions plain h r i = absurd i
     in_each (expression e as') plain h r i =
-        in_two (references_in e) (references_in_each as') r (λ j. each_suits e Integer plain.0 h.0 r j) (λ j. in_each as' plain.1 h.2 r j) i
+        in_two (touched_in e) (references_in_each as') r (λ j. each_suits e Integer plain.0 h.0 r j) (λ j. in_each as' plain.1 h.2 r j) i
 
-    in_subscripts : (qs : Subscripts) → ArePlain qs → AreSubscripts es qs → (r : Reference) → In r (references_in_subscripts qs) → Suits r
+    in_subscripts : (qs : Subscripts) → ArePlain qs → AreSubscripts es qs → (r : Reference) → In r (touched_in_subscripts qs) → Suits r
     in_subscripts no_subscripts plain h r i = absurd i
     in_subscripts (subscript (Only e) qs) plain h r i =
-        in_two (references_in e) (references_in_subscripts qs) r (λ j. each_suits e Integer plain.0 h.0.0 r j) (λ j. in_subscripts qs plain.1 h.1 r j) i
+        in_two (touched_in e) (touched_in_subscripts qs) r (λ j. each_suits e Integer plain.0 h.0.0 r j) (λ j. in_subscripts qs plain.1 h.1 r j) i
     in_subscripts (subscript (Section a b c) qs) plain h r i = absurd plain.0
 
   -- that of a scalar has none

@@ -12,6 +12,7 @@ use Rattle.if_convert.specs.Converted.{converted_nest}
 use Rattle.if_convert.specs.Masks.{mask_name}
 use Rattle.linear_forms.proofs.Sizes.{both as both_true_of}
 use Rattle.meaning.specs.Dialect.{fortran77}
+use Rattle.tree.specs.declared.width.Width.{Width}
 use Rattle.meaning.specs.Names.{IsInByteOrder}
 use Rattle.meaning.specs.Profile77.{IsProgram77}
 use Rattle.meaning.specs.Profile90.{IsDeclaration}
@@ -80,7 +81,7 @@ one_named (z ∷ xs) d x y (inl f) (inr j) e = absurd (each_in (λ w. ¬ (z.name
 one_named (z ∷ xs) d x y (inr i) (inl g) e = absurd (each_in (λ w. ¬ (z.name ≡ w)) (map (λ (a : Made). a.name) xs) d.0 x.name (map-In (λ (a : Made). a.name) x xs i) (ap (λ (a : Made). a.name) (sym g) ∙ sym e))
 one_named (z ∷ xs) d x y (inr i) (inr j) e = one_named xs d.1 x y i j e
 
-module _ (p : Program) (n m masked : Nest) (masks : ℕ) (is : IsProgram77 fortran77 p) (among : Contains (found_in p) (InNest n))
+module _ (width : Width) (p : Program) (n m masked : Nest) (masks : ℕ) (is : IsProgram77 (fortran77 width) p) (among : Contains (found_in p) (InNest n))
     (normal : normalised n ≡ Some m) (made : converted_nest masks m ≡ Some masked) (few : masked.masks ≤ 4294967296) where
   abbrev pub anew_nest : Nest
   anew_nest = with_symbols_found m masked
@@ -89,13 +90,13 @@ module _ (p : Program) (n m masked : Nest) (masks : ℕ) (is : IsProgram77 fortr
   sub = substituted m masked
 
   abbrev outside : List (List ℕ)
-  outside = (stands p n m masked masks is among normal made few).round.variables
+  outside = (stands width p n m masked masks is among normal made few).round.variables
 
   -- ---- by declarations of the names of p and of further made names
 
   module _ (es : List Declaration) (add : AddMadeNames p.declarations es) where
     masked_source : IsOfSource es masked
-    masked_source = found_nest_is_of_source p n m masked es masks is among normal made add
+    masked_source = found_nest_is_of_source width p n m masked es masks is among normal made add
 
     pub anew_source : IsOfSource es (with_symbols_found m masked)
     anew_source = source_anew es m masked (with_symbols_found m masked) refl masked_source
@@ -109,25 +110,25 @@ module _ (p : Program) (n m masked : Nest) (masks : ℕ) (is : IsProgram77 fortr
 
   -- ---- by the counters and the masks
 
-  first_prepared : IsPrepared (with_both p n m masked masks is among normal made few) outside (normal_depth + 18) (with_symbols_found m masked)
+  first_prepared : IsPrepared (with_both width p n m masked masks is among normal made few) outside (normal_depth + 18) (with_symbols_found m masked)
   first_prepared =
-      anew_prepared (with_both p n m masked masks is among normal made few) (are_both p n m masked masks is among normal made few).more outside
-      (prepared_before p n m masked masks is among normal made few)
+      anew_prepared (with_both width p n m masked masks is among normal made few) (are_both width p n m masked masks is among normal made few).more outside
+      (prepared_before width p n m masked masks is among normal made few)
 
-  first_source : IsOfSource (with_both p n m masked masks is among normal made few) (with_symbols_found m masked)
-  first_source = anew_source (with_both p n m masked masks is among normal made few) (are_both p n m masked masks is among normal made few).more
+  first_source : IsOfSource (with_both width p n m masked masks is among normal made few) (with_symbols_found m masked)
+  first_source = anew_source (with_both width p n m masked masks is among normal made few) (are_both width p n m masked masks is among normal made few).more
 
-  pub first_sub : IsPrepared (with_both p n m masked masks is among normal made few) outside unexpanded_depth (substituted m masked)
+  pub first_sub : IsPrepared (with_both width p n m masked masks is among normal made few) outside unexpanded_depth (substituted m masked)
   first_sub =
-      sub_prepared (with_both p n m masked masks is among normal made few) (are_both p n m masked masks is among normal made few).more outside
-      (prepared_before p n m masked masks is among normal made few)
+      sub_prepared (with_both width p n m masked masks is among normal made few) (are_both width p n m masked masks is among normal made few).more outside
+      (prepared_before width p n m masked masks is among normal made few)
 
   pub sub_trip : Trip
-  sub_trip = (trip (with_both p n m masked masks is among normal made few) outside (normal_depth + 18) anew_nest first_prepared first_source).trip
+  sub_trip = (trip (with_both width p n m masked masks is among normal made few) outside (normal_depth + 18) anew_nest first_prepared first_source).trip
 
   pub sub_from : IsSubstitutedFrom (with_symbols_found m masked) (inductions_of (with_symbols_found m masked)) sub_trip (substituted m masked)
   unfolding sub_trip
-  sub_from = substituted_from (with_both p n m masked masks is among normal made few) outside (normal_depth + 18) anew_nest first_prepared first_source
+  sub_from = substituted_from (with_both width p n m masked masks is among normal made few) outside (normal_depth + 18) anew_nest first_prepared first_source
 
   -- ---- what the nest has of the found one
 
@@ -135,7 +136,7 @@ module _ (p : Program) (n m masked : Nest) (masks : ℕ) (is : IsProgram77 fortr
   masked_declarations =
       let f = loop_of masks m masked made in
       let converted : masked.declarations ≡ m.declarations = ap (λ (z : Nest). z.declarations) (sym f.made) in
-      converted ∙ ((normal_same n m normal).declarations ∙ ap (λ (z : Nest). z.declarations) (here p n m masked masks is among normal made few).is)
+      converted ∙ ((normal_same n m normal).declarations ∙ ap (λ (z : Nest). z.declarations) (here width p n m masked masks is among normal made few).is)
 
   masked_number : masked.number ≡ n.number
   masked_number = let f = loop_of masks m masked made in ap (λ (z : Nest). z.number) (sym f.made) ∙ (normal_same n m normal).number
@@ -179,13 +180,13 @@ module _ (p : Program) (n m masked : Nest) (masks : ℕ) (is : IsProgram77 fortr
 
   -- neither the program, nor counters and masks have one
   no_range : (x : Made) → In x (names_made (substituted m masked)) → (d : Declaration) → d.name ≡ x.name
-      → Contains p.declarations d ⊎ Contains (both p n m masked masks is among normal made few) d → ⊥
-  no_range x i d e (inl c) = range_no_source x i (subst IsSourceName e (own_source p n m masked masks is among normal made few d c))
-  no_range x i d e (inr c) = by (Contains-append_cases (counters p n m masked masks is among normal made few) (masks_below masked.masks) d c)
+      → Contains p.declarations d ⊎ Contains (both width p n m masked masks is among normal made few) d → ⊥
+  no_range x i d e (inl c) = range_no_source x i (subst IsSourceName e (own_source width p n m masked masks is among normal made few d c))
+  no_range x i d e (inr c) = by (Contains-append_cases (counters width p n m masked masks is among normal made few) (masks_below masked.masks) d c)
     where
-      by : Contains (counters p n m masked masks is among normal made few) d ⊎ Contains (masks_below masked.masks) d → ⊥
+      by : Contains (counters width p n m masked masks is among normal made few) d ⊎ Contains (masks_below masked.masks) d → ⊥
       by (inl c) =
-          let o = of_counter (nest_loops m) (numbered p n m masked masks is among normal made few) d c in
+          let o = of_counter (nest_loops m) (numbered width p n m masked masks is among normal made few) d c in
           let bad : 78 ≡ 76 = sym (fourth_letter x i) ∙ (ap fourth (sym e ∙ sym o.numbered.is) ∙ fourth_loop o.numbered.number) in
           absurd (omega (arith, bad))
       by (inr c) =
@@ -193,19 +194,19 @@ module _ (p : Program) (n m masked : Nest) (masks : ℕ) (is : IsProgram77 fortr
           let bad : 78 ≡ 77 = sym (fourth_letter x i) ∙ (ap fourth (sym e ∙ sym o.name) ∙ fourth_mask o.number) in
           absurd (omega (arith, bad))
 
-  undeclared : (x : Made) → In x (names_made (substituted m masked)) → declared (with_both p n m masked masks is among normal made few) x.name ≡ None
-  undeclared x i = by (declared (with_both p n m masked masks is among normal made few) x.name) refl
+  undeclared : (x : Made) → In x (names_made (substituted m masked)) → declared (with_both width p n m masked masks is among normal made few) x.name ≡ None
+  undeclared x i = by (declared (with_both width p n m masked masks is among normal made few) x.name) refl
     where
-      by : (o : Option Declaration) → declared (with_both p n m masked masks is among normal made few) x.name ≡ o → o ≡ None
+      by : (o : Option Declaration) → declared (with_both width p n m masked masks is among normal made few) x.name ≡ o → o ≡ None
       by None e = refl
       by (Some d) e =
-          let f = found (with_both p n m masked masks is among normal made few) x.name d e in
-          absurd (no_range x i d f.name (each_of p.declarations (both p n m masked masks is among normal made few) d f.among))
+          let f = found (with_both width p n m masked masks is among normal made few) x.name d e in
+          absurd (no_range x i d f.name (each_of p.declarations (both width p n m masked masks is among normal made few) d f.among))
 
   -- so they stand nowhere in it, and nothing that was made has one
   pub fresh : (x : Made) → In x (names_made (substituted m masked))
       → (¬ Contains (names_in_block (loops_then_after (substituted m masked))) x.name) × (¬ Contains (made_names (substituted m masked)) x.name)
-  fresh = names_are_fresh (with_both p n m masked masks is among normal made few) outside unexpanded_depth sub first_sub undeclared
+  fresh = names_are_fresh (with_both width p n m masked masks is among normal made few) outside unexpanded_depth sub first_sub undeclared
 
   -- ---- declarations that have them
 
@@ -220,7 +221,7 @@ module _ (p : Program) (n m masked : Nest) (masks : ℕ) (is : IsProgram77 fortr
     stands_right w i =
         let o = In-map (λ (d : Declaration). d.name) w.name p.declarations
         (subst (λ (ds : List Declaration). In w.name (map (λ (d : Declaration). d.name) ds)) sub_declarations (named_in sub sub.declarations w i)) in
-        let d : IsDeclaration o.it = all_at IsDeclaration p.declarations o.it (own_are p n m masked masks is among normal made few).each (In-Contains o.it p.declarations o.inside) in
+        let d : IsDeclaration o.it = all_at IsDeclaration p.declarations o.it (own_are width p n m masked masks is among normal made few).each (In-Contains o.it p.declarations o.inside) in
         subst (λ x. list_all stands_in_name x ≡ true) (sym o.is) d.name.goes_on
 
     pub range_is_made : (x : Made) → In x (names_made (substituted m masked)) → IsMadeDeclaration (as_scalar_made x)
@@ -247,30 +248,30 @@ module _ (p : Program) (n m masked : Nest) (masks : ℕ) (is : IsProgram77 fortr
     ranges = map as_scalar_made (names_made (substituted m masked))
 
     abbrev pub three : List Declaration
-    three = both p n m masked masks is among normal made few ++ map as_scalar_made (names_made (substituted m masked))
+    three = both width p n m masked masks is among normal made few ++ map as_scalar_made (names_made (substituted m masked))
 
     abbrev pub with_three : List Declaration
-    with_three = with_declarations p.declarations (both p n m masked masks is among normal made few ++ map as_scalar_made (names_made (substituted m masked)))
+    with_three = with_declarations p.declarations (both width p n m masked masks is among normal made few ++ map as_scalar_made (names_made (substituted m masked)))
 
     each_made : (e : Declaration) → Contains three e → IsMadeDeclaration e
-    each_made e c = by (Contains-append_cases (both p n m masked masks is among normal made few) ranges e c)
+    each_made e c = by (Contains-append_cases (both width p n m masked masks is among normal made few) ranges e c)
       where
-        by : Contains (both p n m masked masks is among normal made few) e ⊎ Contains ranges e → IsMadeDeclaration e
-        by (inl i) = is_made e (counter_or_mask (nest_loops m) (numbered p n m masked masks is among normal made few) masked.masks few e i)
+        by : Contains (both width p n m masked masks is among normal made few) e ⊎ Contains ranges e → IsMadeDeclaration e
+        by (inl i) = is_made e (counter_or_mask (nest_loops m) (numbered width p n m masked masks is among normal made few) masked.masks few e i)
         by (inr i) = let o = of_map as_scalar_made (names_made sub) e i in subst IsMadeDeclaration o.2 (range_is_made o.0 (Contains-In o.0 (names_made sub) o.1))
 
-    apart : (d e : Declaration) → Contains (both p n m masked masks is among normal made few) d → Contains ranges e → d.name ≡ e.name → ⊥
+    apart : (d e : Declaration) → Contains (both width p n m masked masks is among normal made few) d → Contains ranges e → d.name ≡ e.name → ⊥
     apart d e c i same =
         let o = of_map as_scalar_made (names_made sub) e i in
         no_range o.0 (Contains-In o.0 (names_made sub) o.1) d (same ∙ sym (ap (λ (z : Declaration). z.name) o.2)) (inr c)
 
     alone : AgreeOnNames three three
-    alone d e c i same = by (Contains-append_cases (both p n m masked masks is among normal made few) ranges d c) (Contains-append_cases (both p n m masked masks is among normal made few) ranges e i)
+    alone d e c i same = by (Contains-append_cases (both width p n m masked masks is among normal made few) ranges d c) (Contains-append_cases (both width p n m masked masks is among normal made few) ranges e i)
       where
-        by : Contains (both p n m masked masks is among normal made few) d ⊎ Contains ranges d → Contains (both p n m masked masks is among normal made few) e ⊎ Contains ranges e → d ≡ e
+        by : Contains (both width p n m masked masks is among normal made few) d ⊎ Contains ranges d → Contains (both width p n m masked masks is among normal made few) e ⊎ Contains ranges e → d ≡ e
         by (inl f) (inl g) =
-            agree d e (counter_or_mask (nest_loops m) (numbered p n m masked masks is among normal made few) masked.masks few d f)
-            (counter_or_mask (nest_loops m) (numbered p n m masked masks is among normal made few) masked.masks few e g) same
+            agree d e (counter_or_mask (nest_loops m) (numbered width p n m masked masks is among normal made few) masked.masks few d f)
+            (counter_or_mask (nest_loops m) (numbered width p n m masked masks is among normal made few) masked.masks few e g) same
         by (inl f) (inr g) = absurd (apart d e f g same)
         by (inr f) (inl g) = absurd (apart e d g f (sym same))
         by (inr f) (inr g) =
@@ -282,26 +283,26 @@ module _ (p : Program) (n m masked : Nest) (masks : ℕ) (is : IsProgram77 fortr
 
     pub are_three : AreWith p.declarations three with_three
     are_three =
-        with_made_names p.declarations three (own_are p n m masked masks is among normal made few) (each_member IsMadeDeclaration three each_made) alone
-        (λ d e c i same. (each_made e i).made (subst IsSourceName same (own_source p n m masked masks is among normal made few d c)))
+        with_made_names p.declarations three (own_are width p n m masked masks is among normal made few) (each_member IsMadeDeclaration three each_made) alone
+        (λ d e c i same. (each_made e i).made (subst IsSourceName same (own_source width p n m masked masks is among normal made few d c)))
 
-    pub names_there : AreNamesDeclared (with_declarations p.declarations (both p n m masked masks is among normal made few ++ map as_scalar_made (names_made (substituted m masked)))) (substituted m masked)
+    pub names_there : AreNamesDeclared (with_declarations p.declarations (both width p n m masked masks is among normal made few ++ map as_scalar_made (names_made (substituted m masked)))) (substituted m masked)
     names_there x i =
-        let c = Contains-append_right (both p n m masked masks is among normal made few) ranges (as_scalar_made x) (in_map as_scalar_made (names_made sub) x (In-Contains x (names_made sub) i)) in
+        let c = Contains-append_right (both width p n m masked masks is among normal made few) ranges (as_scalar_made x) (in_map as_scalar_made (names_made sub) x (In-Contains x (names_made sub) i)) in
         subst (λ (o : Option Declaration). IsSomeAnd o (λ (d : Declaration). (d.kind ≡ x.kind) × (d.extent ≡ Given []))) (sym (are_three.declared (as_scalar_made x) c)) (refl, refl)
 
-    pub counted_there : All (λ (l : Loop). IsSomeAnd (declared (with_declarations p.declarations (both p n m masked masks is among normal made few ++ map as_scalar_made (names_made (substituted m masked)))) l.variable) IsCounter) (nest_loops m)
+    pub counted_there : All (λ (l : Loop). IsSomeAnd (declared (with_declarations p.declarations (both width p n m masked masks is among normal made few ++ map as_scalar_made (names_made (substituted m masked)))) l.variable) IsCounter) (nest_loops m)
     counted_there =
         each_member (λ (l : Loop). IsSomeAnd (declared with_three l.variable) IsCounter) (nest_loops m)
-        (λ l c. counts p n m masked masks is among normal made few with_three l
-        (are_three.declared (counter_of l) (Contains-append_left (both p n m masked masks is among normal made few) ranges (counter_of l)
-        (Contains-append_left (counters p n m masked masks is among normal made few) (masks_below masked.masks) (counter_of l) (counter_in p n m masked masks is among normal made few l c)))))
+        (λ l c. counts width p n m masked masks is among normal made few with_three l
+        (are_three.declared (counter_of l) (Contains-append_left (both width p n m masked masks is among normal made few) ranges (counter_of l)
+        (Contains-append_left (counters width p n m masked masks is among normal made few) (masks_below masked.masks) (counter_of l) (counter_in width p n m masked masks is among normal made few l c)))))
 
     pub marks_there : (i : ℕ) → i < masked.masks
-        → IsSomeAnd (declared (with_declarations p.declarations (both p n m masked masks is among normal made few ++ map as_scalar_made (names_made (substituted m masked)))) (mask_name i)) IsMask
+        → IsSomeAnd (declared (with_declarations p.declarations (both width p n m masked masks is among normal made few ++ map as_scalar_made (names_made (substituted m masked)))) (mask_name i)) IsMask
     marks_there i l =
         let d = scalar_of Logical (mask_name i) in
         subst (λ (o : Option Declaration). IsSomeAnd o IsMask)
-        (sym (are_three.declared d (Contains-append_left (both p n m masked masks is among normal made few) ranges d
-        (Contains-append_right (counters p n m masked masks is among normal made few) (masks_below masked.masks) d (mask_below masked.masks i l)))))
+        (sym (are_three.declared d (Contains-append_left (both width p n m masked masks is among normal made few) ranges d
+        (Contains-append_right (counters width p n m masked masks is among normal made few) (masks_below masked.masks) d (mask_below masked.masks i l)))))
         (record { kind = refl; extent = refl })

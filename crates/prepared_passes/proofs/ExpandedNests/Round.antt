@@ -27,8 +27,8 @@ use Rattle.tree.specs.Plain.{Declaration, Expression, Extent, Given, Later}
 use Rattle.tree.specs.declared.ops.Kind.{Kind}
 use Rattle.scalar_expand.specs.Expanded.{array_of}
 use Rattle.scalar_expand.specs.Extents.{extent_under, extents_under}
-use Rattle.scalar_expand.specs.Privates.{declared_kind, kind_if_scalar, kind_of_scalar, made_kind, private_among, private_scalars, round_loop, trips_of}
-use Rattle.scalar_expand.specs.Texts.{extent_text, extent_texts, texts_with}
+use Rattle.scalar_expand.specs.Privates.{declared_kind, kind_if_bare, kind_of_scalar, made_kind, private_among, private_scalars, round_loop, trips_of}
+use Rattle.scalar_expand.specs.Texts.{made_extent_text, extent_texts, texts_with}
 use Rattle.scalar_expand.specs.declared.privates.Private.{Private}
 use Rattle.scalar_expand.specs.declared.privates.RoundLoop.{RoundLoop}
 use Rattle.scalar_expand.proofs.Changes.{array_in}
@@ -82,8 +82,8 @@ as_many_extents n ts (t ∷ us) es e = by (extent_under n ts t) e (λ x f. as_ma
 pub as_many_texts : (symbols : List (List ℕ)) (texts : List Expression) (ts : List Trip) → length (texts_with symbols texts ts) ≡ length texts + length ts
 as_many_texts symbols texts [] = omega arith
 as_many_texts symbols texts (t ∷ ts) =
-    let a = as_many_texts symbols (texts ++ extent_text symbols texts t ∷ []) ts in
-    let b = length-append texts (extent_text symbols texts t ∷ []) in
+    let a = as_many_texts symbols (texts ++ made_extent_text symbols texts t ∷ []) ts in
+    let b = length-append texts (made_extent_text symbols texts t ∷ []) in
     omega (arith, a, b)
 
 rank_is : (es : List Expression) → rank_of_extent (extent_for es) ≡ length es
@@ -127,14 +127,14 @@ pub made_kind_is : (as' : List Made) (x : List ℕ) (k : Kind) → made_kind as'
 made_kind_is [] x k e = cc
 made_kind_is (a ∷ as') x k e = by (bytes_eq a.name x) refl e (λ f. made_kind_is as' x k f)
   where
-    none : (es : List Expression) → kind_if_scalar es a.kind ≡ Some k → (a.kind ≡ k) × (es ≡ [])
+    none : (es : List Expression) → kind_if_bare es a.kind ≡ Some k → (a.kind ≡ k) × (es ≡ [])
     none [] f = (same a.kind k f, refl)
       where
         same : (a b : Kind) → Some a ≡ Some b → a ≡ b
         same a b e = cc
     none (y ∷ es) f = cc
 
-    by : (b : Bool) → bytes_eq a.name x ≡ b → cond b (kind_if_scalar a.extents a.kind) (made_kind as' x) ≡ Some k → (made_kind as' x ≡ Some k → IsMadeOfKind as' x k) → IsMadeOfKind (a ∷ as') x k
+    by : (b : Bool) → bytes_eq a.name x ≡ b → cond b (kind_if_bare a.extents a.kind) (made_kind as' x) ≡ Some k → (made_kind as' x ≡ Some k → IsMadeOfKind as' x k) → IsMadeOfKind (a ∷ as') x k
     by true h f r = let s = none a.extents f in record { made = a; inside = inl refl; name = (bytes_eq-Decides a.name x).0 h; kind = s.0; scalar = s.1 }
     by false h f r = let m = r f in record { made = m.made; inside = inr m.inside; name = m.name; kind = m.kind; scalar = m.scalar }
 

@@ -9,8 +9,8 @@ use Rattle.normal_loops.specs.Normal.{is_normal}
 use Rattle.normal_loops.specs.Normalised.{normalised, only_one, with_body, with_loops}
 use Rattle.pass_laws.proofs.NormalMeaning.Made as texts
 use Rattle.nest.specs.declared.parts.Trip.{Trip}
-use Rattle.statement_passes.specs.Shifted.{with_symbol, with_symbols}
-use Rattle.inductions.specs.Found.{inductions_by, outermost}
+use Rattle.statement_passes.specs.Shifted.{with_nest_symbol, with_nest_symbols}
+use Rattle.inductions.specs.Found.{inductions_by, outermost_trip}
 use Rattle.inductions.specs.Nests.{induction_names, inductions_substituted, substituted_by, with_inductions}
 use Rattle.inductions.specs.declared.found.Induction.{Induction}
 use Rattle.scalar_rename.specs.Ranges.{webs_of}
@@ -51,9 +51,9 @@ module _ (n m : Nest) where
 
 -- ---- masks
 
-symbols_masks : (n : Nest) (xs : List (List ℕ)) → (with_symbols n xs).masks ≡ n.masks
+symbols_masks : (n : Nest) (xs : List (List ℕ)) → (with_nest_symbols n xs).masks ≡ n.masks
 symbols_masks n [] = refl
-symbols_masks n (x ∷ xs) = symbols_masks (with_symbol n x) xs
+symbols_masks n (x ∷ xs) = symbols_masks (with_nest_symbol n x) xs
 
 with_masks : (n : Nest) (o : List ℕ × Trip) (ds : List Induction) → (with_inductions n o ds).masks ≡ n.masks
 with_masks n o [] = refl
@@ -65,7 +65,7 @@ by_masks n (Some o) = with_masks n o (inductions_by n (Some o))
 
 substituted_masks : (n : Nest) → (inductions_substituted n).masks ≡ n.masks
 unfolding inductions_substituted
-substituted_masks n = by_masks n (outermost n.body)
+substituted_masks n = by_masks n (outermost_trip n.body)
 
 named_masks : (n : Nest) (ws : List Web) → (with_names n ws).masks ≡ n.masks
 named_masks n [] = refl

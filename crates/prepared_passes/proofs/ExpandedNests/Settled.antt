@@ -11,6 +11,7 @@ use Rattle.linear_forms.specs.Expressed.{expressed, variables}
 use Rattle.linear_forms.specs.Linear.{Form, as_constant, constant_of, constant_or, form_of, form_of_pair, form_of_sign, known, limited}
 use Rattle.linear_forms.specs.Linear.{linear, no_store, unit, with_no_constant, with_zero}
 use Rattle.meaning.specs.Dialect.{fortran77}
+use Rattle.tree.specs.declared.width.Width.TheVariants.{Plain}
 use Rattle.meaning.specs.Reads.{names_in, names_in_each, names_in_subscript, names_in_subscripts}
 use Rattle.meaning.specs.Store.{cell_at}
 use Rattle.meaning.specs.Value.{subscript_values, value_of, values_of}
@@ -29,42 +30,43 @@ use Rattle.tree.specs.declared.ops.Fault.{Fault}
 use Rattle.tree.specs.declared.ops.Op.{Op}
 use Rattle.tree.specs.declared.ops.Op.TheVariants.{Add, And, Div, Eq, Eqv, Ge, Gt, Le, Lt, Mul, Ne, Neg, Neqv, Not, Or, Pow, Sub}
 use Rattle.tree.specs.declared.ops.Value.{Value}
-use Rattle.scalar_expand.specs.Expanded.{as_expression, element, element_or, expanding, named_private, variable}
+use Rattle.scalar_expand.specs.Expanded.{as_expression, element, element_or, expanding, named_private, loop_subscript}
 use Rattle.scalar_expand.specs.declared.privates.Private.{Private}
 use Rattle.prepared_passes.proofs.ExpandedNests.Elements.{each_subscript, either_in}
+use Rattle.tree.specs.Widths.{bits_of}
 
 -- ---- what has a value though no name has a cell has no names
 
 mutual
-  no_names : (e : Expression) (v : Value) (z : List ℕ) → value_of fortran77 e no_store ≡ Ok v → In z (names_in e) → ⊥
+  no_names : (e : Expression) (v : Value) (z : List ℕ) → value_of (fortran77 Plain) e no_store ≡ Ok v → In z (names_in e) → ⊥
   no_names (Number n) v z h i = i
   no_names (Logic b) v z h i = i
   no_names (Named x ps) v z h i =
-      let p = parted (subscript_values fortran77 ps no_store) (λ is. do c ← cell_at x is no_store; Ok (no_store.held c)) v h in
+      let p = parted (subscript_values (fortran77 Plain) ps no_store) (λ is. do c ← cell_at x is no_store; Ok (no_store.held c)) v h in
       let e = p.second in cc
-  no_names (Unary o a) v z h i = let p = parted (value_of fortran77 a no_store) (λ x. apply o x x) v h in no_names a p.part z p.first i
+  no_names (Unary o a) v z h i = let p = parted (value_of (fortran77 Plain) a no_store) (λ x. apply o x x) v h in no_names a p.part z p.first i
   no_names (Binary o a b) v z h i =
-      let p = parted (value_of fortran77 a no_store) (λ x. do y ← value_of fortran77 b no_store; apply o x y) v h in
-      let q = parted (value_of fortran77 b no_store) (λ y. apply o p.part y) v p.second in
+      let p = parted (value_of (fortran77 Plain) a no_store) (λ x. do y ← value_of (fortran77 Plain) b no_store; apply o x y) v h in
+      let q = parted (value_of (fortran77 Plain) b no_store) (λ y. apply o p.part y) v p.second in
       either_in z (names_in a) (names_in b) ⊥ (λ j. no_names a p.part z p.first j) (λ j. no_names b q.part z q.first j) i
-  no_names (Apply f es) v z h i = let p = parted (values_of fortran77 es no_store) (λ xs. call f xs) v h in no_names_each es p.part z p.first i
+  no_names (Apply f es) v z h i = let p = parted (values_of (fortran77 Plain) es no_store) (λ xs. call f xs) v h in no_names_each es p.part z p.first i
   no_names (Constructor es ls) v z h i = cc
   no_names (Spread a k b) v z h i = cc
   no_names (Transpose a) v z h i = cc
   no_names (Reshape a es) v z h i = cc
   no_names (Reduce r a) v z h i = cc
 
-  no_names_each : (es : Expressions) (vs : List Value) (z : List ℕ) → values_of fortran77 es no_store ≡ Ok vs → In z (names_in_each es) → ⊥
+  no_names_each : (es : Expressions) (vs : List Value) (z : List ℕ) → values_of (fortran77 Plain) es no_store ≡ Ok vs → In z (names_in_each es) → ⊥
   no_names_each no_expressions vs z h i = i
   no_names_each (expression e es) vs z h i =
-      let p = parted (value_of fortran77 e no_store) (λ x. do xs ← values_of fortran77 es no_store; Ok (x ∷ xs)) vs h in
-      let q = parted (values_of fortran77 es no_store) (λ xs. Ok (p.part ∷ xs)) vs p.second in
+      let p = parted (value_of (fortran77 Plain) e no_store) (λ x. do xs ← values_of (fortran77 Plain) es no_store; Ok (x ∷ xs)) vs h in
+      let q = parted (values_of (fortran77 Plain) es no_store) (λ xs. Ok (p.part ∷ xs)) vs p.second in
       either_in z (names_in e) (names_in_each es) ⊥ (λ j. no_names e p.part z p.first j) (λ j. no_names_each es q.part z q.first j) i
 
 no_constant : (e : Expression) (z : List ℕ) → In z (names_in e) → constant_of e ≡ None
-no_constant e z i = by (value_of fortran77 e no_store) refl
+no_constant e z i = by (value_of (fortran77 Plain) e no_store) refl
   where
-    by : (r : Result Value Fault) → value_of fortran77 e no_store ≡ r → as_constant (known r) ≡ None
+    by : (r : Result Value Fault) → value_of (fortran77 Plain) e no_store ≡ r → as_constant (known r) ≡ None
     by (Ok v) h = absurd (no_names e v z h i)
     by (Err f) h = refl
 
@@ -248,20 +250,20 @@ module _ (loops symbols : List (List ℕ)) where
 
     -- ---- elements
 
-    vars_plain : (p : Private) → ArePlain (subscripts (reverse (map variable p.loops)))
-    vars_plain p = each_subscript variable (λ qs. ArePlain (subscripts qs)) p.loops tt (λ l i qs h. (tt, h))
+    vars_plain : (p : Private) → ArePlain (subscripts (reverse (map loop_subscript p.loops)))
+    vars_plain p = each_subscript loop_subscript (λ qs. ArePlain (subscripts qs)) p.loops tt (λ l i qs h. (tt, h))
 
     pub element_plain : (p : Private) → IsPlain (as_expression (element p))
     element_plain p = vars_plain p
 
     pub subscripts_settled : (p : Private) → settled_subscripts (element p).subscripts ≡ (element p).subscripts
     subscripts_settled p =
-        each_subscript variable (λ qs. settled_subscripts (subscripts qs) ≡ subscripts qs) p.loops refl
-        (λ l i qs h. ap₂ subscript (ap Only (name-node 31 loops symbols (Named l.variable no_subscripts) l.variable no_subscripts)) h)
+        each_subscript loop_subscript (λ qs. settled_subscripts (subscripts qs) ≡ subscripts qs) p.loops refl
+        (λ l i qs h. ap₂ subscript (ap Only (name-node (bits_of Plain) loops symbols (Named l.variable no_subscripts) l.variable no_subscripts)) h)
 
     pub element_settled : (p : Private) → settled (as_expression (element p)) ≡ as_expression (element p)
     element_settled p =
-        name-node 31 loops symbols (as_expression (element p)) p.array (settled_subscripts (element p).subscripts)
+        name-node (bits_of Plain) loops symbols (as_expression (element p)) p.array (settled_subscripts (element p).subscripts)
         ∙ ap (Named p.array) (subscripts_settled p)
 
     mutual
@@ -359,13 +361,13 @@ module _ (loops symbols : List (List ℕ)) where
       keeps (Named x no_subscripts) p h = by (named_private ps x)
         where
           by : (o : Option Private) → settled (as_expression (element_or o (record { name = x; subscripts = no_subscripts }))) ≡ as_expression (element_or o (record { name = x; subscripts = no_subscripts }))
-          by None = name-node 31 loops symbols (Named x no_subscripts) x no_subscripts
+          by None = name-node (bits_of Plain) loops symbols (Named x no_subscripts) x no_subscripts
           by (Some q) = element_settled q
       keeps (Named x (subscript q qs)) p h =
           let was : Named x (settled_subscripts (subscript q qs)) ≡ Named x (subscript q qs) =
-          sym (name-node 31 loops symbols (Named x (subscript q qs)) x (settled_subscripts (subscript q qs))) ∙ h in
+          sym (name-node (bits_of Plain) loops symbols (Named x (subscript q qs)) x (settled_subscripts (subscript q qs))) ∙ h in
           let inner : settled_subscripts (subscript q qs) ≡ subscript q qs = cc in
-          name-node 31 loops symbols (Named x (expand_subscripts (subscript q qs))) x (settled_subscripts (expand_subscripts (subscript q qs)))
+          name-node (bits_of Plain) loops symbols (Named x (expand_subscripts (subscript q qs))) x (settled_subscripts (expand_subscripts (subscript q qs)))
           ∙ ap (Named x) (keeps_in (subscript q qs) p inner)
       keeps (Unary o a) p h = by (decide (names_in (Unary o a))) (λ e. keeps a p e)
         where

@@ -22,13 +22,13 @@ use Rattle.last_values.specs.normal_forms.Combinations.{combination, number_form
 use Rattle.last_values.specs.normal_forms.Steps.{◌>>=◌}
 use Rattle.last_values.specs.normal_forms.NormalLoops.{has_no_loops, is_constant, is_zero, trip_of}
 use Rattle.last_values.specs.normal_forms.Numbers.{number_of_form}
-use Rattle.last_values.specs.normal_forms.Texts.{quotient}
+use Rattle.last_values.specs.normal_forms.Texts.{quotient_text}
 use Rattle.pass_laws.proofs.LastRuns.Forms.{At, IsKnownForm, number_size, quotient_value, sum_known, text_number, trip_known}
 use Rattle.pass_laws.proofs.LastRuns.Pieces.{none_yet}
 use Rattle.scalar_expand.specs.Extents.{extent_under, extents_under, greatest_from}
 use Rattle.scalar_expand.specs.Numbers.{at_loops, number_under, numbers_under}
 use Rattle.scalar_expand.specs.Privates.{names_written, private_among, round_loop, trips_of}
-use Rattle.scalar_expand.specs.Texts.{extent_text, form_text, texts_with, with_each_symbol, with_named}
+use Rattle.scalar_expand.specs.Texts.{made_extent_text, extent_form_text, texts_with, with_each_symbol, with_named}
 use Rattle.scalar_expand.proofs.Covers.{extents_found}
 use Rattle.scalar_expand.proofs.PrivateLaws.{first_begins, has_first}
 use Rattle.scalar_expand.proofs.Theorems.{in_privates}
@@ -55,7 +55,7 @@ each_symbol symbols [] o = refl
 each_symbol symbols (t ∷ ts) o =
     ap (λ (q : Option Expression). with_each_symbol symbols q ts) (one_symbol o t.1 symbols t.0) ∙ each_symbol symbols ts (with_place o t.1 (slice_get (variables symbols ++ []) t.0))
 
-form_is_text : (symbols : List (List ℕ)) (texts : List Expression) (a : Affine) → has_no_loops a ≡ true → form_text symbols texts a ≡ text_of [] symbols [] a
+form_is_text : (symbols : List (List ℕ)) (texts : List Expression) (a : Affine) → has_no_loops a ≡ true → extent_form_text symbols texts a ≡ text_of [] symbols [] a
 form_is_text symbols texts a h =
     ap (λ (o : Option Expression). with_constant o a.constant)
     (zero_terms a.loops texts (with_each_symbol symbols None a.syms) h
@@ -123,9 +123,9 @@ module _ (lang : Dialect) (symbols : List (List ℕ)) (values : ℕ → ℤ) (u 
   each_last (x ∷ es) [] e z h k = absurd h
   each_last (x ∷ es) (y ∷ zs) e z h k = (h.0, each_last es zs e z h.1 k)
 
-  one_value : (texts : List Expression) (zs : List ℤ) (t : Trip) → IsKnown (length symbols) t → has_no_loops t.top ≡ true → value_of lang (extent_text symbols texts t) u ≡ Ok (Int (number_under (length symbols) values zs t))
+  one_value : (texts : List Expression) (zs : List ℤ) (t : Trip) → IsKnown (length symbols) t → has_no_loops t.top ≡ true → value_of lang (made_extent_text symbols texts t) u ≡ Ok (Int (number_under (length symbols) values zs t))
   one_value texts zs t k none =
-      ap₂ (λ (e : Expression) (b : ℤ). value_of lang (quotient e b) u) (form_is_text symbols texts t.top none) k.by
+      ap₂ (λ (e : Expression) (b : ℤ). value_of lang (quotient_text e b) u) (form_is_text symbols texts t.top none) k.by
       ∙ (quotient_value lang (text_of [] symbols [] t.top) u (number_of_form (length symbols) none_yet (At (facts.values_from values 0 symbols ++ [])) t.top) k.divisor k.some
       (text_number lang symbols [] (length symbols) t.top k.form u (facts.values_from values 0 symbols) [] have tt sized tt)
       (number_size (length symbols) t.top k.form (facts.values_from values 0 symbols ++ []) (subst AreSized (sym (append-nil (facts.values_from values 0 symbols))) sized))
@@ -136,7 +136,7 @@ module _ (lang : Dialect) (symbols : List (List ℕ)) (values : ℕ → ℤ) (u 
   all_values [] texts zs k none h = h
   all_values (t ∷ ts) texts zs k none h =
       let p = both (has_no_loops t.top) (list_all (λ (t : Trip). has_no_loops t.top) ts) none in
-      all_values ts (texts ++ extent_text symbols texts t ∷ []) (zs ++ number_under (length symbols) values zs t ∷ []) k.1 p.1 (each_last texts zs (extent_text symbols texts t) (number_under (length symbols) values zs t) h (one_value texts zs t k.0 p.0))
+      all_values ts (texts ++ made_extent_text symbols texts t ∷ []) (zs ++ number_under (length symbols) values zs t ∷ []) k.1 p.1 (each_last texts zs (made_extent_text symbols texts t) (number_under (length symbols) values zs t) h (one_value texts zs t k.0 p.0))
 
 pub extent_texts_have_numbers : ExtentTextsHaveNumbers
 extent_texts_have_numbers lang m values u p distinct sized hold i alone =

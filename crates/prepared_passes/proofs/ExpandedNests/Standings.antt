@@ -12,7 +12,7 @@ use Rattle.pass_laws.proofs.NormalFacts.Tables.{loop_there}
 use Rattle.rewrite.specs.Making.{Making}
 use Rattle.scalar_expand.proofs.PrivateLaws.{First, Stands, first_begins, further_stays, has_first, in_middle, numbers_round}
 use Rattle.scalar_expand.proofs.Theorems.{in_privates}
-use Rattle.scalar_expand.specs.Expanded.{copied, copies_in, expanded, expanded_part, expanded_parts, expanding, is_copied_in, with_arrays}
+use Rattle.scalar_expand.specs.Expanded.{copied, copies_in, expanded, expanded_part, expanded_parts, expanding, is_copied_in, with_made_arrays}
 use Rattle.scalar_expand.specs.Laws.{own_of}
 use Rattle.scalar_expand.specs.Privates.{names_written, private_among, private_scalars, round_loop}
 use Rattle.scalar_expand.specs.declared.privates.Private.{Private}
@@ -88,7 +88,7 @@ module _ (line : ℕ) (m : Making) (own : List Private) where
         by (inr j) f g = more (statements_in_parts ls qs) (statements_in ls q ++ statements_in_parts ls qs) y (λ x k. In-right x (statements_in ls q) (statements_in_parts ls qs) k) (g j)
 
 pub body_is : (m : Nest) → nest_statements (expanded m) ≡ statements_in [] (expanded_part m.line (expanding (private_scalars m)) (own_of m) m.body)
-unfolding with_arrays with_parts
+unfolding with_made_arrays with_parts
 body_is m = refl
 
 pub statement_made : (m : Nest) → IsPlain m.body → (y : Standing) → In y (nest_statements (expanded m)) → IsMadeOf (expanding (private_scalars m)) (nest_statements m) y

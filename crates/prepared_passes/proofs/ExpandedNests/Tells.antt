@@ -21,10 +21,10 @@ use Rattle.subscripts.specs.declared.affine.Affine.{Affine}
 use Rattle.tree.specs.Plain.{Declaration, Expression}
 use Rattle.tree.specs.declared.ops.Value.TheVariants.{Int}
 use Rattle.last_values.specs.declared.normal_forms.places.Place.TheVariants as place
-use Rattle.last_values.specs.normal_forms.Combinations.{at, coefficient_in}
+use Rattle.last_values.specs.normal_forms.Combinations.{number_of_place, coefficient_in}
 use Rattle.last_values.specs.normal_forms.NormalLoops.{has_no_loops, is_constant, is_known, is_positive, is_undivided}
 use Rattle.last_values.specs.normal_forms.Numbers.{number_of_form, products, trip_number}
-use Rattle.last_values.specs.normal_forms.Texts.{quotient, trip_text}
+use Rattle.last_values.specs.normal_forms.Texts.{quotient_text, trip_text}
 use Rattle.last_values.proofs.NormalForms.Numbers.{products-alike, products-zero}
 use Rattle.pass_laws.proofs.LastRuns.Forms.{At, IsKnownForm, number_size, quotient_value, text_number}
 use Rattle.pass_laws.proofs.LastRuns.LastNumbers.{known_number}
@@ -84,8 +84,8 @@ low (pos (suc k)) h = omega arith
 low (negsuc k) h = cc
 
 module _ (symbols : List (List ℕ)) (values : ℕ → ℤ) where
-  no_loops : (F : ℕ → ℤ) (a : Affine) → has_no_loops a ≡ true → products 7 0 (λ k. at a (place.Loop k)) F ≡ pos 0
-  no_loops F a h = products-alike 7 0 (λ k. at a (place.Loop k)) (λ k. pos 0) F (λ k m. loops_zero a.loops k h) ∙ products-zero 7 0 F
+  no_loops : (F : ℕ → ℤ) (a : Affine) → has_no_loops a ≡ true → products 7 0 (λ k. number_of_place a (place.Loop k)) F ≡ pos 0
+  no_loops F a h = products-alike 7 0 (λ k. number_of_place a (place.Loop k)) (λ k. pos 0) F (λ k m. loops_zero a.loops k h) ∙ products-zero 7 0 F
 
   pub same_number : (F : ℕ → ℤ) (a : Affine) → has_no_loops a ≡ true
       → number_of_form (length symbols) none_yet (At (facts.values_from values 0 symbols ++ [])) a ≡ number_of_form (length symbols) F values a
@@ -99,7 +99,7 @@ module _ (symbols : List (List ℕ)) (values : ℕ → ℤ) where
         → value_of (sequential bits) (trip_text [] symbols [] t) u ≡ Ok (Int (trip_number (length symbols) F values t))
     unfolding trip_text
     trip_value t d by some k none =
-        ap (λ b. value_of (sequential bits) (quotient (text_of [] symbols [] t.top) b) u) by
+        ap (λ b. value_of (sequential bits) (quotient_text (text_of [] symbols [] t.top) b) u) by
         ∙ (quotient_value (sequential bits) (text_of [] symbols [] t.top) u (number_of_form (length symbols) none_yet (At (facts.values_from values 0 symbols ++ [])) t.top) d (omega (arith, some))
         (text_number (sequential bits) symbols [] (length symbols) t.top k u (facts.values_from values 0 symbols) [] have tt sized tt)
         (number_size (length symbols) t.top k (facts.values_from values 0 symbols ++ []) (subst AreSized (sym (append-nil (facts.values_from values 0 symbols))) sized))

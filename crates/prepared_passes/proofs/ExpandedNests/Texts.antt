@@ -27,7 +27,7 @@ use Rattle.subscripts.specs.Shapes.{IsSmall}
 use Rattle.tree.specs.Plain.{Binary, Declaration, Expression, Number, Unary}
 use Rattle.tree.specs.declared.ops.Op.{Op}
 use Rattle.tree.specs.declared.ops.Op.TheVariants.{Add, Div, Mul, Neg, Sub}
-use Rattle.scalar_expand.specs.Texts.{extent_text, form_text, texts_with, with_each_symbol, with_named}
+use Rattle.scalar_expand.specs.Texts.{made_extent_text, extent_form_text, texts_with, with_each_symbol, with_named}
 
 symbol_in : (symbols : List (List ℕ)) (k : ℕ) (x : List ℕ) → slice_get symbols k ≡ Some x → In x symbols
 symbol_in [] k x e = let no : ⊥ = cc in absurd no
@@ -99,15 +99,15 @@ module _ (P : Expression → Type 0) (number : (z : ℤ) → P (Number z)) (unar
         by None e = h
         by (Some x) e = one_so o t.1 (variable x) h (named x (symbol_in symbols t.0 x e))
 
-    extent_so : (texts : List Expression) (t : Trip) → Each P texts → P (extent_text symbols texts t)
+    extent_so : (texts : List Expression) (t : Trip) → Each P texts → P (made_extent_text symbols texts t)
     extent_so texts t h = by (int_eq t.by (pos 1))
       where
-        form : P (form_text symbols texts t.top)
+        form : P (extent_form_text symbols texts t.top)
         form = constant_so (with_terms (with_each_symbol symbols None t.top.syms) t.top.loops texts) t.top.constant (terms_so (with_each_symbol symbols None t.top.syms) t.top.loops texts (symbols_so None t.top.syms tt) h)
 
-        by : (b : Bool) → P (cond b (form_text symbols texts t.top) (Binary Div (form_text symbols texts t.top) (Number t.by)))
+        by : (b : Bool) → P (cond b (extent_form_text symbols texts t.top) (Binary Div (extent_form_text symbols texts t.top) (Number t.by)))
         by true = form
-        by false = binary Div (form_text symbols texts t.top) (Number t.by) form (number t.by)
+        by false = binary Div (extent_form_text symbols texts t.top) (Number t.by) form (number t.by)
 
 -- ---- kinds and depths
 
@@ -129,9 +129,9 @@ module _ (fs : List Declaration) (symbols : List (List ℕ)) (scalars : Each (Is
       by None e = h
       by (Some x) e = one_is fs o t.1 (variable x) s.0 h (named x (symbol_in symbols t.0 x e))
 
-  extent_number : (texts : List Expression) (t : Trip) → IsSmallTrip t → Each (IsNumber fs) texts → IsNumber fs (extent_text symbols texts t)
+  extent_number : (texts : List Expression) (t : Trip) → IsSmallTrip t → Each (IsNumber fs) texts → IsNumber fs (made_extent_text symbols texts t)
   extent_number texts t s h =
-      quotient_is fs (form_text symbols texts t.top) t.by s.divisor s.by s.small
+      quotient_is fs (extent_form_text symbols texts t.top) t.by s.divisor s.by s.small
       (constant_is fs (with_terms (with_each_symbol symbols None t.top.syms) t.top.loops texts) t.top.constant s.top.constant
       (terms_are fs (with_each_symbol symbols None t.top.syms) t.top.loops texts s.top.loops (symbols_number None t.top.syms s.top.symbols tt) h))
 
@@ -149,14 +149,14 @@ symbols_deep symbols o (t ∷ ts) d k m h =
     by None = weaker o h
     by (Some x) = one_deep o t.1 (variable x) d k m h (omega arith)
 
-extent_deep : (symbols : List (List ℕ)) (texts : List Expression) (t : Trip) (d : ℕ) → IsSized t.top → Each (λ (e : Expression). depth_of e ≤ d) texts → depth_of (extent_text symbols texts t) ≤ d + 36
+extent_deep : (symbols : List (List ℕ)) (texts : List Expression) (t : Trip) (d : ℕ) → IsSized t.top → Each (λ (e : Expression). depth_of e ≤ d) texts → depth_of (made_extent_text symbols texts t) ≤ d + 36
 extent_deep symbols texts t d s h =
     let k : ℕ = (d + 2) + 2 * length t.top.syms in
     let few = s.loops in
     let some = s.symbols in
     let form = constant_deep (with_terms (with_each_symbol symbols None t.top.syms) t.top.loops texts) t.top.constant (k + 2 * length t.top.loops)
     (terms_deep (with_each_symbol symbols None t.top.syms) t.top.loops texts d k (omega arith) (symbols_deep symbols None t.top.syms d (d + 2) (omega arith) tt) h) in
-    let whole = quotient_deep (form_text symbols texts t.top) t.by ((k + 2 * length t.top.loops) + 2) form in
+    let whole = quotient_deep (extent_form_text symbols texts t.top) t.by ((k + 2 * length t.top.loops) + 2) form in
     omega (arith, whole, few, some)
 
 -- ---- all extents of an array
@@ -178,7 +178,7 @@ module _ (fs : List Declaration) (symbols : List (List ℕ)) (scalars : Each (Is
   each_of P Q [] f h = tt
   each_of P Q (x ∷ xs) f h = (f x h.0, each_of P Q xs f h.1)
 
-  one_text : (d : ℕ) (texts : List Expression) (t : Trip) → IsSmallTrip t → Each (IsText d) texts → IsText (d + 36) (extent_text symbols texts t)
+  one_text : (d : ℕ) (texts : List Expression) (t : Trip) → IsSmallTrip t → Each (IsText d) texts → IsText (d + 36) (made_extent_text symbols texts t)
   one_text d texts t s h = record {
     plain = extent_so (λ (e : Expression). IsPlain e) (λ z. tt) (λ o e p. p) (λ o e f p q. (p, q)) symbols (λ x i. tt) texts t (each_of (IsText d) (λ (e : Expression). IsPlain e) texts (λ e p. p.plain) h);
     names = extent_so (λ (e : Expression). (y : List ℕ) → In y (names_in e) → In y symbols) (λ z y i. absurd i) (λ o e p. p) (λ o e f p q y i. either e f p q y (In-append y (names_in e) (names_in f) i)) symbols variable_named texts t
@@ -201,6 +201,6 @@ module _ (fs : List Declaration) (symbols : List (List ℕ)) (scalars : Each (Is
   pub all_texts : (ts : List Trip) (d : ℕ) (texts : List Expression) → AllSmall ts → Each (IsText d) texts → Each (IsText (d + 36 * length ts)) (texts_with symbols texts ts)
   all_texts [] d texts s h = each_of (IsText d) (IsText (d + 36 * 0)) texts (λ e p. deeper d (d + 36 * 0) e (omega arith) p) h
   all_texts (t ∷ ts) d texts s h =
-      subst (λ n. Each (IsText n) (texts_with symbols (texts ++ extent_text symbols texts t ∷ []) ts)) (omega arith)
-      (all_texts ts (d + 36) (texts ++ extent_text symbols texts t ∷ []) s.1
-      (Each-append (IsText (d + 36)) texts (extent_text symbols texts t ∷ []) (each_of (IsText d) (IsText (d + 36)) texts (λ e p. deeper d (d + 36) e (omega arith) p) h) (one_text d texts t s.0 h, tt)))
+      subst (λ n. Each (IsText n) (texts_with symbols (texts ++ made_extent_text symbols texts t ∷ []) ts)) (omega arith)
+      (all_texts ts (d + 36) (texts ++ made_extent_text symbols texts t ∷ []) s.1
+      (Each-append (IsText (d + 36)) texts (made_extent_text symbols texts t ∷ []) (each_of (IsText d) (IsText (d + 36)) texts (λ e p. deeper d (d + 36) e (omega arith) p) h) (one_text d texts t s.0 h, tt)))

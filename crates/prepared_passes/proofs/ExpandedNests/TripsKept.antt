@@ -31,7 +31,7 @@ use Rattle.pass_laws.proofs.PreparedNests.Walks.{walked}
 use Rattle.pass_laws.specs.prepared_nests.Loops.{IsPreparedLoop, IsPreparedTrip, variables_of_loops}
 use Rattle.pass_laws.specs.prepared_nests.Nests.{IsPrepared}
 use Rattle.scalar_expand.specs.Endings.{TellTurns, TextsTell}
-use Rattle.scalar_expand.specs.Expanded.{known_trip}
+use Rattle.scalar_expand.specs.Expanded.{trip_expression}
 use Rattle.scalar_expand.specs.Flow.{Counts, EachLoop, EachLoopIn}
 use Rattle.scalar_expand.specs.Laws.{IsExpandable}
 use Rattle.scalar_expand.specs.Privates.{private_scalars, trip_or_none}
@@ -164,7 +164,7 @@ module _ (m : Nest) (was value : List ℕ → ℤ) (kept : (z : List ℕ) (l : L
   -- ---- texts of trips
 
   told_now : (bits : ℕ) (u : Store) (fixed : (z : List ℕ) → In z m.symbols → (u.bounds z ≡ Some []) × (u.held (cell_of z) ≡ Int (value z))) (ls : List RoundLoop) (is : List ℕ)
-      → ((l : RoundLoop) → In l ls → value_of (sequential bits) (known_trip m.symbols l) u ≡ value_of (sequential bits) (known_trip m.symbols l) (once u))
+      → ((l : RoundLoop) → In l ls → value_of (sequential bits) (trip_expression m.symbols l) u ≡ value_of (sequential bits) (trip_expression m.symbols l) (once u))
       → TellTurns bits m.symbols (once u) ls is → TellTurns bits m.symbols u ls is
   told_now bits u fixed [] [] f h = h
   told_now bits u fixed [] (i ∷ is) f h = h
@@ -179,7 +179,7 @@ module _ (m : Nest) (was value : List ℕ → ℤ) (kept : (z : List ℕ) (l : L
     record IsLast (l : RoundLoop) : Type 0 where
       loop : Loop
       inside : In loop (nest_loops m)
-      text : loop.last ≡ known_trip m.symbols l
+      text : loop.last ≡ trip_expression m.symbols l
 
     last_of : (p : Private) → In p (private_scalars m) → (l : RoundLoop) → In l p.loops → has_no_loops l.trip.top ≡ true → IsLast l
     last_of p i l j none =

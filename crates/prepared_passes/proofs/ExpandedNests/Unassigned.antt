@@ -17,7 +17,7 @@ use Rattle.nest.specs.statement_loops.Names.{is_among}
 use Rattle.nest_order.proofs.orders.Lists.{In-append}
 use Rattle.nest_order.specs.orders.Lists.{In}
 use Rattle.nest_rewrite.specs.Statements.{rewritten_statement}
-use Rattle.normal_loops.specs.Bodies.{normal_branches, normal_part, normal_parts, normal_turns, placed}
+use Rattle.normal_loops.specs.Bodies.{normal_branches, normal_part, normal_parts, normal_turns, placed_loop}
 use Rattle.normal_loops.specs.Counting.{counting}
 use Rattle.normal_loops.specs.Loops.{with_loop}
 use Rattle.normal_loops.specs.Normalised.{normalised, only_one}
@@ -170,7 +170,7 @@ module _ (v : List ℕ) where
           by false true = tt
           by false false = ((((other, tt), tt), tt), tt)
 
-      placed_leaves : (round : List NormalLoop) (r : NormalLoop) (p : Part) → LeavesAlone p → AllLeaveAlone (parts (placed n (loops_in n) round r p))
+      placed_leaves : (round : List NormalLoop) (r : NormalLoop) (p : Part) → LeavesAlone p → AllLeaveAlone (parts (placed_loop n (loops_in n) round r p))
       placed_leaves round r p h = by (stands_behind (length n.symbols) (loops_in n) n.body r.variable) refl
         where
           by : (b : Bool) → stands_behind (length n.symbols) (loops_in n) n.body r.variable ≡ b

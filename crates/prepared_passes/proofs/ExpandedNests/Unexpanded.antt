@@ -12,6 +12,7 @@ use Rattle.if_convert.specs.Converted.{converted_nest}
 use Rattle.if_convert.specs.Masks.{mask_name}
 use Rattle.meaning.specs.Blocks.{Surroundings}
 use Rattle.meaning.specs.Dialect.{fortran77}
+use Rattle.tree.specs.declared.width.Width.{Width}
 use Rattle.meaning.specs.Profile77.{IsProgram77, IsStatement}
 use Rattle.meaning.specs.Reads.{names_in}
 use Rattle.meaning.specs.Run.{State, does_all}
@@ -35,7 +36,7 @@ use Rattle.pass_laws.specs.prepared_nests.Loops.{IsPreparedLoop}
 use Rattle.pass_laws.specs.prepared_nests.Nests.{IsPrepared}
 use Rattle.pass_laws.specs.prepared_runs.Running.{loops_then_after}
 use Rattle.rewrite.specs.Following.{IsSound}
-use Rattle.inductions.specs.Ends.{end_text, ending}
+use Rattle.inductions.specs.Ends.{induction_end_text, induction_ending}
 use Rattle.inductions.specs.Found.{inductions_of}
 use Rattle.inductions.specs.Nests.{induction_names}
 use Rattle.inductions.specs.declared.found.Induction.{Induction}
@@ -74,7 +75,7 @@ among_but_trips ls os e l i =
     let o = In-map without_trip (without_trip l) os (subst (λ (xs : List Loop). In (without_trip l) xs) e (map-In without_trip l ls i)) in
     record { loop = o.it; inside = o.inside; last = ap (λ (x : Loop). x.last) o.is }
 
-module _ (p b : Program) (n m masked k : Nest) (ds : List Declaration) (masks : ℕ) (w : Surroundings) (found_nest : IsFoundNest p n) (is : IsProgram77 fortran77 p)
+module _ (width : Width) (p b : Program) (n m masked k : Nest) (ds : List Declaration) (masks : ℕ) (w : Surroundings) (found_nest : IsFoundNest p n) (is : IsProgram77 (fortran77 width) p)
     (among : Contains (found_in p) (InNest n)) (normal : normalised n ≡ Some m) (made : converted_nest masks m ≡ Some masked) (anew : k ≡ unexpanded m masked)
     (ranges_few : HaveFewRanges (substituted m masked)) (few : masked.masks ≤ 4294967296) (add : AddMadeNames p.declarations ds) (none : (i : ℕ) → declared ds (mask_name i) ≡ None)
     (counters : All (λ (l : Loop). IsSomeAnd (declared ds l.variable) IsCounter) (nest_loops m)) (more : AddMadeNames p.declarations b.declarations)
@@ -91,48 +92,48 @@ module _ (p b : Program) (n m masked k : Nest) (ds : List Declaration) (masks : 
   sub = substituted m masked
 
   h : IsPrepared b.declarations w.variables normal_depth masked
-  h = masked_prepared p n m masked ds b.declarations masks w found_nest is among normal made few add none counters more marks counted number round stated
+  h = masked_prepared width p n m masked ds b.declarations masks w found_nest is among normal made few add none counters more marks counted number round stated
 
   h_anew : IsPrepared b.declarations w.variables (normal_depth + 18) (with_symbols_found m masked)
-  h_anew = anew_prepared p n m masked masks is among normal made few b.declarations more w.variables h
+  h_anew = anew_prepared width p n m masked masks is among normal made few b.declarations more w.variables h
 
   s_anew : IsOfSource b.declarations (with_symbols_found m masked)
-  s_anew = anew_source p n m masked masks is among normal made few b.declarations more
+  s_anew = anew_source width p n m masked masks is among normal made few b.declarations more
 
   prepared : IsPrepared b.declarations w.variables unexpanded_depth k
-  prepared = prepared_by p n m masked k masks is among normal made few anew ranges_few b.declarations more named w.variables h
+  prepared = prepared_by width p n m masked k masks is among normal made few anew ranges_few b.declarations more named w.variables h
 
   may : MayBeExpanded b.declarations k
-  may = may_be_expanded p n m masked k masks is among normal made few anew ranges_few b.declarations more
+  may = may_be_expanded width p n m masked k masks is among normal made few anew ranges_few b.declarations more
 
   -- ---- symbols and statements
 
   before : (y : List ℕ) → In y (names_assigned (with_symbols_found m masked)) → In y (names_assigned masked)
-  before = assigned_before p n m masked ds b.declarations masks w found_nest is among normal made few add none counters more marks counted number round stated
+  before = assigned_before width p n m masked ds b.declarations masks w found_nest is among normal made few add none counters more marks counted number round stated
 
   symbols_are : k.symbols ≡ (substituted m masked).symbols
-  symbols_are = ap (λ (z : Nest). z.symbols) (renamed_from p n m masked k masks is among normal made few anew ranges_few).rest
+  symbols_are = ap (λ (z : Nest). z.symbols) (renamed_from width p n m masked k masks is among normal made few anew ranges_few).rest
 
   symbol_kept : (y : List ℕ) → In y (with_symbols_found m masked).symbols → In y k.symbols
-  symbol_kept y i = subst (λ (ys : List (List ℕ)). In y ys) (sym symbols_are) ((sub_from p n m masked masks is among normal made few).kept y i)
+  symbol_kept y i = subst (λ (ys : List (List ℕ)). In y ys) (sym symbols_are) ((sub_from width p n m masked masks is among normal made few).kept y i)
 
   symbol_added : (d : Induction) → In d (inductions_of (with_symbols_found m masked)) → In d.name k.symbols
   symbol_added d i =
       subst (λ (ys : List (List ℕ)). In d.name ys) (sym symbols_are)
-      ((sub_from p n m masked masks is among normal made few).added d.name (map-In (λ (d : Induction). d.name) d (inductions_of a) i))
+      ((sub_from width p n m masked masks is among normal made few).added d.name (map-In (λ (d : Induction). d.name) d (inductions_of a) i))
 
-  made_from : IsMadeFrom p n m masked ds b.declarations masks w found_nest is among normal made few add none counters more marks counted number round stated k
+  made_from : IsMadeFrom width p n m masked ds b.declarations masks w found_nest is among normal made few add none counters more marks counted number round stated k
   made_from = record {
-    assigned = λ x i s. given x s ((renamed_from p n m masked k masks is among normal made few anew ranges_few).targets x i);
-    kept = λ y i. symbol_kept y ((same_but_text p n m masked ds b.declarations masks w found_nest is among normal made few add none counters more marks counted number round stated).kept y i);
-    new = λ y i. later y ((sub_from p n m masked masks is among normal made few).new y (subst (λ (ys : List (List ℕ)). In y ys) symbols_are i));
+    assigned = λ x i s. given x s ((renamed_from width p n m masked k masks is among normal made few anew ranges_few).targets x i);
+    kept = λ y i. symbol_kept y ((same_but_text width p n m masked ds b.declarations masks w found_nest is among normal made few add none counters more marks counted number round stated).kept y i);
+    new = λ y i. later y ((sub_from width p n m masked masks is among normal made few).new y (subst (λ (ys : List (List ℕ)). In y ys) symbols_are i));
   }
     where
       given : (x : Standing) → IsSourceName x.statement.left.name
           → IsMadeFor (substituted m masked) x.statement.left.name ⊎ ((y : Standing) × In y (nest_statements (substituted m masked)) × (y.statement.left.name ≡ x.statement.left.name))
           → In x.statement.left.name (names_assigned masked)
-      given x s (inl r) = absurd (range_no_source p n m masked masks is among normal made few r.0 r.1 (subst IsSourceName (sym r.2) s))
-      given x s (inr r) = before x.statement.left.name (subst (λ z. In z (names_assigned a)) r.2 ((sub_from p n m masked masks is among normal made few).assigned r.0 r.1))
+      given x s (inl r) = absurd (range_no_source width p n m masked masks is among normal made few r.0 r.1 (subst IsSourceName (sym r.2) s))
+      given x s (inr r) = before x.statement.left.name (subst (λ z. In z (names_assigned a)) r.2 ((sub_from width p n m masked masks is among normal made few).assigned r.0 r.1))
 
       sooner : (y : List ℕ) → In y masked.symbols ⊎ In y (names_assigned m) → In y masked.symbols ⊎ (In y (names_assigned m) ⊎ In y (names_assigned masked))
       sooner y (inl i) = inl i
@@ -140,16 +141,16 @@ module _ (p b : Program) (n m masked k : Nest) (ds : List Declaration) (masks : 
 
       later : (y : List ℕ) → In y (with_symbols_found m masked).symbols ⊎ In y (induction_names (inductions_of (with_symbols_found m masked)))
           → In y masked.symbols ⊎ (In y (names_assigned m) ⊎ In y (names_assigned masked))
-      later y (inl i) = sooner y ((same_but_text p n m masked ds b.declarations masks w found_nest is among normal made few add none counters more marks counted number round stated).new y i)
+      later y (inl i) = sooner y ((same_but_text width p n m masked ds b.declarations masks w found_nest is among normal made few add none counters more marks counted number round stated).new y i)
       later y (inr i) =
-          let d = named_by es w.variables (normal_depth + 18) a h_anew s_anew y i in
-          inr (inr (subst (λ z. In z (names_assigned masked)) (sym d.2) (before d.0.name (is_written es w.variables (normal_depth + 18) a h_anew s_anew d.0 d.1))))
+          let d = named_by width es w.variables (normal_depth + 18) a h_anew s_anew y i in
+          inr (inr (subst (λ z. In z (names_assigned masked)) (sym d.2) (before d.0.name (is_written width es w.variables (normal_depth + 18) a h_anew s_anew d.0 d.1))))
 
   -- ---- what stands behind the loops
 
   first_free : AreFree (IsOther k) (MayGet k) masked.after
   first_free =
-      free_behind p n m masked ds b.declarations masks w found_nest is among normal made few add none counters more marks counted number round stated k unexpanded_depth prepared may made_from
+      free_behind width p n m masked ds b.declarations masks w found_nest is among normal made few add none counters more marks counted number round stated k unexpanded_depth prepared may made_from
 
   module _ (d : Induction) (i : In d (inductions_of (with_symbols_found m masked))) where
     other : IsOther k d.name
@@ -159,43 +160,43 @@ module _ (p b : Program) (n m masked k : Nest) (ds : List Declaration) (masks : 
     no_counter j =
         let o = In-map (λ (x : Loop). x.variable) d.name (nest_loops k) j in
         let r = each_asked (IsPreparedLoop es k.symbols) (nest_loops k) [] k.body prepared.plain (walked (IsPreparedLoop es k.symbols) [] k.body prepared.parts.loops) o.it o.inside in
-        counter_long d.name o.it.number (source_name es w.variables (normal_depth + 18) a h_anew s_anew d i).within (o.is ∙ r.asked.variable)
+        counter_long d.name o.it.number (source_name width es w.variables (normal_depth + 18) a h_anew s_anew d i).within (o.is ∙ r.asked.variable)
 
     no_trip : (l : Loop) → In l (nest_loops k) → ¬ In d.name (names_in l.last)
     no_trip l j q =
-        let there = subst (λ (ls : List Loop). In l ls) (renamed_from p n m masked k masks is among normal made few anew ranges_few).loops j in
-        let o = among_but_trips (nest_loops sub) (nest_loops a) (sub_from p n m masked masks is among normal made few).loops l there in
-        in_no_trip es w.variables (normal_depth + 18) a h_anew s_anew d i o.loop o.inside (subst (λ e. In d.name (names_in e)) o.last q)
+        let there = subst (λ (ls : List Loop). In l ls) (renamed_from width p n m masked k masks is among normal made few anew ranges_few).loops j in
+        let o = among_but_trips (nest_loops sub) (nest_loops a) (sub_from width p n m masked masks is among normal made few).loops l there in
+        in_no_trip width es w.variables (normal_depth + 18) a h_anew s_anew d i o.loop o.inside (subst (λ e. In d.name (names_in e)) o.last q)
 
-    gets : MayGet k d.name (end_text (with_symbols_found m masked).symbols (sub_trip p n m masked masks is among normal made few) d)
+    gets : MayGet k d.name (induction_end_text (with_symbols_found m masked).symbols (sub_trip width p n m masked masks is among normal made few) d)
     gets = (
       other,
       no_counter,
-      λ there. (no_trip, (end_told k.symbols a.symbols symbol_kept (sub_trip p n m masked masks is among normal made few) d (symbol_added d i)).number),
+      λ there. (no_trip, (end_told k.symbols a.symbols symbol_kept (sub_trip width p n m masked masks is among normal made few) d (symbol_added d i)).number),
     )
 
-    one_free : IsFree (IsOther k) (MayGet k) (ending (with_symbols_found m masked).symbols (with_symbols_found m masked).line (sub_trip p n m masked masks is among normal made few) d)
+    one_free : IsFree (IsOther k) (MayGet k) (induction_ending (with_symbols_found m masked).symbols (with_symbols_found m masked).line (sub_trip width p n m masked masks is among normal made few) d)
     one_free =
-        ending_free k.symbols a.symbols symbol_kept (sub_trip p n m masked masks is among normal made few) d (symbol_added d i) (IsOther k) (MayGet k) a.line
+        ending_free k.symbols a.symbols symbol_kept (sub_trip width p n m masked masks is among normal made few) d (symbol_added d i) (IsOther k) (MayGet k) a.line
         (λ y j. symbol_apart es w.variables unexpanded_depth k prepared may y j) gets
 
   all_free : (xs : List Induction) → ((d : Induction) → In d xs → In d (inductions_of (with_symbols_found m masked)))
-      → AreFree (IsOther k) (MayGet k) (block (map (ending (with_symbols_found m masked).symbols (with_symbols_found m masked).line (sub_trip p n m masked masks is among normal made few)) xs))
+      → AreFree (IsOther k) (MayGet k) (block (map (induction_ending (with_symbols_found m masked).symbols (with_symbols_found m masked).line (sub_trip width p n m masked masks is among normal made few)) xs))
   all_free [] f = tt
   all_free (d ∷ xs) f = (one_free d (f d (inl refl)), all_free xs (λ c j. f c (inr j)))
 
   after_is : k.after ≡ block_then masked.after
-      (block (map (ending (with_symbols_found m masked).symbols (with_symbols_found m masked).line (sub_trip p n m masked masks is among normal made few)) (inductions_of (with_symbols_found m masked))))
+      (block (map (induction_ending (with_symbols_found m masked).symbols (with_symbols_found m masked).line (sub_trip width p n m masked masks is among normal made few)) (inductions_of (with_symbols_found m masked))))
   after_is =
-      ap (λ (z : Nest). z.after) (renamed_from p n m masked k masks is among normal made few anew ranges_few).rest
-      ∙ ((sub_from p n m masked masks is among normal made few).after
-      ∙ ap (λ (c : Block). block_then c (block (map (ending a.symbols a.line (sub_trip p n m masked masks is among normal made few)) (inductions_of a))))
-      (behind_is p n m masked ds b.declarations masks w found_nest is among normal made few add none counters more marks counted number round stated))
+      ap (λ (z : Nest). z.after) (renamed_from width p n m masked k masks is among normal made few anew ranges_few).rest
+      ∙ ((sub_from width p n m masked masks is among normal made few).after
+      ∙ ap (λ (c : Block). block_then c (block (map (induction_ending a.symbols a.line (sub_trip width p n m masked masks is among normal made few)) (inductions_of a))))
+      (behind_is width p n m masked ds b.declarations masks w found_nest is among normal made few add none counters more marks counted number round stated))
 
   free : IsFreeBehind k
   free =
       subst (λ (c : Block). AreFree (IsOther k) (MayGet k) c) (sym after_is)
-      (free_block_then (IsOther k) (MayGet k) masked.after (block (map (ending a.symbols a.line (sub_trip p n m masked masks is among normal made few)) (inductions_of a))) first_free
+      (free_block_then (IsOther k) (MayGet k) masked.after (block (map (induction_ending a.symbols a.line (sub_trip width p n m masked masks is among normal made few)) (inductions_of a))) first_free
       (all_free (inductions_of a) (λ d i. i)))
 
   -- ---- runs
@@ -203,10 +204,10 @@ module _ (p b : Program) (n m masked k : Nest) (ds : List Declaration) (masks : 
   source_names : (x : List ℕ) → Contains (names_of p) x → IsSourceName x
   source_names x c =
       let o = of_map (λ (d : Declaration). d.name) p.declarations x c in
-      subst IsSourceName o.2 (own_source p n m masked masks is among normal made few o.0 o.1)
+      subst IsSourceName o.2 (own_source width p n m masked masks is among normal made few o.0 o.1)
 
   not_made : (x : List ℕ) → Contains (names_of p) x → ¬ IsMadeFor (substituted m masked) x
-  not_made x c r = range_no_source p n m masked masks is among normal made few r.0 r.1 (subst IsSourceName (sym r.2) (source_names x c))
+  not_made x c r = range_no_source width p n m masked masks is among normal made few r.0 r.1 (subst IsSourceName (sym r.2) (source_names x c))
 
   both : (r t u : State) → IsSameButSteps r t → GoOnButNames (substituted m masked) t u → GoOnAlike p r u
   both r t u first second = record {
@@ -225,25 +226,25 @@ module _ (p b : Program) (n m masked k : Nest) (ds : List Declaration) (masks : 
       there : (c : Cell) → Contains (names_of p) c.name → r.store.held c ≡ u.store.held c
       there c i = ap (λ (y : Store). y.held c) (sym same) ∙ sym (second.held c (not_made c.name i))
 
-  goes_on : GoesOnAs p b (with_symbols_found m masked) (unexpanded m masked)
+  goes_on : GoesOnAs width p b (with_symbols_found m masked) (unexpanded m masked)
   goes_on s going holds sized sound =
-      let first = substituted_nest_runs_alike b w.variables (normal_depth + 18) a s h_anew s_anew
-      (found_nest_is_apart_behind p n m masked ds b.declarations masks w found_nest is among normal made few add none counters more marks counted number round stated) going holds sized sound in
-      let way : (does_all fortran77 None (loops_then_after sub) s).way ≡ (does_all fortran77 None (loops_then_after a) s).way = ap (λ (x : State). x.way) first in
-      let second = renamed_nest_goes_on_as_nest b w.variables unexpanded_depth sub s (sub_prepared p n m masked masks is among normal made few b.declarations more w.variables h)
-      (may_rename p n m masked k masks is among normal made few anew ranges_few b.declarations more named) going holds (subst IsSound (sym way) sound) in
-      both (does_all fortran77 None (loops_then_after a) s) (does_all fortran77 None (loops_then_after sub) s) (does_all fortran77 None (loops_then_after (unexpanded m masked)) s) first second
+      let first = substituted_nest_runs_alike width b w.variables (normal_depth + 18) a s h_anew s_anew
+      (found_nest_is_apart_behind width p n m masked ds b.declarations masks w found_nest is among normal made few add none counters more marks counted number round stated) going holds sized sound in
+      let way : (does_all (fortran77 width) None (loops_then_after sub) s).way ≡ (does_all (fortran77 width) None (loops_then_after a) s).way = ap (λ (x : State). x.way) first in
+      let second = renamed_nest_goes_on_as_nest width b w.variables unexpanded_depth sub s (sub_prepared width p n m masked masks is among normal made few b.declarations more w.variables h)
+      (may_rename width p n m masked k masks is among normal made few anew ranges_few b.declarations more named) going holds (subst IsSound (sym way) sound) in
+      both (does_all (fortran77 width) None (loops_then_after a) s) (does_all (fortran77 width) None (loops_then_after sub) s) (does_all (fortran77 width) None (loops_then_after (unexpanded m masked)) s) first second
 
-  pub is_unexpanded : IsUnexpandedIn p b m masked k w.variables
+  pub is_unexpanded : IsUnexpandedIn width p b m masked k w.variables
   is_unexpanded = record {
     prepared = prepared;
     may = may;
     free = free;
-    goes_on = subst (GoesOnAs p b (with_symbols_found m masked)) (sym anew) goes_on;
+    goes_on = subst (GoesOnAs width p b (with_symbols_found m masked)) (sym anew) goes_on;
   }
 
-pub found_nest_is_unexpanded : FoundNestIsUnexpanded
-found_nest_is_unexpanded p b n m masked k ds masks w found_nest is among normal made anew ranges_few few add none counters more marks counted named number round stated =
-    is_unexpanded p b n m masked k ds masks w found_nest is among normal made anew ranges_few (few_before m masked k anew few) add none counters more
+pub found_nest_is_unexpanded : (width : Width) → FoundNestIsUnexpanded width
+found_nest_is_unexpanded width p b n m masked k ds masks w found_nest is among normal made anew ranges_few few add none counters more marks counted named number round stated =
+    is_unexpanded width p b n m masked k ds masks w found_nest is among normal made anew ranges_few (few_before m masked k anew few) add none counters more
     (subst (λ (e : ℕ). (i : ℕ) → masks ≤ i → i < e → IsSomeAnd (declared b.declarations (mask_name i)) IsMask) (masks_unexpanded m masked k anew) marks)
     counted named number round stated

@@ -6,6 +6,7 @@ use Rattle.std.proofs.lemmas.Slice.Eq.{bytes_eq-Decides}
 use Rattle.find_nests.specs.Found.{InNest, found_in}
 use Rattle.if_convert.specs.Converted.{converted_nest}
 use Rattle.meaning.specs.Dialect.{fortran77}
+use Rattle.tree.specs.declared.width.Width.{Width}
 use Rattle.meaning.specs.Profile77.{IsProgram77}
 use Rattle.nest.specs.Bodies.{Standing, nest_statements}
 use Rattle.nest.specs.Plain.{Nest}
@@ -30,21 +31,21 @@ use Rattle.prepared_passes.proofs.ExpandedNests.Sameness.{few_before}
 use Rattle.prepared_passes.specs.expansion.Found.{HasExpandedDeclarations, expanded_depth}
 use Rattle.prepared_passes.specs.expansion.Unexpanded.{UnexpandedNestWritesNoInduction, substituted, unexpanded}
 
-module _ (p : Program) (n m masked k : Nest) (masks : ℕ) (is : IsProgram77 fortran77 p) (among : Contains (found_in p) (InNest n))
+module _ (width : Width) (p : Program) (n m masked k : Nest) (masks : ℕ) (is : IsProgram77 (fortran77 width) p) (among : Contains (found_in p) (InNest n))
     (normal : normalised n ≡ Some m) (made : converted_nest masks m ≡ Some masked) (anew : k ≡ unexpanded m masked)
     (ranges_few : HaveFewRanges (substituted m masked)) (few : k.masks ≤ 2 ^ 32) where
   abbrev xs : List (List ℕ)
   xs = induction_names (inductions_of (with_symbols_found m masked))
 
   has : HasExpandedDeclarations k
-  has = found_nest_has_expanded_declarations p n m masked k masks is among normal made anew ranges_few few
+  has = found_nest_has_expanded_declarations width p n m masked k masks is among normal made anew ranges_few few
 
   is_symbol : (x : List ℕ) → In x (induction_names (inductions_of (with_symbols_found m masked))) → In x (expanded k).symbols
   is_symbol x i =
       let least = few_before m masked k anew few in
-      let from = renamed_from p n m masked k masks is among normal made least anew ranges_few in
+      let from = renamed_from width p n m masked k masks is among normal made least anew ranges_few in
       subst (λ (ys : List (List ℕ)). In x ys) (sym (symbols_are k))
-      (subst (λ (ys : List (List ℕ)). In x ys) (sym (ap (λ (z : Nest). z.symbols) from.rest)) ((sub_from p n m masked masks is among normal made least).added x i))
+      (subst (λ (ys : List (List ℕ)). In x ys) (sym (ap (λ (z : Nest). z.symbols) from.rest)) ((sub_from width p n m masked masks is among normal made least).added x i))
 
   not_given : (x : List ℕ) → In x (induction_names (inductions_of (with_symbols_found m masked))) → (s : Standing) → In s (nest_statements (expanded k)) → bytes_eq s.statement.left.name x ≡ false
   not_given x i s j = by (bytes_eq s.statement.left.name x) refl
@@ -63,6 +64,6 @@ module _ (p : Program) (n m masked k : Nest) (masks : ℕ) (is : IsProgram77 for
       (λ x i. Each-All (λ (s : Standing). bytes_eq s.statement.left.name x ≡ false) (nest_statements (expanded k))
       (each_from (λ (s : Standing). bytes_eq s.statement.left.name x ≡ false) (nest_statements (expanded k)) (λ s j. not_given x i s j))))
 
-pub unexpanded_nest_writes_no_induction : UnexpandedNestWritesNoInduction
-unexpanded_nest_writes_no_induction p n m masked k masks is among normal made anew ranges_few few =
-    unwritten p n m masked k masks is among normal made anew ranges_few few
+pub unexpanded_nest_writes_no_induction : (width : Width) → UnexpandedNestWritesNoInduction width
+unexpanded_nest_writes_no_induction width p n m masked k masks is among normal made anew ranges_few few =
+    unwritten width p n m masked k masks is among normal made anew ranges_few few

@@ -9,11 +9,11 @@ use Rattle.std.proofs.lemmas.Int.{ints}
 use Rattle.std.proofs.lemmas.List.{append-nil}
 use Rattle.std.proofs.Math.IntN.{+ℤ_idl}
 use Rattle.last_values.specs.declared.normal_forms.places.Place.TheVariants as place
-use Rattle.last_values.specs.normal_forms.Combinations.{at, coefficient_in, combination, times, without_loops, zero_loops}
+use Rattle.last_values.specs.normal_forms.Combinations.{number_of_place, coefficient_in, combination, times, without_loops, zero_loops}
 use Rattle.last_values.specs.normal_forms.NormalLoops.{trip_of}
 use Rattle.last_values.specs.normal_forms.Numbers.{number_of_form, products}
 use Rattle.last_values.specs.normal_forms.Steps.{◌>>=◌}
-use Rattle.last_values.specs.normal_forms.Texts.{quotient}
+use Rattle.last_values.specs.normal_forms.Texts.{quotient_text}
 use Rattle.linear_forms.proofs.Sizes.{both}
 use Rattle.linear_forms.specs.Expressed.{with_constant, with_term, with_terms}
 use Rattle.linear_forms.specs.Laws.{AreSized, EachHasValue}
@@ -37,10 +37,10 @@ use Rattle.tree.specs.Plain.{Declaration, Expression}
 use Rattle.tree.specs.declared.ops.Fault.{Fault}
 use Rattle.tree.specs.declared.ops.Value.{Value}
 use Rattle.tree.specs.declared.ops.Value.TheVariants.{Int}
-use Rattle.scalar_expand.specs.Extents.{are_counted, are_few, are_within, extent_form, extent_under, extents_of, extents_under, greatest_from, if_few, size_under, sized, sizes_from, sizes_under}
+use Rattle.scalar_expand.specs.Extents.{are_counted, are_few, sizes_fit, extent_form, extent_under, extents_of_trips, extents_under, greatest_from, if_few, size_under, sized, sizes_from, sizes_under}
 use Rattle.scalar_expand.specs.Numbers.{at_loops, number_under, numbers_under}
 use Rattle.scalar_expand.specs.Privates.{private_scalars, trips_of}
-use Rattle.scalar_expand.specs.Texts.{extent_text, extent_texts, form_text, texts_with, with_each_symbol}
+use Rattle.scalar_expand.specs.Texts.{made_extent_text, extent_texts, extent_form_text, texts_with, with_each_symbol}
 use Rattle.scalar_expand.specs.declared.privates.Private.{Private}
 use Rattle.scalar_expand.specs.declared.privates.RoundLoop.{RoundLoop}
 use Rattle.prepared_passes.specs.expansion.Laws.{MayBeExpanded}
@@ -72,12 +72,12 @@ module _ (symbols : List (List ℕ)) (v : ℕ → ℤ) (small : AreOf64Bits v) w
   -- a form whose number is at most s wherever the outer extents keep their sizes
   module _ (a : Affine) (ss : List ℕ) (s : ℕ) (seven : length a.loops ≤ 7) (fits : s < 2 ^ 127) (most : (F G : ℕ → ℤ) → IsBound F 0 ss → IsSmallValue G → nat_abs (number_of_form n F G a) ≤ s) where
     abbrev P : ℤ
-    P = products n 0 (λ j. at a (place.Symbol j)) v
+    P = products n 0 (λ j. number_of_place a (place.Symbol j)) v
 
-    form_is : (ws : List ℤ) (G : ℕ → ℤ) → number_of_form n (at_loops ws) G a ≡ weighted a.loops ws +ℤ (products n 0 (λ j. at a (place.Symbol j)) G +ℤ a.constant)
-    form_is ws G = ap (λ z. z +ℤ (products n 0 (λ j. at a (place.Symbol j)) G +ℤ a.constant)) (listed 7 0 a.loops ws (λ k. at a (place.Loop k)) (at_loops ws) seven (λ i. zero_front (λ k. at a (place.Loop k)) i) (λ i. zero_front (at_loops ws) i))
+    form_is : (ws : List ℤ) (G : ℕ → ℤ) → number_of_form n (at_loops ws) G a ≡ weighted a.loops ws +ℤ (products n 0 (λ j. number_of_place a (place.Symbol j)) G +ℤ a.constant)
+    form_is ws G = ap (λ z. z +ℤ (products n 0 (λ j. number_of_place a (place.Symbol j)) G +ℤ a.constant)) (listed 7 0 a.loops ws (λ k. number_of_place a (place.Loop k)) (at_loops ws) seven (λ i. zero_front (λ k. number_of_place a (place.Loop k)) i) (λ i. zero_front (at_loops ws) i))
 
-    bounded : (ws : List ℤ) (G : ℕ → ℤ) → AreWithin ws ss → IsSmallValue G → nat_abs (weighted a.loops ws +ℤ (products n 0 (λ j. at a (place.Symbol j)) G +ℤ a.constant)) ≤ s
+    bounded : (ws : List ℤ) (G : ℕ → ℤ) → AreWithin ws ss → IsSmallValue G → nat_abs (weighted a.loops ws +ℤ (products n 0 (λ j. number_of_place a (place.Symbol j)) G +ℤ a.constant)) ≤ s
     bounded ws G h g = subst (λ z. nat_abs z ≤ s) (form_is ws G) (most (at_loops ws) G (bound_listed (at_loops ws) 0 ws ss (λ i. zero_front (at_loops ws) i) h) g)
 
     neg_small : IsSmallValue (λ i. neg_ℤ (v i))
@@ -90,7 +90,7 @@ module _ (symbols : List (List ℕ)) (v : ℕ → ℤ) (small : AreOf64Bits v) w
     sum_most : (ws : List ℤ) → AreWithin ws ss → nat_abs (P +ℤ weighted a.loops ws) ≤ s
     sum_most ws h =
         half (weighted a.loops ws) P a.constant s (bounded ws v h small)
-        (subst (λ z. nat_abs z ≤ s) (ap₂ (λ x y. x +ℤ (y +ℤ a.constant)) (weighted_neg a.loops ws) (products_neg n 0 (λ j. at a (place.Symbol j)) v)) (bounded (map neg_ℤ ws) (λ i. neg_ℤ (v i)) (within_neg ws ss h) neg_small))
+        (subst (λ z. nat_abs z ≤ s) (ap₂ (λ x y. x +ℤ (y +ℤ a.constant)) (weighted_neg a.loops ws) (products_neg n 0 (λ j. number_of_place a (place.Symbol j)) v)) (bounded (map neg_ℤ ws) (λ i. neg_ℤ (v i)) (within_neg ws ss h) neg_small))
 
     none_small : IsSmallValue nothing
     none_small i = omega arith
@@ -100,7 +100,7 @@ module _ (symbols : List (List ℕ)) (v : ℕ → ℤ) (small : AreOf64Bits v) w
         let ones : List ℤ = zeros_of ws ++ z ∷ [] in
         let inside : AreWithin ones ss = within_last ws z ss h in
         let alone : weighted a.loops ones ≡ c *ℤ z = ap (λ ls. weighted ls ones) e ∙ (weighted_last front cs (zeros_of ws) c z (l ∙ sym (zeros_length ws)) ∙ (ap (λ x. x +ℤ c *ℤ z) (weighted_zeros front ws) ∙ +ℤ_idl (c *ℤ z))) in
-        let none = products_nought n 0 (λ j. at a (place.Symbol j)) in
+        let none = products_nought n 0 (λ j. number_of_place a (place.Symbol j)) in
         part (c *ℤ z) a.constant s
         (subst (λ x. nat_abs x ≤ s) (ap₂ (λ x y. x +ℤ (y +ℤ a.constant)) alone none) (bounded ones nothing inside none_small))
         (subst (λ x. nat_abs x ≤ s) (ap₂ (λ x y. x +ℤ (y +ℤ a.constant)) (weighted_neg a.loops ones ∙ ap neg_ℤ alone) none) (bounded (map neg_ℤ ones) nothing (within_neg ones ss inside) none_small))
@@ -167,7 +167,7 @@ module _ (symbols : List (List ℕ)) (v : ℕ → ℤ) (small : AreOf64Bits v) w
           by (Some e) f = sym (ap (λ o. value_of lang (with_constant o (pos 0)) u) f) ∙ value
 
       form_value : HaveValues symbols u (facts.values_from v 0 symbols) → IsKnownForm n a → (texts : List Expression) (zs : List ℤ) → AreWithin zs ss → EachHasValue lang texts u zs
-          → value_of lang (form_text symbols texts a) u ≡ Ok (Int (number_of_form n (at_loops zs) v a))
+          → value_of lang (extent_form_text symbols texts a) u ≡ Ok (Int (number_of_form n (at_loops zs) v a))
       form_value have k texts zs h values =
           let o = with_each_symbol symbols None a.syms in
           let start : Sum lang u o (P +ℤ weighted a.loops []) = subst (Sum lang u o) (sym (none a.loops)) (symbols_sum have k) in
@@ -193,7 +193,7 @@ module _ (symbols : List (List ℕ)) (v : ℕ → ℤ) (small : AreOf64Bits v) w
 
           constant_most_of : nat_abs a.constant ≤ s
           constant_most_of =
-              subst (λ x. nat_abs x ≤ s) (ap₂ (λ x y. x +ℤ (y +ℤ a.constant)) (listed 7 0 a.loops [] (λ k. at a (place.Loop k)) nothing seven (λ i. zero_front (λ k. at a (place.Loop k)) i) (λ i. refl) ∙ weighted_nil a.loops) (products_nought n 0 (λ j. at a (place.Symbol j))) ∙ zeros a.constant)
+              subst (λ x. nat_abs x ≤ s) (ap₂ (λ x y. x +ℤ (y +ℤ a.constant)) (listed 7 0 a.loops [] (λ k. number_of_place a (place.Loop k)) nothing seven (λ i. zero_front (λ k. number_of_place a (place.Loop k)) i) (λ i. refl) ∙ weighted_nil a.loops) (products_nought n 0 (λ j. number_of_place a (place.Symbol j))) ∙ zeros a.constant)
               (most nothing nothing (bound_none 0 ss) none_small)
             where
               weighted_nil : (cs : List ℤ) → weighted cs [] ≡ pos 0
@@ -233,9 +233,9 @@ module _ (symbols : List (List ℕ)) (v : ℕ → ℤ) (small : AreOf64Bits v) w
   values_last lang u (x ∷ texts) [] e z h k = absurd h
   values_last lang u (x ∷ texts) (y ∷ zs) e z h k = (h.0, values_last lang u texts zs e z h.1 k)
 
-  texts_last : (texts : List Expression) (ts : List Trip) (t : Trip) → texts_with symbols texts (ts ++ t ∷ []) ≡ texts_with symbols texts ts ++ extent_text symbols (texts_with symbols texts ts) t ∷ []
+  texts_last : (texts : List Expression) (ts : List Trip) (t : Trip) → texts_with symbols texts (ts ++ t ∷ []) ≡ texts_with symbols texts ts ++ made_extent_text symbols (texts_with symbols texts ts) t ∷ []
   texts_last texts [] t = refl
-  texts_last texts (s ∷ ts) t = texts_last (texts ++ extent_text symbols texts s ∷ []) ts t
+  texts_last texts (s ∷ ts) t = texts_last (texts ++ made_extent_text symbols texts s ∷ []) ts t
 
   numbers_last : (zs : List ℤ) (ts : List Trip) (t : Trip) → numbers_under n v zs (ts ++ t ∷ []) ≡ numbers_under n v zs ts ++ number_under n v (numbers_under n v zs ts) t ∷ []
   numbers_last zs [] t = refl
@@ -248,7 +248,7 @@ module _ (symbols : List (List ℕ)) (v : ℕ → ℤ) (small : AreOf64Bits v) w
   size_fits f s k e =
       let most = number_size n f k (facts.values_from wide 0 symbols ++ []) (subst AreSized (sym (append-nil (facts.values_from wide 0 symbols))) (sized_symbols symbols 0 wide wide_small)) in
       let same : number_of_form n none_yet (At (facts.values_from wide 0 symbols ++ [])) f ≡ pos s =
-      ap (λ q. products 7 0 (λ k. at f (place.Loop k)) none_yet +ℤ (q +ℤ f.constant))
+      ap (λ q. products 7 0 (λ k. number_of_place f (place.Loop k)) none_yet +ℤ (q +ℤ f.constant))
       (products_same n 0 (λ j. coefficient_in f.syms j) (At (facts.values_from wide 0 symbols ++ [])) wide (λ i k. at_symbols symbols 0 wide i (omega (arith, k)) ∙ ap wide (let e : 0 + i ≡ i = omega arith in e))) ∙ e in
       let small_size : nat_abs (pos s) < 2 ^ 127 = subst (λ z. nat_abs z < 2 ^ 127) same most in
       small_size
@@ -310,14 +310,14 @@ module _ (symbols : List (List ℕ)) (v : ℕ → ℤ) (small : AreOf64Bits v) w
       known_t : (a : Affine) → Form a → IsKnownForm n (trip_of a b.by).top
       known_t a f = subst (λ z. IsKnownForm n (trip_of a z).top) (sym d.0.by) (trip_known n a d.0.divisor (sum_known n (greatest_from 0 b.top ts ++ times (pos 1) (without_loops b.top) ∷ []) a f))
 
-      one : (a : Affine) → Form a → (c : Affine) → Size c → (lang : Dialect) (u : Store) → HaveValues symbols u (facts.values_from v 0 symbols) → value_of lang (extent_text symbols texts (trip_of a b.by)) u ≡ Ok (Int (number_under n v zs (trip_of a b.by)))
+      one : (a : Affine) → Form a → (c : Affine) → Size c → (lang : Dialect) (u : Store) → HaveValues symbols u (facts.values_from v 0 symbols) → value_of lang (made_extent_text symbols texts (trip_of a b.by)) u ≡ Ok (Int (number_under n v zs (trip_of a b.by)))
       one a f c k lang u have =
           let t = small_t a f in
           let positive = t.positive in
           let most = inside a f in
           let limit = fits c k in
-          subst (λ z. value_of lang (quotient (form_text symbols texts (trip_of a b.by).top) z) u ≡ Ok (Int (int_div (number_of_form n (at_loops zs) v (trip_of a b.by).top) z))) (sym t.by)
-          (quotient_value lang (form_text symbols texts (trip_of a b.by).top) u (number_of_form n (at_loops zs) v (trip_of a b.by).top) t.divisor (omega (arith, positive))
+          subst (λ z. value_of lang (quotient_text (extent_form_text symbols texts (trip_of a b.by).top) z) u ≡ Ok (Int (int_div (number_of_form n (at_loops zs) v (trip_of a b.by).top) z))) (sym t.by)
+          (quotient_value lang (extent_form_text symbols texts (trip_of a b.by).top) u (number_of_form n (at_loops zs) v (trip_of a b.by).top) t.divisor (omega (arith, positive))
           (form_value (trip_of a b.by).top ss s t.sized.loops limit (top a f) lang u have (known_t a f) texts zs within (values lang u have))
           (omega (arith, most, limit)))
 
@@ -345,17 +345,17 @@ module _ (symbols : List (List ℕ)) (v : ℕ → ℤ) (small : AreOf64Bits v) w
 
       many_next : (a : Affine) → length (texts_with symbols [] (ts ++ trip_of a b.by ∷ [])) ≡ length (numbers_under n v [] (ts ++ trip_of a b.by ∷ []))
       many_next a =
-          let first : length (texts_with symbols [] (ts ++ trip_of a b.by ∷ [])) ≡ length (texts ++ extent_text symbols texts (trip_of a b.by) ∷ []) = ap (λ (es : List Expression). length es) (texts_last [] ts (trip_of a b.by)) in
+          let first : length (texts_with symbols [] (ts ++ trip_of a b.by ∷ [])) ≡ length (texts ++ made_extent_text symbols texts (trip_of a b.by) ∷ []) = ap (λ (es : List Expression). length es) (texts_last [] ts (trip_of a b.by)) in
           let last : length (numbers_under n v [] (ts ++ trip_of a b.by ∷ [])) ≡ length (zs ++ number_under n v zs (trip_of a b.by) ∷ []) = ap (λ (ws : List ℤ). length ws) (numbers_last [] ts (trip_of a b.by)) in
-          let p = length-append texts (extent_text symbols texts (trip_of a b.by) ∷ []) in
+          let p = length-append texts (made_extent_text symbols texts (trip_of a b.by) ∷ []) in
           let q = length-append zs (number_under n v zs (trip_of a b.by) ∷ []) in
           omega (arith, first, last, p, q, many)
 
       values_next : (a : Affine) → Form a → (c : Affine) → Size c → Values (texts_with symbols [] (ts ++ trip_of a b.by ∷ [])) (numbers_under n v [] (ts ++ trip_of a b.by ∷ []))
       values_next a f c k =
           subst (λ es. Values es (numbers_under n v [] (ts ++ trip_of a b.by ∷ []))) (sym (texts_last [] ts (trip_of a b.by)))
-          (subst (λ ws. Values (texts ++ extent_text symbols texts (trip_of a b.by) ∷ []) ws) (sym (numbers_last [] ts (trip_of a b.by)))
-          (λ lang u have. values_last lang u texts zs (extent_text symbols texts (trip_of a b.by)) (number_under n v zs (trip_of a b.by)) (values lang u have) (one a f c k lang u have)))
+          (subst (λ ws. Values (texts ++ made_extent_text symbols texts (trip_of a b.by) ∷ []) ws) (sym (numbers_last [] ts (trip_of a b.by)))
+          (λ lang u have. values_last lang u texts zs (made_extent_text symbols texts (trip_of a b.by)) (number_under n v zs (trip_of a b.by)) (values lang u have) (one a f c k lang u have)))
 
       other : (o : Option Affine) → combination n (sizes_from 0 b.top fs ++ times (pos 1) (sized b.top) ∷ []) ≡ o → sizes_under n fs (b ∷ us) ≡ Some gs
           → ((c : Affine) → combination n (sizes_from 0 b.top fs ++ times (pos 1) (sized b.top) ∷ []) ≡ Some c → sizes_under n (fs ++ c ∷ []) us ≡ Some gs → IsFar fin) → IsFar fin
@@ -379,9 +379,9 @@ record AreKept (n : ℕ) (us es : List Trip) : Type 0 where
   sizes : List Affine
   sizes_are : sizes_under n [] us ≡ Some sizes
 
-kept_of : (n : ℕ) (us es : List Trip) → extents_of n us ≡ Some es → AreKept n us es
-unfolding extents_of
-kept_of n us es e = by (are_counted us && are_within n us) refl e
+kept_of : (n : ℕ) (us es : List Trip) → extents_of_trips n us ≡ Some es → AreKept n us es
+unfolding extents_of_trips
+kept_of n us es e = by (are_counted us && sizes_fit n us) refl e
   where
     chosen : (o : Option (List Trip)) → extents_under n [] us ≡ o → (o >>= if_few) ≡ Some es → extents_under n [] us ≡ Some es
     chosen None f g = cc
@@ -395,9 +395,9 @@ kept_of n us es e = by (are_counted us && are_within n us) refl e
     some None f h = cc
     some (Some gs) f h = (gs, f)
 
-    by : (b : Bool) → (are_counted us && are_within n us) ≡ b → cond b (extents_under n [] us >>= if_few) None ≡ Some es → AreKept n us es
+    by : (b : Bool) → (are_counted us && sizes_fit n us) ≡ b → cond b (extents_under n [] us >>= if_few) None ≡ Some es → AreKept n us es
     by true f g =
-        let c = both (are_counted us) (are_within n us) f in
+        let c = both (are_counted us) (sizes_fit n us) f in
         let d = both (nat_le (length us) array_dimensions) (list_all (λ (t : Trip). int_lt (pos 0) t.by) us) c.0 in
         let w = some (sizes_under n [] us) refl c.1 in
         record { few = leb-true (length us) array_dimensions d.0; extents_are = chosen (extents_under n [] us) refl g; sizes = w.0; sizes_are = w.1 }
@@ -417,7 +417,7 @@ as_number : (lang : Dialect) (e : Expression) (u : Store) (z : ℤ) → value_of
 as_number lang e u z h = ap numbered h
 
 -- the texts of extents have numbers, where the trips are small
-pub texts_have_numbers : (symbols : List (List ℕ)) (us es : List Trip) → extents_of (length symbols) us ≡ Some es → AllSmall us → (v : ℕ → ℤ) → AreOf64Bits v → (e : Expression)
+pub texts_have_numbers : (symbols : List (List ℕ)) (us es : List Trip) → extents_of_trips (length symbols) us ≡ Some es → AllSmall us → (v : ℕ → ℤ) → AreOf64Bits v → (e : Expression)
     → In e (extent_texts symbols es) → (z : ℤ) × HasNumberBy symbols v e z
 texts_have_numbers symbols us es e small v sized a j =
     let kept = kept_of (length symbols) us es e in
@@ -430,5 +430,5 @@ pub extent_has_value : (es : List Declaration) (around : List (List ℕ)) (deepe
     → (v : ℕ → ℤ) → AreOf64Bits v → (e : Expression) → In e (extent_texts m.symbols p.extents) → (z : ℤ) × HasNumberBy m.symbols v e z
 extent_has_value es around deepest m h may p i v sized e j =
     let b = begins es around deepest m h may p i in
-    texts_have_numbers m.symbols (trips_of p.loops) p.extents (ap (λ (ls : List RoundLoop). extents_of (length m.symbols) (trips_of ls)) b.2.loops ∙ b.2.extents)
+    texts_have_numbers m.symbols (trips_of p.loops) p.extents (ap (λ (ls : List RoundLoop). extents_of_trips (length m.symbols) (trips_of ls)) b.2.loops ∙ b.2.extents)
     (trips_small es around deepest m h may p i) v sized e j

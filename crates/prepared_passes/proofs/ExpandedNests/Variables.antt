@@ -12,10 +12,10 @@ use Rattle.linear_forms.specs.CanonicalLaws.{AreDistinct}
 use Rattle.linear_forms.specs.Linear.{Form, all_small, form_of, is_small, limited, not_zero, number_at, unit, weighted, with_no_constant, with_zero}
 use Rattle.meaning.specs.Names.{is_among}
 use Rattle.nest_order.specs.orders.Lists.{In}
-use Rattle.nest_order.specs.runs.Nests.{Nest}
+use Rattle.nest_order.specs.runs.Nests.{RunNest}
 use Rattle.nest_order.specs.runs.Touched.{MayHave, MayHaveEach}
 use Rattle.rewrite.proofs.Replacing.{either_false}
-use Rattle.scalar_expand.specs.Expanded.{variable}
+use Rattle.scalar_expand.specs.Expanded.{loop_subscript}
 use Rattle.scalar_expand.specs.declared.privates.RoundLoop.{RoundLoop}
 use Rattle.tree.specs.Plain.{Named, Subscript, no_subscripts, subscripts}
 use Rattle.prepared_passes.proofs.ExpandedNests.Trips.{apart_from}
@@ -131,27 +131,27 @@ variable_form xs symbols is zs x i few h = of_unit (unit_at xs symbols is zs x i
 
 -- ---- the subscripts of elements
 
-module _ (n : Nest) (v : ℕ → ℤ) (s : ℕ) (is : List ℕ) where
+module _ (n : RunNest) (v : ℕ → ℤ) (s : ℕ) (is : List ℕ) where
   -- the variable x has the number i
   abbrev pub Here : List ℕ → ℕ → Type 0
   Here x i = MayHave n v is (n.linear s (Named x no_subscripts)) (pos i)
 
   each_onto : (ls : List RoundLoop) (js : List ℕ) (ss : List Subscript) (zs : List ℤ) → Pairs Here (map (λ (l : RoundLoop). l.variable) ls) js
-      → MayHaveEach n v s is (subscripts ss) zs → MayHaveEach n v s is (subscripts (reverse_aux (map variable ls) ss)) (reverse_aux (map pos js) zs)
+      → MayHaveEach n v s is (subscripts ss) zs → MayHaveEach n v s is (subscripts (reverse_aux (map loop_subscript ls) ss)) (reverse_aux (map pos js) zs)
   each_onto [] [] ss zs h k = k
   each_onto [] (j ∷ js) ss zs h k = absurd h
   each_onto (l ∷ ls) [] ss zs h k = absurd h
-  each_onto (l ∷ ls) (j ∷ js) ss zs h k = each_onto ls js (variable l ∷ ss) (pos j ∷ zs) h.1 (h.0, k)
+  each_onto (l ∷ ls) (j ∷ js) ss zs h k = each_onto ls js (loop_subscript l ∷ ss) (pos j ∷ zs) h.1 (h.0, k)
 
   pub has_each : (ls : List RoundLoop) (js : List ℕ) → Pairs Here (map (λ (l : RoundLoop). l.variable) ls) js
-      → MayHaveEach n v s is (subscripts (reverse (map variable ls))) (reverse (map pos js))
+      → MayHaveEach n v s is (subscripts (reverse (map loop_subscript ls))) (reverse (map pos js))
   has_each ls js h = each_onto ls js [] [] h tt
 
-linear_onto : (n : Nest) (s : ℕ) (ls : List RoundLoop) (ss : List Subscript) → ((l : RoundLoop) → In l ls → IsSome (n.linear s (Named l.variable no_subscripts)))
-    → AreLinear n s (subscripts ss) → AreLinear n s (subscripts (reverse_aux (map variable ls) ss))
+linear_onto : (n : RunNest) (s : ℕ) (ls : List RoundLoop) (ss : List Subscript) → ((l : RoundLoop) → In l ls → IsSome (n.linear s (Named l.variable no_subscripts)))
+    → AreLinear n s (subscripts ss) → AreLinear n s (subscripts (reverse_aux (map loop_subscript ls) ss))
 linear_onto n s [] ss f h = h
-linear_onto n s (l ∷ ls) ss f h = linear_onto n s ls (variable l ∷ ss) (λ k i. f k (inr i)) (f l (inl refl), h)
+linear_onto n s (l ∷ ls) ss f h = linear_onto n s ls (loop_subscript l ∷ ss) (λ k i. f k (inr i)) (f l (inl refl), h)
 
-pub are_linear : (n : Nest) (s : ℕ) (ls : List RoundLoop) → ((l : RoundLoop) → In l ls → IsSome (n.linear s (Named l.variable no_subscripts)))
-    → AreLinear n s (subscripts (reverse (map variable ls)))
+pub are_linear : (n : RunNest) (s : ℕ) (ls : List RoundLoop) → ((l : RoundLoop) → In l ls → IsSome (n.linear s (Named l.variable no_subscripts)))
+    → AreLinear n s (subscripts (reverse (map loop_subscript ls)))
 are_linear n s ls f = linear_onto n s ls [] f tt

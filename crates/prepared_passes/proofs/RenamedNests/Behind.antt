@@ -58,7 +58,7 @@ module _ (bits : ℕ) (Made : List ℕ → Type 0) where
 
   same_left : (r : P.Reference) → Clear (r.name ∷ names_in_subscripts r.subscripts) → (s u : Store) → AreSame s u → (c : Cell) → cell_named lang r s ≡ Ok c → cell_named lang r u ≡ Ok c
   same_left r h s u a c e =
-      let g : runs.Guarded = record { guard = None; left = r; right = P.Logic true } in
+      let g : runs.GuardedAssignment = record { guard = None; left = r; right = P.Logic true } in
       let one : effect lang g s ≡ Ok (Some (c, Truth true)) = ap (λ (q : Result Cell Fault). do d ← q; cond (is_in_range bits (Truth true)) (Ok (Some (d, Truth true))) (Err Overflow)) e in
       let two : effect lang g u ≡ Ok (Some (c, Truth true)) = effect_alike bits u s g (each_of (Alike bits u s) (r.name ∷ names_in_subscripts r.subscripts) (alike s u a (r.name ∷ names_in_subscripts r.subscripts) h)) ∙ one in
       let p = both_ok (cell_named lang r u) (λ d. cond (is_in_range bits (Truth true)) (Ok (Some (d, Truth true))) (Err Overflow)) (Some (c, Truth true)) two in

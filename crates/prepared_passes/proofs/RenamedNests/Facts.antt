@@ -8,6 +8,7 @@ use Rattle.std.proofs.lemmas.Bool.{leb-true}
 use Rattle.std.proofs.lemmas.Slice.Eq.{bytes_eq-Decides}
 use Rattle.last_values.specs.normal_forms.NormalLoops.{counter_name}
 use Rattle.meaning.specs.Dialect.{fortran77}
+use Rattle.tree.specs.declared.width.Width.{Width}
 use Rattle.meaning.specs.Holding.{HasBounds, HoldsProgram}
 use Rattle.meaning.specs.Store.{Store}
 use Rattle.meaning.specs.Typed.{declared}
@@ -42,6 +43,7 @@ use Rattle.prepared_passes.proofs.RenamedNests.Walks.{Still}
 use Rattle.prepared_passes.proofs.RenamedNests.Webs.{Begins, Found, IsRange, find, made_is, names_of, none_begins, owner_anywhere, range_made, some_begins, source, two, web_is}
 use Rattle.prepared_passes.specs.renaming.Laws.{IsMadeFor}
 use Rattle.prepared_passes.specs.renaming.Renamed.{MayBeRenamed, names_made}
+use Rattle.tree.specs.Widths.{bits_of}
 
 scalar_is : (d : Declaration) (k : Kind) → kind_if_scalar d ≡ Some k → (d.kind ≡ k) × (d.extent ≡ Given [])
 scalar_is d k e = by d.extent refl e
@@ -86,7 +88,7 @@ among_true (y ∷ ys) x (inr i) = by (bytes_eq y x) (among_true ys x i)
     by true f = refl
     by false f = f
 
-module _ (es : List Declaration) (around : List (List ℕ)) (deepest : ℕ) (m : Nest) (h : IsPrepared es around deepest m) (may : MayBeRenamed es m) where
+module _ (width : Width) (es : List Declaration) (around : List (List ℕ)) (deepest : ℕ) (m : Nest) (h : IsPrepared es around deepest m) (may : MayBeRenamed es m) where
   abbrev Made : List ℕ → Type 0
   Made = IsMadeFor m
 
@@ -165,7 +167,7 @@ module _ (es : List Declaration) (around : List (List ℕ)) (deepest : ℕ) (m :
 
   -- ---- stores
 
-  pub bounds_of : (p : Program) (s : Store) → p.declarations ≡ es → HoldsProgram fortran77 p s → (x : List ℕ) → IsSomeAnd (declared es x) (λ (d : Declaration). d.extent ≡ Given []) → s.bounds x ≡ Some []
+  pub bounds_of : (p : Program) (s : Store) → p.declarations ≡ es → HoldsProgram (fortran77 width) p s → (x : List ℕ) → IsSomeAnd (declared es x) (λ (d : Declaration). d.extent ≡ Given []) → s.bounds x ≡ Some []
   bounds_of p s same holds x there = by (declared es x) there (subst (λ ds. IfSome (declared ds x) (λ (d : Declaration). HasBounds d.extent (s.bounds x))) same (holds.bounds x))
     where
       by : (o : Option Declaration) → IsSomeAnd o (λ (d : Declaration). d.extent ≡ Given []) → IfSome o (λ (d : Declaration). HasBounds d.extent (s.bounds x)) → s.bounds x ≡ Some []
@@ -179,7 +181,7 @@ module _ (es : List Declaration) (around : List (List ℕ)) (deepest : ℕ) (m :
       by None g = absurd g
       by (Some d) g = g.1
 
-  pub scalars : (p : Program) (s : Store) → p.declarations ≡ es → HoldsProgram fortran77 p s → (j : ℕ) (x : List ℕ)
+  pub scalars : (p : Program) (s : Store) → p.declarations ≡ es → HoldsProgram (fortran77 width) p s → (j : ℕ) (x : List ℕ)
       → (names_of m j x ≡ x) ⊎ ((s.bounds x ≡ Some []) × (s.bounds (names_of m j x) ≡ Some []))
   scalars p s same holds j x = by (own_or_range j x)
     where
@@ -209,7 +211,7 @@ module _ (es : List Declaration) (around : List (List ℕ)) (deepest : ℕ) (m :
   pub web_short : (w : Web) → In w (webs_of m) → length w.name ≤ 6
   web_short w i = short_of w.name (source m w (web_is m w i))
 
-  pub still_counter : (x : List ℕ) (k : ℕ) → x ≡ counter_name k → Still 31 (names_of m) (IsMadeFor m) once x
+  pub still_counter : (x : List ℕ) (k : ℕ) → x ≡ counter_name k → Still (bits_of width) (names_of m) (IsMadeFor m) once x
   still_counter x k e = (λ j. by j (own_or_range j x), λ made. made_no_counter x made k e)
     where
       by : (j : ℕ) → (names_of m j x ≡ x) ⊎ IsNamed x (names_of m j x) → names_of m j x ≡ x
@@ -241,7 +243,7 @@ module _ (es : List Declaration) (around : List (List ℕ)) (deepest : ℕ) (m :
   pub symbol_source : (x : List ℕ) → In x m.symbols → IsSourceName x
   symbol_source x i = (all_in (IsPreparedSymbol es) m.symbols h.parts.symbols x i).name
 
-  pub still_symbol : (x : List ℕ) → In x m.symbols → Still 31 (names_of m) (IsMadeFor m) once x
+  pub still_symbol : (x : List ℕ) → In x m.symbols → Still (bits_of width) (names_of m) (IsMadeFor m) once x
   still_symbol x i = (λ j. by j (own_or_range j x), λ made. made_long x made (symbol_source x i))
     where
       by : (j : ℕ) → (names_of m j x ≡ x) ⊎ IsNamed x (names_of m j x) → names_of m j x ≡ x

@@ -16,18 +16,19 @@ use Rattle.prepared_passes.proofs.RenamedNests.Facts.{IsNamed, is_made, own_or_r
 use Rattle.prepared_passes.proofs.RenamedNests.Webs.{names_of}
 use Rattle.prepared_passes.specs.renaming.Laws.{IsMadeFor, IsRenamedFrom, RenamedNestKeepsRest}
 use Rattle.prepared_passes.specs.renaming.Renamed.{MayBeRenamed}
+use Rattle.tree.specs.declared.width.Width.TheVariants.{Plain}
 
 module _ (es : List Declaration) (around : List (List ℕ)) (deepest : ℕ) (m : Nest) (h : IsPrepared es around deepest m) (may : MayBeRenamed es m) where
   abbrev IsTarget : Standing → Type 0
   IsTarget x = IsMadeFor m x.statement.left.name ⊎ ((y : Standing) × In y (nest_statements m) × (y.statement.left.name ≡ x.statement.left.name))
 
   one_target : (y : Standing) → In y (nest_statements m) → (k : ℕ) → IsTarget (record { loops = y.loops; statement = renamed_statement (webs_of m) k y.statement })
-  one_target y i k = by (own_or_range es around deepest m h may (k + 1) y.statement.left.name)
+  one_target y i k = by (own_or_range Plain es around deepest m h may (k + 1) y.statement.left.name)
     where
-      by : (names_of m (k + 1) y.statement.left.name ≡ y.statement.left.name) ⊎ IsNamed es around deepest m h may y.statement.left.name (names_of m (k + 1) y.statement.left.name)
+      by : (names_of m (k + 1) y.statement.left.name ≡ y.statement.left.name) ⊎ IsNamed Plain es around deepest m h may y.statement.left.name (names_of m (k + 1) y.statement.left.name)
           → IsTarget (record { loops = y.loops; statement = renamed_statement (webs_of m) k y.statement })
       by (inl e) = inr (y, i, sym e)
-      by (inr q) = inl (is_made es around deepest m h may y.statement.left.name (names_of m (k + 1) y.statement.left.name) q)
+      by (inr q) = inl (is_made Plain es around deepest m h may y.statement.left.name (names_of m (k + 1) y.statement.left.name) q)
 
   all_targets : (xs : List Standing) → ((x : Standing) → In x xs → In x (nest_statements m)) → (k : ℕ) → (x : Standing) → In x (mapped_standings (each_renamed (webs_of m)) k xs) → IsTarget x
   all_targets [] f k x i = absurd i

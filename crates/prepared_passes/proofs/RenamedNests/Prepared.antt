@@ -14,7 +14,7 @@ use Rattle.nest.specs.Plain.{Choice, Guarded, Jump, Label, Loop, Made, Nest, Par
 use Rattle.nest_order.proofs.orders.Lists.{In-append}
 use Rattle.nest_order.proofs.orders.Membership.{In-map, map-In}
 use Rattle.nest_order.specs.orders.Lists.{In}
-use Rattle.nest_steps.specs.Mapped.{count_of, mapped, mapped_in}
+use Rattle.nest_steps.specs.Mapped.{count_of, mapped_parts_of, mapped_in}
 use Rattle.pass_laws.proofs.NormalFacts.Tables.{each_from, each_in}
 use Rattle.pass_laws.proofs.ReadyNests.Lists.{Each-All}
 use Rattle.pass_laws.specs.ready_nests.Distinct.{numbers_of}
@@ -39,6 +39,8 @@ use Rattle.prepared_passes.proofs.RenamedNests.Statements.{Is, statement_is}
 use Rattle.prepared_passes.proofs.RenamedNests.Webs.{made_is, source, web_is}
 use Rattle.prepared_passes.specs.renaming.Laws.{IsMadeFor, RenamedNestIsPrepared}
 use Rattle.prepared_passes.specs.renaming.Renamed.{MayBeRenamed, names_made}
+use Rattle.tree.specs.declared.width.Width.TheVariants.{Plain}
+use Rattle.tree.specs.declared.width.Width.{Width}
 
 -- ---- loops stay where statements become others
 
@@ -52,7 +54,7 @@ module _ (Asked : List Loop → Loop → Type 0) (each : List Loop → ℕ → G
   joined_in ls (x ∷ xs) ys h k = (h.0, joined_in ls xs ys h.1 k)
 
   mutual
-    mapped_has : (ls : List Loop) (k : ℕ) (p : Part) → EachLoop Asked ls p → EachLoopIn Asked ls (parts (mapped each ls k p))
+    mapped_has : (ls : List Loop) (k : ℕ) (p : Part) → EachLoop Asked ls p → EachLoopIn Asked ls (parts (mapped_parts_of each ls k p))
     mapped_has ls k (Run g) h = runs_in ls (each ls k g)
     mapped_has ls k (Turns l ps) h = ((h.0, mapped_in_has (ls ++ l ∷ []) k ps h.1), tt)
     mapped_has ls k (Choice bs ps) h = (h, tt)
@@ -62,7 +64,7 @@ module _ (Asked : List Loop → Loop → Type 0) (each : List Loop → ℕ → G
     mapped_in_has : (ls : List Loop) (k : ℕ) (ps : Parts) → EachLoopIn Asked ls ps → EachLoopIn Asked ls (parts (mapped_in each ls k ps))
     mapped_in_has ls k no_parts h = tt
     mapped_in_has ls k (part p ps) h =
-        joined_in ls (mapped each ls k p) (mapped_in each ls (k + count_of p) ps) (mapped_has ls k p h.0) (mapped_in_has ls (k + count_of p) ps h.1)
+        joined_in ls (mapped_parts_of each ls k p) (mapped_in each ls (k + count_of p) ps) (mapped_has ls k p h.0) (mapped_in_has ls (k + count_of p) ps h.1)
 
   body_has : (p : Part) → IsLoop p → EachLoop Asked [] p → EachLoop Asked [] (mapped_body each p)
   body_has (Turns l ps) loop h = (h.0, mapped_in_has (l ∷ []) 0 ps h.1)
@@ -199,7 +201,7 @@ module _ (m : Nest) where
 
 -- ---- the nest
 
-module _ (es : List Declaration) (around : List (List ℕ)) (deepest : ℕ) (m : Nest) (h : IsPrepared es around deepest m) (may : MayBeRenamed es m) where
+module _ (width : Width) (es : List Declaration) (around : List (List ℕ)) (deepest : ℕ) (m : Nest) (h : IsPrepared es around deepest m) (may : MayBeRenamed es m) where
   all_distinct : Distinct (names (names_made m))
   all_distinct =
       webs_distinct m (webs_of m) (λ w i. (source m w (web_is m w i), may.few w i)) (webs_once m m.declarations (ordered_distinct (map (λ (d : Declaration). d.name) m.declarations) may.ordered))
@@ -208,8 +210,8 @@ module _ (es : List Declaration) (around : List (List ℕ)) (deepest : ℕ) (m :
   entry_prepared a i =
       let r = made_is m.number (webs_of m) a i in
       record {
-        made = made_long es around deepest m h may a.name (a, i, refl);
-        counter = made_no_counter es around deepest m h may a.name (a, i, refl);
+        made = made_long width es around deepest m h may a.name (a, i, refl);
+        counter = made_no_counter width es around deepest m h may a.name (a, i, refl);
         declaration = subst (λ xs. IsSomeAnd (declared es a.name) (λ (d : Declaration). (d.kind ≡ a.kind) × (d.extent ≡ extent_for xs))) (sym (ap (λ (b : Made). b.extents) r.is)) (may.declared a i);
         extents = subst (λ xs. All (IsPreparedExtent es m.symbols deepest) xs) (sym (ap (λ (b : Made). b.extents) r.is)) (All-nil (IsPreparedExtent es m.symbols deepest));
         few = subst (λ (xs : List Expression). length xs ≤ 7) (sym (ap (λ (b : Made). b.extents) r.is)) (omega arith);
@@ -238,13 +240,13 @@ module _ (es : List Declaration) (around : List (List ℕ)) (deepest : ℕ) (m :
         (In-Contains x (names (names_made m)) (subst (λ y. In y (names (names_made m))) made.2 (map-In (λ (a : Made). a.name) made.0 (names_made m) made.1))))
 
     abbrev IsThere : Standing → Type 0
-    IsThere = Is es around deepest m h may n refl old new
+    IsThere = Is width es around deepest m h may n refl old new
 
     each_there : (xs : List Standing) → ((x : Standing) → In x xs → In x (nest_statements m)) → (k : ℕ) → All IsThere (mapped_standings (each_renamed (w ∷ ws)) k xs)
     each_there [] f k = All-nil IsThere
     each_there (x ∷ xs) f k =
         All-cons IsThere (record { loops = x.loops; statement = renamed_statement (w ∷ ws) k x.statement }) (mapped_standings (each_renamed (w ∷ ws)) (k + 1) xs)
-        (subst (λ us. IsThere (record { loops = x.loops; statement = renamed_statement us k x.statement })) are (statement_is es around deepest m h may n refl old new x (f x (inl refl)) k))
+        (subst (λ us. IsThere (record { loops = x.loops; statement = renamed_statement us k x.statement })) are (statement_is width es around deepest m h may n refl old new x (f x (inl refl)) k))
         (each_there xs (λ y i. f y (inr i)) (k + 1))
 
     has : IsMappedFrom (each_renamed (w ∷ ws)) m (mapped_nest (each_renamed (w ∷ ws)) m)
@@ -285,4 +287,4 @@ module _ (es : List Declaration) (around : List (List ℕ)) (deepest : ℕ) (m :
 
 pub renamed_nest_is_prepared : RenamedNestIsPrepared
 unfolding renamed
-renamed_nest_is_prepared es around deepest m h may = prepared es around deepest m h may (webs_of m) refl
+renamed_nest_is_prepared es around deepest m h may = prepared Plain es around deepest m h may (webs_of m) refl

@@ -1,6 +1,7 @@
 -- The renamed nest may stand for the nest.
 use Rattle.std.proofs.Common.{◌≡◌, sym, ap, ◌∙◌, subst, List, ℕ, Contains, None}
 use Rattle.meaning.specs.Dialect.{fortran77}
+use Rattle.tree.specs.declared.width.Width.{Width}
 use Rattle.meaning.specs.Run.{Going, State, does_all}
 use Rattle.meaning.specs.Store.{names_of, nought_like}
 use Rattle.nest.specs.Plain.{Nest}
@@ -24,9 +25,9 @@ together p m s t u other g b = record {
   rest = b.rest ∙ ap (λ (z : State). record z { store = u.store; steps = u.steps }) g.rest;
 }
 
-pub renamed_may_stand_for : RenamedMayStandFor
-renamed_may_stand_for p around deepest m w h may source keeps s t starts ends alike sound =
+pub renamed_may_stand_for : (width : Width) → RenamedMayStandFor width
+renamed_may_stand_for width p around deepest m w h may source keeps s t starts ends alike sound =
     let one = keeps s t starts ends alike sound in
-    let way : (does_all fortran77 None (loops_then_after m) t).way ≡ Going = ap (λ (z : State). z.way) one.rest ∙ one.going in
-    let two = renamed_nest_goes_on_as_nest w.program around deepest m t h may ends.going ends.holds (subst IsSound (sym way) tt) in
-    together p m _ _ _ (λ x c made. made_long w.program.declarations around deepest m h may x made (source x c)) one two
+    let way : (does_all (fortran77 width) None (loops_then_after m) t).way ≡ Going = ap (λ (z : State). z.way) one.rest ∙ one.going in
+    let two = renamed_nest_goes_on_as_nest width w.program around deepest m t h may ends.going ends.holds (subst IsSound (sym way) tt) in
+    together p m _ _ _ (λ x c made. made_long width w.program.declarations around deepest m h may x made (source x c)) one two

@@ -37,11 +37,12 @@ use Rattle.prepared_passes.proofs.RenamedNests.Settled.{by_names, keeps, keeps_i
 use Rattle.prepared_passes.proofs.RenamedNests.Webs.{names_of as names_at_place}
 use Rattle.prepared_passes.specs.renaming.Laws.{IsMadeFor}
 use Rattle.prepared_passes.specs.renaming.Renamed.{MayBeRenamed}
+use Rattle.tree.specs.declared.width.Width.{Width}
 
 all_of : {A : Type 0} (P : A → Type 0) (xs : List A) → ((x : A) → In x xs → P x) → All P xs
 all_of P xs f = Each-All P xs (each_from P xs f)
 
-module _ (es : List Declaration) (around : List (List ℕ)) (deepest : ℕ) (m : Nest) (h : IsPrepared es around deepest m) (may : MayBeRenamed es m)
+module _ (width : Width) (es : List Declaration) (around : List (List ℕ)) (deepest : ℕ) (m : Nest) (h : IsPrepared es around deepest m) (may : MayBeRenamed es m)
     (n : Nest) (symbols : n.symbols ≡ m.symbols) (old : (x : List ℕ) → Contains (made_names m) x → Contains (made_names n) x) (new : (x : List ℕ) → IsMadeFor m x → Contains (made_names n) x) where
   abbrev at : ℕ → List ℕ → List ℕ
   at = names_at_place m
@@ -70,19 +71,19 @@ module _ (es : List Declaration) (around : List (List ℕ)) (deepest : ℕ) (m :
     owned x i = all_in (IsOwn s.loops) (names_of (assignment s.statement)) was.names x i
 
     made_own : (y : List ℕ) → IsMadeFor m y → Own y
-    made_own y made i small e = absurd (made_no_counter es around deepest m h may y made i e)
+    made_own y made i small e = absurd (made_no_counter width es around deepest m h may y made i e)
 
     named_so : (i : ℕ) (x : List ℕ) → (names_at_place m i x ≡ x) ⊎ IsNamedSo es (IsOwn s.loops) x (names_at_place m i x)
-    named_so i x = by (own_or_range es around deepest m h may i x)
+    named_so i x = by (own_or_range width es around deepest m h may i x)
       where
-        by : (names_at_place m i x ≡ x) ⊎ IsNamed es around deepest m h may x (names_at_place m i x) → (names_at_place m i x ≡ x) ⊎ IsNamedSo es (IsOwn s.loops) x (names_at_place m i x)
+        by : (names_at_place m i x ≡ x) ⊎ IsNamed width es around deepest m h may x (names_at_place m i x) → (names_at_place m i x ≡ x) ⊎ IsNamedSo es (IsOwn s.loops) x (names_at_place m i x)
         by (inl e) = inl e
         by (inr q) =
             inr (record {
               kind = q.web.kind;
-              old = subst (IsScalarOf es q.web.kind) q.named (web_there es around deepest m h may q.web q.inside);
+              old = subst (IsScalarOf es q.web.kind) q.named (web_there width es around deepest m h may q.web q.inside);
               new = subst (λ c. IsScalarOf es c (names_at_place m i x)) q.entry_kind (subst (IsScalarOf es q.entry.kind) q.entry_name (may.declared q.entry q.there));
-              own = made_own (names_at_place m i x) (is_made es around deepest m h may x (names_at_place m i x) q);
+              own = made_own (names_at_place m i x) (is_made width es around deepest m h may x (names_at_place m i x) q);
             })
 
     inside : (o : Loop) → In o s.loops → In o (nest_loops m)
@@ -92,7 +93,7 @@ module _ (es : List Declaration) (around : List (List ℕ)) (deepest : ℕ) (m :
         by (inl q) = absurd q
         by (inr q) = q
 
-    no_place : (i : ℕ) (x : List ℕ) → IsNamed es around deepest m h may x (names_at_place m i x) → (¬ In x (loops ++ m.symbols)) × (¬ In (names_at_place m i x) (loops ++ m.symbols))
+    no_place : (i : ℕ) (x : List ℕ) → IsNamed width es around deepest m h may x (names_at_place m i x) → (¬ In x (loops ++ m.symbols)) × (¬ In (names_at_place m i x) (loops ++ m.symbols))
     no_place i x q = (
       λ c. first (In-append x loops m.symbols c),
       λ c. second (In-append (names_at_place m i x) loops m.symbols c),
@@ -101,20 +102,20 @@ module _ (es : List Declaration) (around : List (List ℕ)) (deepest : ℕ) (m :
         counter : (y : List ℕ) → In y loops → (l : Loop) × (y ≡ counter_name l.number)
         counter y c =
             let o = In-map (λ (l : Loop). l.variable) y s.loops c in
-            (o.it, o.is ∙ (bearing es around deepest m h may o.it (inside o.it o.inside)).0)
+            (o.it, o.is ∙ (bearing width es around deepest m h may o.it (inside o.it o.inside)).0)
 
         first : In x loops ⊎ In x m.symbols → ⊥
-        first (inl c) = let o = counter x c in counter_long x o.0.number (subst (λ (y : List ℕ). length y ≤ 6) q.named (web_short es around deepest m h may q.web q.inside)) o.1
-        first (inr c) = symbol_apart es around deepest m h may q.web q.inside (subst (λ y. In y m.symbols) (sym q.named) c)
+        first (inl c) = let o = counter x c in counter_long x o.0.number (subst (λ (y : List ℕ). length y ≤ 6) q.named (web_short width es around deepest m h may q.web q.inside)) o.1
+        first (inr c) = symbol_apart width es around deepest m h may q.web q.inside (subst (λ y. In y m.symbols) (sym q.named) c)
 
         second : In (names_at_place m i x) loops ⊎ In (names_at_place m i x) m.symbols → ⊥
-        second (inl c) = let o = counter (names_at_place m i x) c in made_no_counter es around deepest m h may (names_at_place m i x) (is_made es around deepest m h may x (names_at_place m i x) q) o.0.number o.1
-        second (inr c) = made_long es around deepest m h may (names_at_place m i x) (is_made es around deepest m h may x (names_at_place m i x) q) (symbol_source es around deepest m h may (names_at_place m i x) c)
+        second (inl c) = let o = counter (names_at_place m i x) c in made_no_counter width es around deepest m h may (names_at_place m i x) (is_made width es around deepest m h may x (names_at_place m i x) q) o.0.number o.1
+        second (inr c) = made_long width es around deepest m h may (names_at_place m i x) (is_made width es around deepest m h may x (names_at_place m i x) q) (symbol_source width es around deepest m h may (names_at_place m i x) c)
 
     apart : (x : List ℕ) → (names_at_place m k x ≡ x) ⊎ ((¬ In x (loops ++ m.symbols)) × (¬ In (names_at_place m k x) (loops ++ m.symbols)))
-    apart x = by (own_or_range es around deepest m h may k x)
+    apart x = by (own_or_range width es around deepest m h may k x)
       where
-        by : (names_at_place m k x ≡ x) ⊎ IsNamed es around deepest m h may x (names_at_place m k x) → (names_at_place m k x ≡ x) ⊎ ((¬ In x (loops ++ m.symbols)) × (¬ In (names_at_place m k x) (loops ++ m.symbols)))
+        by : (names_at_place m k x ≡ x) ⊎ IsNamed width es around deepest m h may x (names_at_place m k x) → (names_at_place m k x ≡ x) ⊎ ((¬ In x (loops ++ m.symbols)) × (¬ In (names_at_place m k x) (loops ++ m.symbols)))
         by (inl e) = inl e
         by (inr q) = inr (no_place k x q)
 
@@ -197,7 +198,7 @@ module _ (es : List Declaration) (around : List (List ℕ)) (deepest : ℕ) (m :
       outside : ¬ Contains around y
 
     target_is : IsTarget target
-    target_is = by (own_or_range es around deepest m h may (k + 1) g.left.name)
+    target_is = by (own_or_range width es around deepest m h may (k + 1) g.left.name)
       where
         kept : IsTarget g.left.name
         kept = record {
@@ -210,14 +211,14 @@ module _ (es : List Declaration) (around : List (List ℕ)) (deepest : ℕ) (m :
             either (inl t) = inl t
             either (inr c) = inr (old g.left.name c)
 
-        by : (target ≡ g.left.name) ⊎ IsNamed es around deepest m h may g.left.name target → IsTarget target
+        by : (target ≡ g.left.name) ⊎ IsNamed width es around deepest m h may g.left.name target → IsTarget target
         by (inl e) = subst IsTarget (sym e) kept
         by (inr q) =
-            let made = is_made es around deepest m h may g.left.name target q in
+            let made = is_made width es around deepest m h may g.left.name target q in
             record {
               known = inr (new target made);
-              free = λ c. made_long es around deepest m h may target made (symbol_source es around deepest m h may target (Contains-In target m.symbols (subst (λ ss. Contains ss target) symbols c)));
-              outside = λ c. made_long es around deepest m h may target made (all_in IsSourceName around h.parts.source target (Contains-In target around c));
+              free = λ c. made_long width es around deepest m h may target made (symbol_source width es around deepest m h may target (Contains-In target m.symbols (subst (λ ss. Contains ss target) symbols c)));
+              outside = λ c. made_long width es around deepest m h may target made (all_in IsSourceName around h.parts.source target (Contains-In target around c));
             }
 
     -- ---- the right side and the guard

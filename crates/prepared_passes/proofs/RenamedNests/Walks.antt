@@ -17,7 +17,7 @@ use Rattle.nest_order.specs.orders.Lists.{In}
 use Rattle.nest_steps.proofs.Mapped.{mapped_nest_leads, wide_enough}
 use Rattle.nest_steps.proofs.Rounds.{loop_turns}
 use Rattle.nest_steps.specs.Leading.{Leads}
-use Rattle.nest_steps.specs.Mapped.{AllLead, AllLeadIn, count_in, count_of, mapped}
+use Rattle.nest_steps.specs.Mapped.{AllLead, AllLeadIn, count_in, count_of, mapped_parts_of}
 use Rattle.nest_steps.specs.Rounds.{InLoops, Turning}
 use Rattle.nest_steps.specs.Statements.{cell_of}
 use Rattle.rewrite.specs.Following.{sequential}
@@ -113,5 +113,5 @@ module _ (bits : ℕ) (names : ℕ → List ℕ → List ℕ) (Made : List ℕ �
       parts_lead line wide ls is k (part p ps) h = (part_leads line wide ls is k p h.0, parts_lead line wide ls is (k + count_of p) ps h.1)
 
     pub nest_leads : (line : ℕ) → 31 ≤ bits → (p : Part) → Fit [] 0 p
-        → Leads (At [] [] 0) (At [] [] (count_of p)) (does (sequential bits) None (statement_of_part line p)) (does_all (sequential bits) None (block_of_parts line (parts (mapped each [] 0 p))))
+        → Leads (At [] [] 0) (At [] [] (count_of p)) (does (sequential bits) None (statement_of_part line p)) (does_all (sequential bits) None (block_of_parts line (parts (mapped_parts_of each [] 0 p))))
     nest_leads line wide p h = mapped_nest_leads each bits line (λ is l n. Unit {0}) At p wide (part_leads line wide [] [] 0 p h)

@@ -13,7 +13,7 @@ use Rattle.scalar_expand.specs.Privates.{is_source}
 use Rattle.statement_passes.specs.MadeNames.{kind_if_scalar}
 use Rattle.scalar_rename.specs.Ranges.{begins_range, is_renamed, name_or, one_more_if, owner, owner_at, owners_from, range_name, ranges_in, stands_in_one_body}
 use Rattle.scalar_rename.specs.Ranges.{web_if_renamed, web_of, webs_among, webs_of}
-use Rattle.scalar_rename.specs.Renamed.{made_from, made_of_web, made_of_webs, name_in, names_at}
+use Rattle.scalar_rename.specs.Renamed.{made_from, made_of_web, made_of_webs, name_by, names_at}
 use Rattle.scalar_rename.specs.declared.ranges.Web.{Web}
 use Rattle.tree.specs.Plain.{Declaration}
 use Rattle.tree.specs.declared.ops.Kind.{Kind}
@@ -176,24 +176,24 @@ module _ (m : Nest) where
 -- ---- names by places
 
 abbrev pub names_of : Nest → ℕ → List ℕ → List ℕ
-names_of m k = name_in (names_at (webs_of m) k)
+names_of m k = name_by (names_at (webs_of m) k)
 
 -- a web is found by its name
 pub record Found (ws : List Web) (x : List ℕ) : Type 0 where
   pub web : Web
   pub inside : In web ws
   pub named : web.name ≡ x
-  pub at : (k : ℕ) → name_in (names_at ws k) x ≡ owner_at web k
+  pub at : (k : ℕ) → name_by (names_at ws k) x ≡ owner_at web k
 
-pub find : (ws : List Web) (x : List ℕ) → Found ws x ⊎ ((k : ℕ) → name_in (names_at ws k) x ≡ x)
+pub find : (ws : List Web) (x : List ℕ) → Found ws x ⊎ ((k : ℕ) → name_by (names_at ws k) x ≡ x)
 find [] x = inr (λ k. refl)
 find (w ∷ ws) x = by (bytes_eq w.name x) refl (find ws x)
   where
-    by : (b : Bool) → bytes_eq w.name x ≡ b → Found ws x ⊎ ((k : ℕ) → name_in (names_at ws k) x ≡ x) → Found (w ∷ ws) x ⊎ ((k : ℕ) → name_in (names_at (w ∷ ws) k) x ≡ x)
-    by true e r = inl (record { web = w; inside = inl refl; named = (bytes_eq-Decides w.name x).0 e; at = λ k. ap (λ b. cond b (owner_at w k) (name_in (names_at ws k) x)) e })
+    by : (b : Bool) → bytes_eq w.name x ≡ b → Found ws x ⊎ ((k : ℕ) → name_by (names_at ws k) x ≡ x) → Found (w ∷ ws) x ⊎ ((k : ℕ) → name_by (names_at (w ∷ ws) k) x ≡ x)
+    by true e r = inl (record { web = w; inside = inl refl; named = (bytes_eq-Decides w.name x).0 e; at = λ k. ap (λ b. cond b (owner_at w k) (name_by (names_at ws k) x)) e })
     by false e (inl f) =
-        inl (record { web = f.web; inside = inr f.inside; named = f.named; at = λ k. ap (λ b. cond b (owner_at w k) (name_in (names_at ws k) x)) e ∙ f.at k })
-    by false e (inr f) = inr (λ k. ap (λ b. cond b (owner_at w k) (name_in (names_at ws k) x)) e ∙ f k)
+        inl (record { web = f.web; inside = inr f.inside; named = f.named; at = λ k. ap (λ b. cond b (owner_at w k) (name_by (names_at ws k) x)) e ∙ f.at k })
+    by false e (inr f) = inr (λ k. ap (λ b. cond b (owner_at w k) (name_by (names_at ws k) x)) e ∙ f k)
 
 -- ---- what was made
 

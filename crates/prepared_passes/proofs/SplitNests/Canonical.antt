@@ -7,7 +7,7 @@ use Rattle.std.specs.Prelude.{◌==◌, nat_le}
 use Rattle.std.specs.Str.{bytes_eq}
 use Rattle.std.proofs.lemmas.Slice.Eq.{bytes_eq-Decides}
 use mathlib.Core.List.{reverse_aux}
-use Rattle.prepared_passes.specs.expansion.Left.{references_of}
+use Rattle.prepared_passes.specs.expansion.Left.{references_touched}
 use Rattle.last_values.specs.Scalars.{scalar}
 use Rattle.linear_forms.specs.Canonical.{canonical_text, canonising, text_or}
 use Rattle.linear_forms.specs.Expressed.{minus_term, plus_term, term, variables, with_constant, with_term, with_terms}
@@ -15,8 +15,8 @@ use Rattle.linear_forms.specs.Linear.{Form, added, constant_of, constant_or, for
 use Rattle.nest.specs.Plain.{Guarded}
 use Rattle.nest_order.proofs.orders.Lists.{In-append, In-left, In-right}
 use Rattle.nest_order.specs.orders.Lists.{In}
-use Rattle.nest_order.specs.runs.Touched.{references_in}
-use Rattle.nest_order.specs.runs.Touched.{references_in_each, references_in_guard, references_in_subscripts}
+use Rattle.nest_order.specs.runs.Touched.{touched_in}
+use Rattle.nest_order.specs.runs.Touched.{references_in_each, touched_in_guard, touched_in_subscripts}
 use Rattle.nest_rewrite.specs.Statements.{rewritten_statement}
 use Rattle.rewrite.specs.Making.{made, made_expressions, made_loops, made_subscripts}
 use Rattle.rewrite.specs.Names.{mentions}
@@ -26,7 +26,7 @@ use Rattle.tree.specs.Plain.{Reshape, Section, Spread, Subscript, Subscripts, Tr
 use Rattle.tree.specs.Plain.{no_subscripts, subscript, subscripts}
 use Rattle.tree.specs.declared.ops.Op.{Op}
 use Rattle.tree.specs.declared.ops.Op.TheVariants.{Pow, Mul, Div, Neg, Add, Sub, Lt, Le, Eq, Ne, Gt, Ge, Not, And, Or, Eqv, Neqv}
-use Rattle.node_splitting.specs.Arrays.{variable}
+use Rattle.node_splitting.specs.Arrays.{variable_subscript}
 
 -- ---- a form has coefficients for names that stand in the expression
 
@@ -139,7 +139,7 @@ module _ (rs : List Reference) where
   sign_stands ys Eqv f h = tt
   sign_stands ys Neqv f h = tt
 
-  linear_stands : (n : ℕ) (ys : List (List ℕ)) (e : Expression) → ((r : Reference) → In r (references_in e) → In r rs) → FormStands ys (linear n ys e)
+  linear_stands : (n : ℕ) (ys : List (List ℕ)) (e : Expression) → ((r : Reference) → In r (touched_in e) → In r rs) → FormStands ys (linear n ys e)
   linear_stands n ys (Number k) f = limited_stands n ys (constant_or (constant_of (Number k)) None) (constant_stands ys (constant_of (Number k)) None tt)
   linear_stands n ys (Logic b) f = tt
   linear_stands n ys (Named x no_subscripts) f = limited_stands n ys (with_no_constant (unit ys x)) (name_stands ys (unit ys x) (unit_stands ys x (f (scalar x) (inl refl))))
@@ -151,8 +151,8 @@ module _ (rs : List Reference) where
       limited_stands n ys (constant_or (constant_of (Binary o a b)) (form_of_pair o (constant_of a) (constant_of b) (linear n ys a) (linear n ys b)))
       (constant_stands ys (constant_of (Binary o a b)) (form_of_pair o (constant_of a) (constant_of b) (linear n ys a) (linear n ys b))
       (pair_stands ys o (constant_of a) (constant_of b) (linear n ys a) (linear n ys b)
-      (linear_stands n ys a (λ r i. f r (In-left r (references_in a) (references_in b) i)))
-      (linear_stands n ys b (λ r i. f r (In-right r (references_in a) (references_in b) i)))))
+      (linear_stands n ys a (λ r i. f r (In-left r (touched_in a) (touched_in b) i)))
+      (linear_stands n ys b (λ r i. f r (In-right r (touched_in a) (touched_in b) i)))))
   linear_stands n ys (Apply g es) f = limited_stands n ys (constant_or (constant_of (Apply g es)) None) (constant_stands ys (constant_of (Apply g es)) None tt)
   linear_stands n ys (Constructor es ls) f = tt
   linear_stands n ys (Spread a d e) f = tt
@@ -163,7 +163,7 @@ module _ (rs : List Reference) where
   -- ---- so has its text
 
   abbrev Only-there : Expression → Type 0
-  Only-there e = (r : Reference) → In r (references_in e) → In r rs
+  Only-there e = (r : Reference) → In r (touched_in e) → In r rs
 
   abbrev SoFar : Option Expression → Type 0
   SoFar None = Unit {0}
@@ -185,11 +185,11 @@ module _ (rs : List Reference) where
 
   of_plus : (o : Option Expression) (t : Expression) → SoFar o → Only-there t → Only-there (plus_term o t)
   of_plus None t h k r i = k r i
-  of_plus (Some e) t h k r i = both (references_in e) (references_in t) r (h r) (k r) i
+  of_plus (Some e) t h k r i = both (touched_in e) (touched_in t) r (h r) (k r) i
 
   of_minus : (o : Option Expression) (t : Expression) → SoFar o → Only-there t → Only-there (minus_term o t)
   of_minus None t h k r i = k r i
-  of_minus (Some e) t h k r i = both (references_in e) (references_in t) r (h r) (k r) i
+  of_minus (Some e) t h k r i = both (touched_in e) (touched_in t) r (h r) (k r) i
 
   of_variable : (x : List ℕ) → In (scalar x) rs → Only-there (Named x no_subscripts)
   of_variable x i r (inl e) = subst (λ (q : Reference). In q rs) (sym e) i
@@ -211,8 +211,8 @@ module _ (rs : List Reference) where
   of_constant None (pos n) h r i = absurd i
   of_constant None (negsuc n) h r i = absurd i
   of_constant (Some e) (pos zero) h r i = h r i
-  of_constant (Some e) (pos (suc n)) h r i = both (references_in e) [] r (h r) (λ j. absurd j) i
-  of_constant (Some e) (negsuc n) h r i = both (references_in e) [] r (h r) (λ j. absurd j) i
+  of_constant (Some e) (pos (suc n)) h r i = both (touched_in e) [] r (h r) (λ j. absurd j) i
+  of_constant (Some e) (negsuc n) h r i = both (touched_in e) [] r (h r) (λ j. absurd j) i
 
 -- ---- canonical text
 
@@ -236,30 +236,30 @@ module _ (loops symbols : List (List ℕ)) where
       by (inl j) = more rs (rs ++ us) r (λ x k. In-left x rs us k) (f j)
       by (inr j) = more us (rs ++ us) r (λ x k. In-right x rs us k) (g j)
 
-  text_stands : (e : Expression) (r : Reference) → In r (references_in (canonical_text loops symbols e)) → In r (references_in e)
+  text_stands : (e : Expression) (r : Reference) → In r (touched_in (canonical_text loops symbols e)) → In r (touched_in e)
   text_stands e r = by (nat_le (length loops) nest_depth)
     where
-      text : (o : Option Form) → FormStands (references_in e) (loops ++ symbols) o → In r (references_in (text_or loops symbols o e)) → In r (references_in e)
+      text : (o : Option Form) → FormStands (touched_in e) (loops ++ symbols) o → In r (touched_in (text_or loops symbols o e)) → In r (touched_in e)
       text None h i = i
       text (Some f) h i =
-          of_constant (references_in e) (with_terms None f.coefficients (variables (loops ++ symbols))) f.constant
-          (of_terms (references_in e) None f.coefficients (loops ++ symbols) tt h) r i
+          of_constant (touched_in e) (with_terms None f.coefficients (variables (loops ++ symbols))) f.constant
+          (of_terms (touched_in e) None f.coefficients (loops ++ symbols) tt h) r i
 
-      by : (b : Bool) → In r (references_in (text_or loops symbols (cond b (linear (length loops) (loops ++ symbols) e) None) e)) → In r (references_in e)
-      by true i = text (linear (length loops) (loops ++ symbols) e) (linear_stands (references_in e) (length loops) (loops ++ symbols) e (λ q j. j)) i
+      by : (b : Bool) → In r (touched_in (text_or loops symbols (cond b (linear (length loops) (loops ++ symbols) e) None) e)) → In r (touched_in e)
+      by true i = text (linear (length loops) (loops ++ symbols) e) (linear_stands (touched_in e) (length loops) (loops ++ symbols) e (λ q j. j)) i
       by false i = i
 
-  of_node : (whole e : Expression) (rs : List Reference) (r : Reference) → (In r (references_in e) → IsMadeOf rs r)
-      → In r (references_in ((canonising loops symbols).expression whole e)) → IsMadeOf rs r
+  of_node : (whole e : Expression) (rs : List Reference) (r : Reference) → (In r (touched_in e) → IsMadeOf rs r)
+      → In r (touched_in ((canonising loops symbols).expression whole e)) → IsMadeOf rs r
   of_node whole e rs r h = chosen (mentions loops whole)
     where
-      chosen : (b : Bool) → In r (references_in (cond b (canonical_text loops symbols e) e)) → IsMadeOf rs r
+      chosen : (b : Bool) → In r (touched_in (cond b (canonical_text loops symbols e) e)) → IsMadeOf rs r
       chosen true i = h (text_stands e r i)
       chosen false i = h i
 
   of_name : (x : List ℕ) (qs : Subscripts) (r : Reference)
-      → (In r (references_in_subscripts (made_subscripts (canonising loops symbols) qs)) → IsMadeOf (references_in_subscripts qs) r)
-      → In r (references_in (Named x (made_subscripts (canonising loops symbols) qs))) → IsMadeOf (references_in (Named x qs)) r
+      → (In r (touched_in_subscripts (made_subscripts (canonising loops symbols) qs)) → IsMadeOf (touched_in_subscripts qs) r)
+      → In r (touched_in (Named x (made_subscripts (canonising loops symbols) qs))) → IsMadeOf (touched_in (Named x qs)) r
   of_name x qs r within (inl e) = (record {
     first = record { name = x; subscripts = qs };
     inside = inl refl;
@@ -267,24 +267,24 @@ module _ (loops symbols : List (List ℕ)) where
     subscripts = ap (λ (q : Reference). q.subscripts) e;
   })
   of_name x qs r within (inr j) =
-      more (references_in_subscripts qs) (references_in (Named x qs)) r (λ y k. inr k) (within j)
+      more (touched_in_subscripts qs) (touched_in (Named x qs)) r (λ y k. inr k) (within j)
 
   mutual
-    of_expression : (e : Expression) → (r : Reference) → In r (references_in (made (canonising loops symbols) e))
-        → IsMadeOf (references_in e) r
+    of_expression : (e : Expression) → (r : Reference) → In r (touched_in (made (canonising loops symbols) e))
+        → IsMadeOf (touched_in e) r
     of_expression (Number n) r i = of_node (Number n) (Number n) [] r (λ j. absurd j) i
     of_expression (Logic b) r i = of_node (Logic b) (Logic b) [] r (λ j. absurd j) i
     of_expression (Named x qs) r i =
-        of_node (Named x qs) (Named x (made_subscripts (canonising loops symbols) qs)) (references_in (Named x qs)) r
+        of_node (Named x qs) (Named x (made_subscripts (canonising loops symbols) qs)) (touched_in (Named x qs)) r
         (of_name x qs r (of_subscripts qs r)) i
     of_expression (Unary o a) r i =
-        of_node (Unary o a) (Unary o (made (canonising loops symbols) a)) (references_in a) r
+        of_node (Unary o a) (Unary o (made (canonising loops symbols) a)) (touched_in a) r
         (λ j. of_expression a r j) i
     of_expression (Binary o a b) r i =
         of_node (Binary o a b) (Binary o (made (canonising loops symbols) a) (made (canonising loops symbols) b))
-        (references_in a ++ references_in b) r
-        (of_two (references_in (made (canonising loops symbols) a)) (references_in (made (canonising loops symbols) b))
-        (references_in a) (references_in b) r (λ j. of_expression a r j) (λ j. of_expression b r j)) i
+        (touched_in a ++ touched_in b) r
+        (of_two (touched_in (made (canonising loops symbols) a)) (touched_in (made (canonising loops symbols) b))
+        (touched_in a) (touched_in b) r (λ j. of_expression a r j) (λ j. of_expression b r j)) i
     of_expression (Apply f es) r i =
         of_node (Apply f es) (Apply f (made_expressions (canonising loops symbols) es)) (references_in_each es) r
         (λ j. of_each es r j) i
@@ -298,27 +298,27 @@ module _ (loops symbols : List (List ℕ)) where
         → In r (references_in_each (made_expressions (canonising loops symbols) es)) → IsMadeOf (references_in_each es) r
     of_each no_expressions r i = absurd i
     of_each (expression e es) r i =
-        of_two (references_in (made (canonising loops symbols) e))
-        (references_in_each (made_expressions (canonising loops symbols) es)) (references_in e) (references_in_each es) r
+        of_two (touched_in (made (canonising loops symbols) e))
+        (references_in_each (made_expressions (canonising loops symbols) es)) (touched_in e) (references_in_each es) r
         (λ j. of_expression e r j) (λ j. of_each es r j) i
 
     of_subscripts : (qs : Subscripts) → (r : Reference)
-        → In r (references_in_subscripts (made_subscripts (canonising loops symbols) qs))
-        → IsMadeOf (references_in_subscripts qs) r
+        → In r (touched_in_subscripts (made_subscripts (canonising loops symbols) qs))
+        → IsMadeOf (touched_in_subscripts qs) r
     of_subscripts no_subscripts r i = absurd i
     of_subscripts (subscript (Only e) qs) r i =
-        of_two (references_in (made (canonising loops symbols) e))
-        (references_in_subscripts (made_subscripts (canonising loops symbols) qs)) (references_in e)
-        (references_in_subscripts qs) r (λ j. of_expression e r j) (λ j. of_subscripts qs r j) i
+        of_two (touched_in (made (canonising loops symbols) e))
+        (touched_in_subscripts (made_subscripts (canonising loops symbols) qs)) (touched_in e)
+        (touched_in_subscripts qs) r (λ j. of_expression e r j) (λ j. of_subscripts qs r j) i
     of_subscripts (subscript (Section a b c) qs) r i = of_subscripts qs r i
 
   of_guard : (o : Option Expression) → (r : Reference)
-      → In r (references_in_guard (option_map (made (canonising loops symbols)) o)) → IsMadeOf (references_in_guard o) r
+      → In r (touched_in_guard (option_map (made (canonising loops symbols)) o)) → IsMadeOf (touched_in_guard o) r
   of_guard None r i = absurd i
   of_guard (Some e) r i = of_expression e r i
 
   pub of_statement : (g : Guarded) → (r : Reference)
-      → In r (references_of (rewritten_statement (canonising loops symbols) g)) → IsMadeOf (references_of g) r
+      → In r (references_touched (rewritten_statement (canonising loops symbols) g)) → IsMadeOf (references_touched g) r
   of_statement g r (inl e) = (record {
     first = g.left;
     inside = inl refl;
@@ -326,16 +326,16 @@ module _ (loops symbols : List (List ℕ)) where
     subscripts = ap (λ (q : Reference). q.subscripts) e;
   })
   of_statement g r (inr i) =
-      more (references_in_guard g.guard ++ (references_in_subscripts g.left.subscripts ++ references_in g.right))
-      (references_of g) r (λ x k. inr k)
-      (of_two (references_in_guard (option_map (made (canonising loops symbols)) g.guard))
-      (references_in_subscripts (made_subscripts (canonising loops symbols) g.left.subscripts)
-      ++ references_in (made (canonising loops symbols) g.right))
-      (references_in_guard g.guard) (references_in_subscripts g.left.subscripts ++ references_in g.right) r
+      more (touched_in_guard g.guard ++ (touched_in_subscripts g.left.subscripts ++ touched_in g.right))
+      (references_touched g) r (λ x k. inr k)
+      (of_two (touched_in_guard (option_map (made (canonising loops symbols)) g.guard))
+      (touched_in_subscripts (made_subscripts (canonising loops symbols) g.left.subscripts)
+      ++ touched_in (made (canonising loops symbols) g.right))
+      (touched_in_guard g.guard) (touched_in_subscripts g.left.subscripts ++ touched_in g.right) r
       (of_guard g.guard r)
-      (of_two (references_in_subscripts (made_subscripts (canonising loops symbols) g.left.subscripts))
-      (references_in (made (canonising loops symbols) g.right)) (references_in_subscripts g.left.subscripts)
-      (references_in g.right) r (of_subscripts g.left.subscripts r) (of_expression g.right r)) i)
+      (of_two (touched_in_subscripts (made_subscripts (canonising loops symbols) g.left.subscripts))
+      (touched_in (made (canonising loops symbols) g.right)) (touched_in_subscripts g.left.subscripts)
+      (touched_in g.right) r (of_subscripts g.left.subscripts r) (of_expression g.right r)) i)
 
   -- ---- a name alone is canonical text
 
@@ -391,16 +391,16 @@ module _ (loops symbols : List (List ℕ)) where
 
   stay_onto : (vs : List (List ℕ)) (ss : List Subscript)
       → made_subscripts (canonising loops symbols) (subscripts ss) ≡ subscripts ss
-      → made_subscripts (canonising loops symbols) (subscripts (reverse_aux (map variable vs) ss))
-      ≡ subscripts (reverse_aux (map variable vs) ss)
+      → made_subscripts (canonising loops symbols) (subscripts (reverse_aux (map variable_subscript vs) ss))
+      ≡ subscripts (reverse_aux (map variable_subscript vs) ss)
   stay_onto [] ss e = e
   stay_onto (v ∷ vs) ss e =
-      stay_onto vs (variable v ∷ ss)
+      stay_onto vs (variable_subscript v ∷ ss)
       (ap (λ z. subscript (Only z) (made_subscripts (canonising loops symbols) (subscripts ss))) (name_stays v)
-      ∙ ap (subscript (variable v)) e)
+      ∙ ap (subscript (variable_subscript v)) e)
 
   -- so the subscripts of elements stay
   pub subscripts_stay : (vs : List (List ℕ))
-      → made_subscripts (canonising loops symbols) (subscripts (reverse (map variable vs)))
-      ≡ subscripts (reverse (map variable vs))
+      → made_subscripts (canonising loops symbols) (subscripts (reverse (map variable_subscript vs)))
+      ≡ subscripts (reverse (map variable_subscript vs))
   subscripts_stay vs = stay_onto vs [] refl

@@ -36,7 +36,7 @@ use Rattle.rewrite.proofs.Replacing.{bytes_eq-false}
 use Rattle.rewrite.proofs.Values.{cell_in-named, joined, parted}
 use Rattle.rewrite.specs.Following.{IsSound, sequential}
 use Rattle.node_splitting.specs.Counts.{first_in_left, first_in_right}
-use Rattle.node_splitting.specs.Reads.{as_expression, but_whole, copied, copies_of, reads_in_left, reads_in_right, reads_in_statement, split_statement, with_copies}
+use Rattle.node_splitting.specs.Reads.{read_as_expression, but_whole, read_copied, copies_of, reads_in_left, reads_in_right, reads_in_statement, split_statement, with_copies}
 use Rattle.prepared_passes.proofs.SplitNests.Reading.{read_names, read_names_in}
 use Rattle.prepared_passes.proofs.SplitNests.Values.{AreCopied, HasValue, IsSame, both_parts, first_copies, reads_have_values, second_copies, split_subscript_values, split_value, subscript_reads_have_values}
 
@@ -241,7 +241,7 @@ module _ (bits : ℕ) (Made Known : List ℕ → Type 0) (symbols : List (List �
         }
 
         element_value : (j : ℕ) (u : Store) → cell_named (sequential bits) (element j) u ≡ Ok (cell j)
-            → value_of (sequential bits) (as_expression (element j)) u ≡ Ok (u.held (cell j))
+            → value_of (sequential bits) (read_as_expression (element j)) u ≡ Ok (u.held (cell j))
         element_value j u e =
             let p = parted (subscript_values (sequential bits) (element j).subscripts u) (λ zs. cell_at (element j).name zs u) (cell j) e in
             joined (subscript_values (sequential bits) (element j).subscripts u) (λ zs. do c ← cell_at (element j).name zs u; Ok (u.held c)) p.part (u.held (cell j)) p.first
@@ -255,9 +255,9 @@ module _ (bits : ℕ) (Made Known : List ℕ → Type 0) (symbols : List (List �
         -- a read with its value
         record CanBeRead (s : Store) (r : Reference) : Type 0 where
           worth : Value
-          said : value_of (sequential bits) (as_expression r) s ≡ Ok worth
+          said : value_of (sequential bits) (read_as_expression r) s ≡ Ok worth
           range : is_in_range bits worth ≡ true
-          clear : Clear (names_in (as_expression r))
+          clear : Clear (names_in (read_as_expression r))
 
         guard_taken : (s u : Store) → At k s u → IsTaken bits g.guard s → IsTaken bits g.guard u
         guard_taken s u a h = by g.guard h (λ x i. q.clear x (In-left x (names_of_guard g.guard) _ i))
@@ -283,7 +283,7 @@ module _ (bits : ℕ) (Made Known : List ℕ → Type 0) (symbols : List (List �
         abbrev does_copies : ℕ → List Reference → State → State
         does_copies j rs s = does_all (sequential bits) None (block_of_parts line (parts (map Run (copies_of element g j rs)))) s
 
-        one_more : (j : ℕ) (r : Reference) (rs : List Reference) (v : Value) (u s t : Store) → from ≤ j → j < to → value_of (sequential bits) (as_expression r) s ≡ Ok v
+        one_more : (j : ℕ) (r : Reference) (rs : List Reference) (v : Value) (u s t : Store) → from ≤ j → j < to → value_of (sequential bits) (read_as_expression r) s ≡ Ok v
             → Copied (suc j) rs (put (cell j) v u) s t → Copied j (r ∷ rs) u s t
         one_more j r rs v u s t low high e h = record {
           at = h.at;
@@ -294,7 +294,7 @@ module _ (bits : ℕ) (Made Known : List ℕ → Type 0) (symbols : List (List �
             kept : t.held (cell j) ≡ v
             kept = h.held j (omega arith) ∙ ap (λ b. cond b v (u.held (cell j))) (same_cell-refl (cell j))
 
-            here : (w : Value) → value_of (sequential bits) (as_expression r) s ≡ Ok w → value_of (sequential bits) (as_expression (element j)) t ≡ Ok w
+            here : (w : Value) → value_of (sequential bits) (read_as_expression r) s ≡ Ok w → value_of (sequential bits) (read_as_expression (element j)) t ≡ Ok w
             here w f = element_value j t (q.room s t h.at j low high) ∙ ap Ok (kept ∙ ok_same {F = Fault} v w (sym e ∙ f))
 
         copies_go : (j : ℕ) (rs : List Reference) → from ≤ j → j + length rs ≤ to → (s : State) (u : Store) (n : ℕ) → s.way ≡ Going → At k s.store u → IsTaken bits g.guard s.store
@@ -303,11 +303,11 @@ module _ (bits : ℕ) (Made Known : List ℕ → Type 0) (symbols : List (List �
         copies_go j (r ∷ rs) low high s u n w a taken h =
             let c = h r (inl refl) in
             let less : j < to = omega (arith, high) in
-            let there : value_of (sequential bits) (as_expression r) u ≡ Ok c.worth = sym (same_value (as_expression r) c.clear s.store u a.stores) ∙ c.said in
-            let one = comes_to bits (copied element g j r) (record s { store = u; steps = n }) c.worth (cell j) w (guard_taken s.store u a taken) there (q.room s.store u a j low less) c.range in
+            let there : value_of (sequential bits) (read_as_expression r) u ≡ Ok c.worth = sym (same_value (read_as_expression r) c.clear s.store u a.stores) ∙ c.said in
+            let one = comes_to bits (read_copied element g j r) (record s { store = u; steps = n }) c.worth (cell j) w (guard_taken s.store u a taken) there (q.room s.store u a j low less) c.range in
             let u1 = put (cell j) c.worth u in
             let more = copies_go (suc j) rs (omega (arith, low)) (omega (arith, high)) s u1 one.steps w (at_copy j c.worth s.store u low less a) taken (λ x i. h x (inr i)) in
-            let is : does (sequential bits) None (guarded_statement (copied element g j r)) (record s { store = u; steps = n }) ≡ record s { store = u1; steps = one.steps }
+            let is : does (sequential bits) None (guarded_statement (read_copied element g j r)) (record s { store = u; steps = n }) ≡ record s { store = u1; steps = one.steps }
             = one.is ∙ ap (λ y. record s { store = u1; steps = one.steps; way = y }) (sym w) in
             subst (λ (t : State). Led (Copied j (r ∷ rs) u) s (does_copies (suc j) rs t)) (sym is)
             (record { stores = one_more j r rs c.worth u s.store _ low less c.said more.stores; rest = more.rest; going = more.going })
@@ -316,14 +316,14 @@ module _ (bits : ℕ) (Made Known : List ℕ → Type 0) (symbols : List (List �
             → Led (λ x t. t ≡ u) s (does_copies j rs (record s { store = u; steps = n }))
         passes j [] s u n w h = record { stores = refl; rest = refl; going = w }
         passes j (r ∷ rs) s u n w h =
-            let one = comes_to_same bits (copied element g j r) (record s { store = u; steps = n }) w h in
-            let is : does (sequential bits) None (guarded_statement (copied element g j r)) (record s { store = u; steps = n }) ≡ record s { store = u; steps = one.steps }
+            let one = comes_to_same bits (read_copied element g j r) (record s { store = u; steps = n }) w h in
+            let is : does (sequential bits) None (guarded_statement (read_copied element g j r)) (record s { store = u; steps = n }) ≡ record s { store = u; steps = one.steps }
             = one.is ∙ ap (λ y. record s { store = u; steps = one.steps; way = y }) (sym w) in
             subst (λ (t : State). Led (λ x t. t ≡ u) s (does_copies (suc j) rs t)) (sym is) (passes (suc j) rs s u one.steps w h)
 
         -- ---- what is copied can be read
 
-        read_value : (s : Store) → ((x : List ℕ) → (c : Cell) → c.name ≡ x → Known x → is_in_range bits (s.held c) ≡ true) → (r : Reference) → Clear (names_in (as_expression r)) → Known r.name
+        read_value : (s : Store) → ((x : List ℕ) → (c : Cell) → c.name ≡ x → Known x → is_in_range bits (s.held c) ≡ true) → (r : Reference) → Clear (names_in (read_as_expression r)) → Known r.name
             → HasValue bits s r → CanBeRead s r
         read_value s ranged r clear known h =
             let p = parted (subscript_values (sequential bits) r.subscripts s) (λ zs. do c ← cell_at r.name zs s; Ok (s.held c)) h.0 h.1 in
@@ -342,7 +342,7 @@ module _ (bits : ℕ) (Made Known : List ℕ → Type 0) (symbols : List (List �
         in_right : (x : List ℕ) → In x (names_in g.right) → In x (names_of (assignment g))
         in_right x i = In-right x (names_of_guard g.guard) _ (In-left x (names_in g.right) (g.left.name ∷ names_in_subscripts g.left.subscripts) i)
 
-        read_in : (r : Reference) → In r reads → (x : List ℕ) → In x (names_in (as_expression r)) → In x (names_of (assignment g))
+        read_in : (r : Reference) → In r reads → (x : List ℕ) → In x (names_in (read_as_expression r)) → In x (names_of (assignment g))
         read_in r i x j = by (In-append r (reads_in_left loops may g) (reads_in_right loops may g) i)
           where
             by : In r (reads_in_left loops may g) ⊎ In r (reads_in_right loops may g) → In x (names_of (assignment g))

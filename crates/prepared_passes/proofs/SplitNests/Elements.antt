@@ -18,7 +18,7 @@ use Rattle.nest_order.proofs.orders.Lists.{In-append, In-left, In-right}
 use Rattle.nest_order.proofs.orders.Membership.{In-map}
 use Rattle.nest_order.specs.orders.Lists.{In}
 use Rattle.nest_order.specs.runs.Guarded.{names_of, names_of_guard}
-use Rattle.nest_order.specs.runs.Touched.{IsPlainGuard, references_in, references_in_guard, references_in_subscripts}
+use Rattle.nest_order.specs.runs.Touched.{IsPlainGuard, touched_in, touched_in_guard, touched_in_subscripts}
 use Rattle.pass_laws.proofs.NormalFacts.Tables.{all_in}
 use Rattle.pass_laws.specs.prepared_nests.Loops.{IsPreparedLoop}
 use Rattle.pass_laws.specs.prepared_nests.Made.{IsPreparedMade}
@@ -27,14 +27,14 @@ use Rattle.pass_laws.specs.prepared_nests.Statements.{IsPreparedStatement, assig
 use Rattle.prepared_passes.proofs.ArrangedNests.Names.{found_in}
 use Rattle.prepared_passes.proofs.ExpandedNests.GuardedNames.{name_in, name_in_subscripts}
 use Rattle.prepared_passes.proofs.ExpandedNests.Walks.{round_in}
-use Rattle.prepared_passes.specs.expansion.Left.{references_of}
+use Rattle.prepared_passes.specs.expansion.Left.{references_touched}
 use Rattle.rewrite.specs.Making.{made, made_subscripts}
 use Rattle.tree.specs.Names.{IsSourceName}
 use Rattle.tree.specs.Plain.{Declaration, Expression, Named, Reference, Subscripts}
-use Rattle.node_splitting.specs.Arrays.{copy_name, element}
-use Rattle.node_splitting.specs.Counts.{variables_of}
+use Rattle.node_splitting.specs.Arrays.{copy_name, copy_element}
+use Rattle.node_splitting.specs.Counts.{variables_from_outside}
 use Rattle.node_splitting.specs.Reads.{but_whole, split_in}
-use Rattle.node_splitting.specs.Split.{last_from, made_arrays, may_in, reads_at, with_arrays}
+use Rattle.node_splitting.specs.Split.{last_from, made_arrays, may_in, reads_at, with_copy_arrays}
 use Rattle.prepared_passes.specs.splitting.Elements.{HasElements, IsElementIn, SplitNestHasElements}
 use Rattle.prepared_passes.specs.splitting.Splits.{IsKnown, MayBeSplit}
 use Rattle.prepared_passes.proofs.SplitNests.Canonical.{IsMadeOf, of_statement as of_text, subscripts_stay}
@@ -68,19 +68,19 @@ named_made (d ∷ ms) c y (inr i) e = by (bytes_eq d.name y) (named_made ms c y 
 
 -- ---- names of references
 
-reference_named : (g : Guarded) → IsPlainGuard g.guard → (names : (r : Reference) → In r (references_in g.right) → In r.name (names_in g.right))
-    → ((r : Reference) → In r (references_in_subscripts g.left.subscripts) → In r.name (names_in_subscripts g.left.subscripts))
-    → (r : Reference) → In r (references_of g) → In r.name (names_of (assignment g))
+reference_named : (g : Guarded) → IsPlainGuard g.guard → (names : (r : Reference) → In r (touched_in g.right) → In r.name (names_in g.right))
+    → ((r : Reference) → In r (touched_in_subscripts g.left.subscripts) → In r.name (names_in_subscripts g.left.subscripts))
+    → (r : Reference) → In r (references_touched g) → In r.name (names_of (assignment g))
 reference_named g plain right left r (inl e) =
     In-right r.name (names_of_guard g.guard) (names_in g.right ++ (g.left.name ∷ names_in_subscripts g.left.subscripts))
     (In-right r.name (names_in g.right) (g.left.name ∷ names_in_subscripts g.left.subscripts) (inl (ap (λ (z : Reference). z.name) e)))
-reference_named g plain right left r (inr i) = by (In-append r (references_in_guard g.guard) (references_in_subscripts g.left.subscripts ++ references_in g.right) i)
+reference_named g plain right left r (inr i) = by (In-append r (touched_in_guard g.guard) (touched_in_subscripts g.left.subscripts ++ touched_in g.right) i)
   where
-    condition : (o : Option Expression) → IsPlainGuard o → In r (references_in_guard o) → In r.name (names_of_guard o)
+    condition : (o : Option Expression) → IsPlainGuard o → In r (touched_in_guard o) → In r.name (names_of_guard o)
     condition None p j = absurd j
     condition (Some e) p j = name_in e p r j
 
-    rest : In r (references_in_subscripts g.left.subscripts) ⊎ In r (references_in g.right) → In r.name (names_of (assignment g))
+    rest : In r (touched_in_subscripts g.left.subscripts) ⊎ In r (touched_in g.right) → In r.name (names_of (assignment g))
     rest (inl j) =
         In-right r.name (names_of_guard g.guard) (names_in g.right ++ (g.left.name ∷ names_in_subscripts g.left.subscripts))
         (In-right r.name (names_in g.right) (g.left.name ∷ names_in_subscripts g.left.subscripts) (inr (left r j)))
@@ -88,16 +88,16 @@ reference_named g plain right left r (inr i) = by (In-append r (references_in_gu
         In-right r.name (names_of_guard g.guard) (names_in g.right ++ (g.left.name ∷ names_in_subscripts g.left.subscripts))
         (In-left r.name (names_in g.right) (g.left.name ∷ names_in_subscripts g.left.subscripts) (right r j))
 
-    by : In r (references_in_guard g.guard) ⊎ In r (references_in_subscripts g.left.subscripts ++ references_in g.right) → In r.name (names_of (assignment g))
+    by : In r (touched_in_guard g.guard) ⊎ In r (touched_in_subscripts g.left.subscripts ++ touched_in g.right) → In r.name (names_of (assignment g))
     by (inl j) = In-left r.name (names_of_guard g.guard) (names_in g.right ++ (g.left.name ∷ names_in_subscripts g.left.subscripts)) (condition g.guard plain j)
-    by (inr j) = rest (In-append r (references_in_subscripts g.left.subscripts) (references_in g.right) j)
+    by (inr j) = rest (In-append r (touched_in_subscripts g.left.subscripts) (touched_in g.right) j)
 
 -- ---- one statement
 
 module _ (es : List Declaration) (around : List (List ℕ)) (deepest : ℕ) (may : Place → Bool) (m : Nest) (h : IsPrepared es around deepest m) (can : MayBeSplit es may m) (before : HasElements m)
     (y : Standing) (f : IsFromStatement may m y) (guarded : ¬ (y.statement.guard ≡ None)) where
   abbrev vs : List (List ℕ)
-  vs = variables_of f.from.loops
+  vs = variables_from_outside f.from.loops
 
   abbrev allowed : ℕ → Bool
   allowed = may_in may (length m.symbols) f.from.loops (length f.pre)
@@ -114,14 +114,14 @@ module _ (es : List Declaration) (around : List (List ℕ)) (deepest : ℕ) (may
   pub guarded_before : ¬ (f.from.statement.guard ≡ None)
   guarded_before none =
       guarded (ap (λ (z : Standing). z.statement.guard) f.text.same
-      ∙ ap (option_map (made (canonising vs m.symbols))) (raw_guard vs allowed (element vs) f.from.statement m f.from.loops first f.text.raw f.text.is ∙ none))
+      ∙ ap (option_map (made (canonising vs m.symbols))) (raw_guard vs allowed (copy_element vs) f.from.statement m f.from.loops first f.text.raw f.text.is ∙ none))
 
   -- ---- names
 
   was : IsPreparedStatement es m deepest f.from
   was = all_in (IsPreparedStatement es m deepest) (nest_statements m) h.parts.statements f.from inside
 
-  known : (r : Reference) → In r (references_of f.from.statement) → IsKnown m r.name
+  known : (r : Reference) → In r (references_touched f.from.statement) → IsKnown m r.name
   known r i =
       can.known f.from inside r.name
       (reference_named f.from.statement was.plain.0 (λ z j. name_in f.from.statement.right was.plain.1 z j) (λ z j. name_in_subscripts f.from.statement.left.subscripts was.plain.2 z j) r i)
@@ -161,7 +161,7 @@ module _ (es : List Declaration) (around : List (List ℕ)) (deepest : ℕ) (may
 
   -- one that stood in the statement
   pub record IsOld (r : Reference) : Type 0 where
-    pub among : In r (references_of f.from.statement)
+    pub among : In r (references_touched f.from.statement)
     pub made : is_made m r.name ≡ true
     pub element : IsElementIn f.from.loops r
 
@@ -170,11 +170,11 @@ module _ (es : List Declaration) (around : List (List ℕ)) (deepest : ℕ) (may
     pub number : ℕ
     pub least : first ≤ number
     pub below : number < first + length rs
-    pub is : r ≡ element vs number
+    pub is : r ≡ copy_element vs number
 
-  module _ (r : Reference) (i : In r (references_of y.statement)) (e : is_made (with_arrays may m (made_arrays may m)) r.name ≡ true) where
+  module _ (r : Reference) (i : In r (references_touched y.statement)) (e : is_made (with_copy_arrays may m (made_arrays may m)) r.name ≡ true) where
     -- a reference of the statement by this name
-    old : (z : Reference) → In z (references_of f.from.statement) → z.name ≡ r.name → (is_made m z.name ≡ true) × IsElementIn f.from.loops z
+    old : (z : Reference) → In z (references_touched f.from.statement) → z.name ≡ r.name → (is_made m z.name ≡ true) × IsElementIn f.from.loops z
     old z j same =
         let c = made_named (m.made ++ made_arrays may m) r.name e in
         by c.0 (c.2 ∙ sym same) (In-append c.0 m.made (made_arrays may m) c.1)
@@ -183,38 +183,38 @@ module _ (es : List Declaration) (around : List (List ℕ)) (deepest : ℕ) (may
         by c is (inl k) = let t = named_made m.made c z.name k is in (t, before f.from inside guarded_before z j t)
         by c is (inr k) = absurd (no_copy z.name (known z j) c k is)
 
-    old_here : (z : Reference) → In z (references_of f.from.statement) → r.name ≡ z.name → (IsElementIn f.from.loops z → r.subscripts ≡ z.subscripts) → IsOld r
+    old_here : (z : Reference) → In z (references_touched f.from.statement) → r.name ≡ z.name → (IsElementIn f.from.loops z → r.subscripts ≡ z.subscripts) → IsOld r
     old_here z j name stay =
         let o = old z j (sym name) in
         let is : z ≡ r = ap₂ (λ x (qs : Subscripts). record { name = x; subscripts = qs }) (sym name) (sym (stay o.1)) in
         record {
-          among = subst (λ (x : Reference). In x (references_of f.from.statement)) is j;
+          among = subst (λ (x : Reference). In x (references_touched f.from.statement)) is j;
           made = subst (λ (x : Reference). is_made m x.name ≡ true) is o.0;
           element = subst (IsElementIn f.from.loops) is o.1;
         }
 
-    text : IsMadeOf vs m.symbols (references_of f.text.raw) r
-    text = of_text vs m.symbols f.text.raw r (subst (λ (z : Standing). In r (references_of z.statement)) f.text.same i)
+    text : IsMadeOf vs m.symbols (references_touched f.text.raw) r
+    text = of_text vs m.symbols f.text.raw r (subst (λ (z : Standing). In r (references_touched z.statement)) f.text.same i)
 
     pub which : IsOld r ⊎ IsNew r
-    which = by (raw_stood vs allowed (element vs) f.from.statement m f.from.loops first f.text.raw f.text.is text.first text.inside)
+    which = by (raw_stood vs allowed (copy_element vs) f.from.statement m f.from.loops first f.text.raw f.text.is text.first text.inside)
       where
         stay : (z : Reference) → IsElementIn f.from.loops z → made_subscripts (canonising vs m.symbols) z.subscripts ≡ z.subscripts
         stay z o = ap (made_subscripts (canonising vs m.symbols)) o.is ∙ (subscripts_stay vs m.symbols o.variables ∙ sym o.is)
 
-        split_stay : (z : Reference) (q c : ℕ) → IsElementIn f.from.loops z → split_in vs (but_whole vs allowed f.from.statement) (element vs) q c z.subscripts ≡ z.subscripts
+        split_stay : (z : Reference) (q c : ℕ) → IsElementIn f.from.loops z → split_in vs (but_whole vs allowed f.from.statement) (copy_element vs) q c z.subscripts ≡ z.subscripts
         split_stay z q c o =
-            ap (split_in vs (but_whole vs allowed f.from.statement) (element vs) q c) o.is
-            ∙ (variables_stay vs (but_whole vs allowed f.from.statement) (element vs) o.variables o.among q c ∙ sym o.is)
+            ap (split_in vs (but_whole vs allowed f.from.statement) (copy_element vs) q c) o.is
+            ∙ (variables_stay vs (but_whole vs allowed f.from.statement) (copy_element vs) o.variables o.among q c ∙ sym o.is)
 
-        by : StoodIn vs allowed (element vs) f.from.statement first text.first → IsOld r ⊎ IsNew r
+        by : StoodIn vs allowed (copy_element vs) f.from.statement first text.first → IsOld r ⊎ IsNew r
         by (inl j) = inl (old_here text.first j text.name (λ o. text.subscripts ∙ stay text.first o))
         by (inr (inl s)) =
             inl (old_here s.first s.inside (text.name ∙ s.name)
             (λ o. text.subscripts ∙ (ap (made_subscripts (canonising vs m.symbols)) (s.subscripts ∙ split_stay s.first s.place s.from o) ∙ stay s.first o)))
         by (inr (inr n)) = new n.among
           where
-            new : In text.first (references_in (Named (element vs n.number).name (element vs n.number).subscripts)) → IsOld r ⊎ IsNew r
+            new : In text.first (touched_in (Named (copy_element vs n.number).name (copy_element vs n.number).subscripts)) → IsOld r ⊎ IsNew r
             new (inl q) =
                 inr (record {
                   number = n.number;

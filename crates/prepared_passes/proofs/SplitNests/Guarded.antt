@@ -47,8 +47,8 @@ use Rattle.scalar_expand.specs.declared.privates.RoundLoop.{RoundLoop}
 use Rattle.tree.specs.Plain.{Expression, Only, Program, Reference, Section, Subscripts, no_subscripts, subscript}
 use Rattle.tree.specs.declared.ops.Fault.TheVariants.{Bounds}
 use Rattle.node_splitting.specs.Arrays.{array, copy_name, extents_over, texts_over}
-use Rattle.node_splitting.specs.Counts.{variables_of}
-use Rattle.node_splitting.specs.Split.{last_from, made_arrays, reads_at, with_arrays}
+use Rattle.node_splitting.specs.Counts.{variables_from_outside}
+use Rattle.node_splitting.specs.Split.{last_from, made_arrays, reads_at, with_copy_arrays}
 use Rattle.prepared_passes.specs.splitting.Elements.{HasElements, SplitNestHasGuardedNames}
 use Rattle.prepared_passes.specs.splitting.Splits.{MayBeSplit}
 use Rattle.prepared_passes.proofs.SplitNests.Elements.{IsNew, IsOld, guarded_before, which}
@@ -59,6 +59,7 @@ use Rattle.prepared_passes.proofs.SplitNests.Prepared.{whole_prepared}
 use Rattle.prepared_passes.proofs.SplitNests.Reading.{extents_there}
 use Rattle.prepared_passes.proofs.SplitNests.Standings.{comes_from}
 use Rattle.prepared_passes.proofs.SplitNests.Texts.{split_is}
+use Rattle.tree.specs.declared.width.Width.{Width}
 
 -- ---- lists
 
@@ -83,7 +84,7 @@ nth_parted (y ∷ pre) post x = nth_parted pre post x
 
 -- ---- two nests in which what is written has the same numbers
 
-module _ (n k : run_nests.Nest) (s t : ℕ) (same : (e : Expression) → k.linear s e ≡ n.linear t e) where
+module _ (n k : run_nests.RunNest) (s t : ℕ) (same : (e : Expression) → k.linear s e ≡ n.linear t e) where
   linear_over : (qs : Subscripts) → AreLinear n t qs → AreLinear k s qs
   linear_over no_subscripts h = tt
   linear_over (subscript (Only e) qs) h = (subst IsSome (sym (same e)) h.0, linear_over qs h.1)
@@ -103,20 +104,20 @@ module _ (n k : run_nests.Nest) (s t : ℕ) (same : (e : Expression) → k.linea
 
 -- ---- a guarded statement
 
-module _ (p : Program) (around : List (List ℕ)) (deepest : ℕ) (may : Place → Bool) (m : Nest) (u : State) (are : AreDeclarations p.declarations)
+module _ (width : Width) (p : Program) (around : List (List ℕ)) (deepest : ℕ) (may : Place → Bool) (m : Nest) (u : State) (are : AreDeclarations p.declarations)
     (h : IsPrepared p.declarations around deepest m) (can : MayBeSplit p.declarations may m) (room : extent_depth ≤ deepest) (elements : HasElements m)
-    (run : MayRun p (with_arrays may m (made_arrays may m)) u) where
+    (run : MayRun width p (with_copy_arrays may m (made_arrays may m)) u) where
   abbrev k : Nest
-  k = with_arrays may m (made_arrays may m)
+  k = with_copy_arrays may m (made_arrays may m)
 
   abbrev v : ℕ → ℤ
   v = run.values
 
-  prepared : IsPrepared p.declarations around (deepest + 19) (with_arrays may m (made_arrays may m))
+  prepared : IsPrepared p.declarations around (deepest + 19) (with_copy_arrays may m (made_arrays may m))
   prepared = whole_prepared p.declarations around deepest may m h can room
 
   -- without the copies the nest might be run there, too
-  abbrev run_before : MayRun p m u
+  abbrev run_before : MayRun width p m u
   run_before = record {
     going = run.going;
     holds = run.holds;
@@ -128,19 +129,19 @@ module _ (p : Program) (around : List (List ℕ)) (deepest : ℕ) (may : Place �
         (In-left a m.made (made_arrays may m) i)));
   }
 
-  same_loops : nest_loops (with_arrays may m (made_arrays may m)) ≡ nest_loops m
+  same_loops : nest_loops (with_copy_arrays may m (made_arrays may m)) ≡ nest_loops m
   same_loops = (has may m can.loop h.plain).loops
 
-  same_turns : turns_in (with_arrays may m (made_arrays may m)) run.values ≡ turns_in m run.values
+  same_turns : turns_in (with_copy_arrays may m (made_arrays may m)) run.values ≡ turns_in m run.values
   same_turns = ap (λ (os : List Loop). λ (l : ℕ) (before : List ℕ). turns_of_loop (loop_numbered os l) run.values before) same_loops
 
-  module _ (s : ℕ) (y : Standing) (there : nth_of (nest_statements (with_arrays may m (made_arrays may m))) s ≡ Some y)
-      (among : In y (nest_statements (with_arrays may m (made_arrays may m)))) (guarded : ¬ (y.statement.guard ≡ None)) (f : IsFromStatement may m y) where
+  module _ (s : ℕ) (y : Standing) (there : nth_of (nest_statements (with_copy_arrays may m (made_arrays may m))) s ≡ Some y)
+      (among : In y (nest_statements (with_copy_arrays may m (made_arrays may m)))) (guarded : ¬ (y.statement.guard ≡ None)) (f : IsFromStatement may m y) where
     abbrev ls : List Loop
     ls = f.from.loops
 
     abbrev vs : List (List ℕ)
-    vs = variables_of f.from.loops
+    vs = variables_from_outside f.from.loops
 
     abbrev rs : List Reference
     rs = reads_at may (length m.symbols) f.from.loops (length f.pre) f.from.statement
@@ -154,35 +155,35 @@ module _ (p : Program) (around : List (List ℕ)) (deepest : ℕ) (may : Place �
     was : nth_of (nest_statements m) (length f.pre) ≡ Some f.from
     was = ap (λ xs. nth_of xs (length f.pre)) f.parted ∙ nth_parted f.pre f.post f.from
 
-    rounds : rounds_of (nth_of (nest_statements (with_arrays may m (made_arrays may m))) s) ≡ rounds_of (nth_of (nest_statements m) (length f.pre))
+    rounds : rounds_of (nth_of (nest_statements (with_copy_arrays may m (made_arrays may m))) s) ≡ rounds_of (nth_of (nest_statements m) (length f.pre))
     rounds = ap rounds_of there ∙ (ap numbers_of loops_are ∙ sym (ap rounds_of was))
 
-    same_forms : (e : Expression) → (run_nest (with_arrays may m (made_arrays may m))).linear s e ≡ (run_nest m).linear (length f.pre) e
+    same_forms : (e : Expression) → (run_nest (with_copy_arrays may m (made_arrays may m))).linear s e ≡ (run_nest m).linear (length f.pre) e
     same_forms e =
         ap₂ (λ (os : List Loop) (ns : List ℕ). number_by m.symbols (form_of (map (λ n. variable_of_loop (loop_numbered os n)) ns) m.symbols e)) same_loops rounds
 
     -- the iterations of an instance
-    turns_now : (o : Instance) → IsInstance (run_nest (with_arrays may m (made_arrays may m))).loops_of ((run_nest (with_arrays may m (made_arrays may m))).turns_of run.values)
-        (run_nest (with_arrays may m (made_arrays may m))).shape o → o.statement ≡ s → Within (turns_in (with_arrays may m (made_arrays may m)) run.values) [] (numbers_of y.loops) o.iterations
+    turns_now : (o : Instance) → IsInstance (run_nest (with_copy_arrays may m (made_arrays may m))).loops_of ((run_nest (with_copy_arrays may m (made_arrays may m))).turns_of run.values)
+        (run_nest (with_copy_arrays may m (made_arrays may m))).shape o → o.statement ≡ s → Within (turns_in (with_copy_arrays may m (made_arrays may m)) run.values) [] (numbers_of y.loops) o.iterations
     turns_now o instance at =
-        subst (λ (ns : List ℕ). Within (turns_in (with_arrays may m (made_arrays may m)) run.values) [] ns o.iterations)
-        (ap (run_nest (with_arrays may m (made_arrays may m))).loops_of at ∙ ap rounds_of there) instance.1
+        subst (λ (ns : List ℕ). Within (turns_in (with_copy_arrays may m (made_arrays may m)) run.values) [] ns o.iterations)
+        (ap (run_nest (with_copy_arrays may m (made_arrays may m))).loops_of at ∙ ap rounds_of there) instance.1
 
     -- ---- what stood there before
 
     module _ (r : Reference) (old : IsOld p.declarations around deepest may m h can elements y f guarded r)
-        (names : HasGuardedNames m (setting_at run_before) (length f.pre)) where
-      cells : HasCells (run_nest m) (setting_at run_before) (length f.pre) r
-      cells = names.made r (subst (λ (g : runs.Guarded). In r (g.left ∷ references_read g)) (sym (ap guarded_of was)) old.among) old.made
+        (names : HasGuardedNames m (setting_at width run_before) (length f.pre)) where
+      cells : HasCells (run_nest m) (setting_at width run_before) (length f.pre) r
+      cells = names.made r (subst (λ (g : runs.GuardedAssignment). In r (g.left ∷ references_read g)) (sym (ap guarded_of was)) old.among) old.made
 
-      old_cell : (o : Instance) → IsInstance (run_nest (with_arrays may m (made_arrays may m))).loops_of ((run_nest (with_arrays may m (made_arrays may m))).turns_of run.values)
-          (run_nest (with_arrays may m (made_arrays may m))).shape o → o.statement ≡ s → NamesCell (run_nest (with_arrays may m (made_arrays may m))) (setting_at run) o r
+      old_cell : (o : Instance) → IsInstance (run_nest (with_copy_arrays may m (made_arrays may m))).loops_of ((run_nest (with_copy_arrays may m (made_arrays may m))).turns_of run.values)
+          (run_nest (with_copy_arrays may m (made_arrays may m))).shape o → o.statement ≡ s → NamesCell (run_nest (with_copy_arrays may m (made_arrays may m))) (setting_at width run) o r
       old_cell o instance at = record {
         cell = named.cell;
         may = record {
           name = named.may.name;
-          subscripts = subst (λ (i : ℕ). MayHaveEach (run_nest (with_arrays may m (made_arrays may m))) run.values i o.iterations r.subscripts named.cell.subscripts) (sym at)
-              (each_over (run_nest m) (run_nest (with_arrays may m (made_arrays may m))) s (length f.pre) same_forms run.values o.iterations r.subscripts named.cell.subscripts named.may.subscripts);
+          subscripts = subst (λ (i : ℕ). MayHaveEach (run_nest (with_copy_arrays may m (made_arrays may m))) run.values i o.iterations r.subscripts named.cell.subscripts) (sym at)
+              (each_over (run_nest m) (run_nest (with_copy_arrays may m (made_arrays may m))) s (length f.pre) same_forms run.values o.iterations r.subscripts named.cell.subscripts named.may.subscripts);
         };
         within = named.within;
       }
@@ -193,7 +194,7 @@ module _ (p : Program) (around : List (List ℕ)) (deepest : ℕ) (may : Place �
           turns : Within (turns_in m run.values) [] (numbers_of f.from.loops) o.iterations
           turns =
               subst (λ w. Within w [] (numbers_of f.from.loops) o.iterations) same_turns
-              (subst (λ (os : List Loop). Within (turns_in (with_arrays may m (made_arrays may m)) run.values) [] (numbers_of os) o.iterations) loops_are (turns_now o instance at))
+              (subst (λ (os : List Loop). Within (turns_in (with_copy_arrays may m (made_arrays may m)) run.values) [] (numbers_of os) o.iterations) loops_are (turns_now o instance at))
 
           stands : IsInstance (run_nest m).loops_of ((run_nest m).turns_of run.values) (run_nest m).shape (record { statement = length f.pre; iterations = o.iterations })
           stands = (
@@ -201,12 +202,12 @@ module _ (p : Program) (around : List (List ℕ)) (deepest : ℕ) (may : Place �
             subst (λ (ns : List ℕ). Within (turns_in m run.values) [] ns o.iterations) (sym (ap rounds_of was)) turns,
           )
 
-          named : NamesCell (run_nest m) (setting_at run_before) (record { statement = length f.pre; iterations = o.iterations }) r
+          named : NamesCell (run_nest m) (setting_at width run_before) (record { statement = length f.pre; iterations = o.iterations }) r
           named = cells.names (record { statement = length f.pre; iterations = o.iterations }) stands refl
 
-      old_cells : HasCells (run_nest (with_arrays may m (made_arrays may m))) (setting_at run) s r
+      old_cells : HasCells (run_nest (with_copy_arrays may m (made_arrays may m))) (setting_at width run) s r
       old_cells = record {
-        linear = linear_over (run_nest m) (run_nest (with_arrays may m (made_arrays may m))) s (length f.pre) same_forms r.subscripts cells.linear;
+        linear = linear_over (run_nest m) (run_nest (with_copy_arrays may m (made_arrays may m))) s (length f.pre) same_forms r.subscripts cells.linear;
         names = old_cell;
       }
 
@@ -242,7 +243,7 @@ module _ (p : Program) (around : List (List ℕ)) (deepest : ℕ) (may : Place �
           (array m f.from.loops new.number has_array.read) (In-right (array m f.from.loops new.number has_array.read) m.made (made_arrays may m) has_array.made)
 
       bounds : u.store.bounds (copy_name new.number) ≡ Some (limits_of (length m.symbols) run.values (pos 1) (over f.from.loops exts new.number))
-      bounds = limits_are p around deepest m h u.store run.holds run.values run.valued f.from.loops exts exts_are new.number has_bounds
+      bounds = limits_are width p around deepest m h u.store run.holds run.values run.valued f.from.loops exts exts_are new.number has_bounds
 
       variables_round : (os : List Loop) → map (λ (l : RoundLoop). l.variable) (map round_loop os) ≡ variables_of_loops os
       variables_round [] = refl
@@ -253,84 +254,84 @@ module _ (p : Program) (around : List (List ℕ)) (deepest : ℕ) (may : Place �
           subst (In l.variable) (variables_round f.from.loops ∙ ap variables_of_loops (sym loops_are))
           (map-In (λ (o : RoundLoop). o.variable) l (map round_loop f.from.loops) i)
 
-      module _ (o : Instance) (instance : IsInstance (run_nest (with_arrays may m (made_arrays may m))).loops_of ((run_nest (with_arrays may m (made_arrays may m))).turns_of run.values)
-          (run_nest (with_arrays may m (made_arrays may m))).shape o) (at : o.statement ≡ s) where
-        turns : Within (turns_in (with_arrays may m (made_arrays may m)) run.values) [] (numbers_of y.loops) o.iterations
+      module _ (o : Instance) (instance : IsInstance (run_nest (with_copy_arrays may m (made_arrays may m))).loops_of ((run_nest (with_copy_arrays may m (made_arrays may m))).turns_of run.values)
+          (run_nest (with_copy_arrays may m (made_arrays may m))).shape o) (at : o.statement ≡ s) where
+        turns : Within (turns_in (with_copy_arrays may m (made_arrays may m)) run.values) [] (numbers_of y.loops) o.iterations
         turns = turns_now o instance at
 
         covers : is_within (limits_of (length m.symbols) run.values (pos 1) (over f.from.loops exts new.number)) (numbers o.iterations) ≡ true
         covers =
-            covered p around deepest m h u.store run.holds run.values run.valued f.from.loops exts exts_are new.number o.iterations
+            covered width p around deepest m h u.store run.holds run.values run.valued f.from.loops exts exts_are new.number o.iterations
             (subst (λ (os : List Loop). AreTurns (trip_at (length m.symbols) run.values) [] os o.iterations) loops_are
-            (at_turns p.declarations around (deepest + 19) (with_arrays may m (made_arrays may m)) prepared run.values s y there among o.iterations turns))
+            (at_turns p.declarations around (deepest + 19) (with_copy_arrays may m (made_arrays may m)) prepared run.values s y there among o.iterations turns))
 
-        here : Pairs (Here (run_nest (with_arrays may m (made_arrays may m))) run.values s o.iterations) (map (λ (l : RoundLoop). l.variable) (map round_loop f.from.loops)) o.iterations
+        here : Pairs (Here (run_nest (with_copy_arrays may m (made_arrays may m))) run.values s o.iterations) (map (λ (l : RoundLoop). l.variable) (map round_loop f.from.loops)) o.iterations
         here =
-            subst (λ (ys : List (List ℕ)). Pairs (Here (run_nest (with_arrays may m (made_arrays may m))) run.values s o.iterations) ys o.iterations)
+            subst (λ (ys : List (List ℕ)). Pairs (Here (run_nest (with_copy_arrays may m (made_arrays may m))) run.values s o.iterations) ys o.iterations)
             (ap variables_of_loops loops_are ∙ sym (variables_round f.from.loops))
-            (each_here p.declarations around (deepest + 19) (with_arrays may m (made_arrays may m)) prepared run.values s y there among o.iterations turns)
+            (each_here p.declarations around (deepest + 19) (with_copy_arrays may m (made_arrays may m)) prepared run.values s y there among o.iterations turns)
 
-        new_cell : NamesCell (run_nest (with_arrays may m (made_arrays may m))) (setting_at run) o (expanded.element (over f.from.loops exts new.number))
+        new_cell : NamesCell (run_nest (with_copy_arrays may m (made_arrays may m))) (setting_at width run) o (expanded.element (over f.from.loops exts new.number))
         new_cell = record {
           cell = element_cell (over f.from.loops exts new.number) o.iterations;
           may = record {
             name = refl;
-            subscripts = subst (λ (i : ℕ). MayHaveEach (run_nest (with_arrays may m (made_arrays may m))) run.values i o.iterations
+            subscripts = subst (λ (i : ℕ). MayHaveEach (run_nest (with_copy_arrays may m (made_arrays may m))) run.values i o.iterations
                 (expanded.element (over f.from.loops exts new.number)).subscripts (numbers o.iterations)) (sym at)
-                (has_each (run_nest (with_arrays may m (made_arrays may m))) run.values s o.iterations (map round_loop f.from.loops) o.iterations here);
+                (has_each (run_nest (with_copy_arrays may m (made_arrays may m))) run.values s o.iterations (map round_loop f.from.loops) o.iterations here);
           };
           within =
               ap (λ (b : Option (List (ℤ × ℤ))). cell_in b (copy_name new.number) (numbers o.iterations)) bounds
               ∙ ap (λ (t : Bool). cond t (Ok (element_cell (over f.from.loops exts new.number) o.iterations)) (Err Bounds)) covers;
         }
 
-      new_cells : HasCells (run_nest (with_arrays may m (made_arrays may m))) (setting_at run) s r
+      new_cells : HasCells (run_nest (with_copy_arrays may m (made_arrays may m))) (setting_at width run) s r
       new_cells =
-          subst (HasCells (run_nest (with_arrays may m (made_arrays may m))) (setting_at run) s) (element_is f.from.loops exts new.number ∙ sym new.is) (record {
-            linear = are_linear (run_nest (with_arrays may m (made_arrays may m))) s (map round_loop f.from.loops)
-                (λ l i. linear_variable p.declarations around (deepest + 19) (with_arrays may m (made_arrays may m)) prepared run.values s y there among l.variable (variable_there l i));
+          subst (HasCells (run_nest (with_copy_arrays may m (made_arrays may m))) (setting_at width run) s) (element_is f.from.loops exts new.number ∙ sym new.is) (record {
+            linear = are_linear (run_nest (with_copy_arrays may m (made_arrays may m))) s (map round_loop f.from.loops)
+                (λ l i. linear_variable p.declarations around (deepest + 19) (with_copy_arrays may m (made_arrays may m)) prepared run.values s y there among l.variable (variable_there l i));
             names = new_cell;
           })
 
   -- ---- whichever it is
 
-  module _ (before : HaveGuardedNames m (setting_at run_before)) (s : ℕ) (less : s < length (nest_statements (with_arrays may m (made_arrays may m))))
-      (guarded : ¬ ((standing_at (with_arrays may m (made_arrays may m)) s).statement.guard ≡ None)) where
+  module _ (before : HaveGuardedNames m (setting_at width run_before)) (s : ℕ) (less : s < length (nest_statements (with_copy_arrays may m (made_arrays may m))))
+      (guarded : ¬ ((standing_at (with_copy_arrays may m (made_arrays may m)) s).statement.guard ≡ None)) where
     abbrev stands_here : Standing
-    stands_here = standing_at (with_arrays may m (made_arrays may m)) s
+    stands_here = standing_at (with_copy_arrays may m (made_arrays may m)) s
 
-    there : nth_of (nest_statements (with_arrays may m (made_arrays may m))) s ≡ Some (standing_at (with_arrays may m (made_arrays may m)) s)
-    there = nth_at (nest_statements (with_arrays may m (made_arrays may m))) s no_statement less
+    there : nth_of (nest_statements (with_copy_arrays may m (made_arrays may m))) s ≡ Some (standing_at (with_copy_arrays may m (made_arrays may m)) s)
+    there = nth_at (nest_statements (with_copy_arrays may m (made_arrays may m))) s no_statement less
 
-    among : In (standing_at (with_arrays may m (made_arrays may m)) s) (nest_statements (with_arrays may m (made_arrays may m)))
-    among = at_in (nest_statements (with_arrays may m (made_arrays may m))) s no_statement less
+    among : In (standing_at (with_copy_arrays may m (made_arrays may m)) s) (nest_statements (with_copy_arrays may m (made_arrays may m)))
+    among = at_in (nest_statements (with_copy_arrays may m (made_arrays may m))) s no_statement less
 
-    from : IsFromStatement may m (standing_at (with_arrays may m (made_arrays may m)) s)
+    from : IsFromStatement may m (standing_at (with_copy_arrays may m (made_arrays may m)) s)
     from =
-        from_statement may m (standing_at (with_arrays may m (made_arrays may m)) s)
-        (comes_from (each may m) 0 (nest_statements m) (standing_at (with_arrays may m (made_arrays may m)) s)
-        (subst (λ (zs : List Standing). In (standing_at (with_arrays may m (made_arrays may m)) s) zs) (has may m can.loop h.plain).statements among))
+        from_statement may m (standing_at (with_copy_arrays may m (made_arrays may m)) s)
+        (comes_from (each may m) 0 (nest_statements m) (standing_at (with_copy_arrays may m (made_arrays may m)) s)
+        (subst (λ (zs : List Standing). In (standing_at (with_copy_arrays may m (made_arrays may m)) s) zs) (has may m can.loop h.plain).statements among))
 
-    names : HasGuardedNames m (setting_at run_before) (length from.pre)
+    names : HasGuardedNames m (setting_at width run_before) (length from.pre)
     names =
         let q = at_place (nest_statements m) (length from.pre) from.from no_statement (was s stands_here there among guarded from) in
         before (length from.pre) q.0
         (λ none. guarded_before p.declarations around deepest may m h can elements stands_here from guarded (sym (ap (λ (z : Standing). z.statement.guard) q.1) ∙ none))
 
-    names_now : HasGuardedNames (with_arrays may m (made_arrays may m)) (setting_at run) s
+    names_now : HasGuardedNames (with_copy_arrays may m (made_arrays may m)) (setting_at width run) s
     names_now = record {
       declared = names.declared;
       made = λ r i e. by r (which p.declarations around deepest may m h can elements stands_here from guarded r
-          (subst (λ (g : runs.Guarded). In r (g.left ∷ references_read g)) (ap guarded_of there) i) e);
+          (subst (λ (g : runs.GuardedAssignment). In r (g.left ∷ references_read g)) (ap guarded_of there) i) e);
     }
       where
         by : (r : Reference) → IsOld p.declarations around deepest may m h can elements stands_here from guarded r ⊎ IsNew p.declarations around deepest may m h can elements stands_here from guarded r
-            → HasCells (run_nest (with_arrays may m (made_arrays may m))) (setting_at run) s r
+            → HasCells (run_nest (with_copy_arrays may m (made_arrays may m))) (setting_at width run) s r
         by r (inl o) = old_cells s stands_here there among guarded from r o names
         by r (inr n) = new_cells s stands_here there among guarded from r n
 
-pub split_nest_has_guarded_names : SplitNestHasGuardedNames
-split_nest_has_guarded_names p around deepest may m k u are h can room split elements before run sized =
-    subst (λ (z : Nest). (w : MayRun p z u) → HaveGuardedNames z (setting_at w)) (sym (split_is may m k split))
+pub split_nest_has_guarded_names : (width : Width) → SplitNestHasGuardedNames width
+split_nest_has_guarded_names width p around deepest may m k u are h can room split elements before run sized =
+    subst (λ (z : Nest). (w : MayRun width p z u) → HaveGuardedNames z (setting_at width w)) (sym (split_is may m k split))
     (λ w s less guarded.
-    names_now p around deepest may m u are h can room elements w (before (run_before p around deepest may m u are h can room elements w)) s less guarded) run
+    names_now width p around deepest may m u are h can room elements w (before (run_before width p around deepest may m u are h can room elements w)) s less guarded) run

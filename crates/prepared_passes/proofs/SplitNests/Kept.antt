@@ -15,10 +15,10 @@ use Rattle.statement_passes.proofs.Standings.{mapped_nest_has}
 use Rattle.statement_passes.specs.Passes.{mapped_body, mapped_nest}
 use Rattle.statement_passes.specs.Standings.{IsLoop, IsMappedFrom}
 use Rattle.tree.specs.Plain.{Block, Reference}
-use Rattle.node_splitting.specs.Arrays.{arrays, array, element}
-use Rattle.node_splitting.specs.Counts.{variables_of}
+use Rattle.node_splitting.specs.Arrays.{arrays, array, copy_element}
+use Rattle.node_splitting.specs.Counts.{variables_from_outside}
 use Rattle.node_splitting.specs.Reads.{split_statement, with_copies}
-use Rattle.node_splitting.specs.Split.{arrays_from, canonised, each_split, firsts, firsts_from, if_copied, last_from, made_arrays, may_in, reads_at, with_arrays, with_nodes_split}
+use Rattle.node_splitting.specs.Split.{arrays_from, in_canonical_text, each_split, firsts, firsts_from, if_copied, last_from, made_arrays, may_in, reads_at, with_copy_arrays, with_nodes_split}
 use Rattle.prepared_passes.specs.splitting.Kept.{IsSplitFrom, SplitNestKeepsLoops, SplitNestKeepsRest, SplitsWithAnythingBehind}
 use Rattle.prepared_passes.specs.splitting.Splits.{IsCopyName}
 use Rattle.prepared_passes.proofs.SplitNests.Places.{array_there, first_is, last_is, same_length}
@@ -41,20 +41,20 @@ module _ (may : Place → Bool) (m : Nest) where
   -- a statement of the split nest as it was before its text became canonical
   pub record IsTextOf (pre : List Standing) (from : Standing) (x : Standing) : Type 0 where
     pub raw : Guarded
-    pub same : x ≡ record { loops = from.loops; statement = canonised m.symbols from.loops raw }
-    pub is : IsCopy m from.loops (element (variables_of from.loops)) from.statement (last_from may m 0 m.copies pre) (reads_at may (length m.symbols) from.loops (length pre) from.statement) raw
-        ⊎ (raw ≡ split_statement (variables_of from.loops) (may_in may (length m.symbols) from.loops (length pre)) from.statement (element (variables_of from.loops)) (last_from may m 0 m.copies pre))
+    pub same : x ≡ record { loops = from.loops; statement = in_canonical_text m.symbols from.loops raw }
+    pub is : IsCopy m from.loops (copy_element (variables_from_outside from.loops)) from.statement (last_from may m 0 m.copies pre) (reads_at may (length m.symbols) from.loops (length pre) from.statement) raw
+        ⊎ (raw ≡ split_statement (variables_from_outside from.loops) (may_in may (length m.symbols) from.loops (length pre)) from.statement (copy_element (variables_from_outside from.loops)) (last_from may m 0 m.copies pre))
 
   text_of : (pre post : List Standing) (from x : Standing) (c : ℕ) → slice_index_or (firsts may m) (length pre) 0 ≡ c → c ≡ last_from may m 0 m.copies pre
       → (g : Guarded) → In g (each from.loops (length pre) from.statement) → x ≡ record { loops = from.loops; statement = g } → IsTextOf pre from x
   text_of pre post from x c e f g i same =
-      let o = In-map (canonised m.symbols from.loops) g
-      (with_copies (variables_of from.loops) (may_in may (length m.symbols) from.loops (length pre)) (element (variables_of from.loops)) (slice_index_or (firsts may m) (length pre) 0) from.statement) i in
-      let there = subst (λ z. In o.it (with_copies (variables_of from.loops) (may_in may (length m.symbols) from.loops (length pre)) (element (variables_of from.loops)) z from.statement)) (e ∙ f) o.inside in
+      let o = In-map (in_canonical_text m.symbols from.loops) g
+      (with_copies (variables_from_outside from.loops) (may_in may (length m.symbols) from.loops (length pre)) (copy_element (variables_from_outside from.loops)) (slice_index_or (firsts may m) (length pre) 0) from.statement) i in
+      let there = subst (λ z. In o.it (with_copies (variables_from_outside from.loops) (may_in may (length m.symbols) from.loops (length pre)) (copy_element (variables_from_outside from.loops)) z from.statement)) (e ∙ f) o.inside in
       record {
         raw = o.it;
         same = same ∙ ap (λ (z : Guarded). record { loops = from.loops; statement = z }) o.is;
-        is = copy_or_statement m from.loops (element (variables_of from.loops)) from.statement (variables_of from.loops) (may_in may (length m.symbols) from.loops (length pre)) (last_from may m 0 m.copies pre) o.it there;
+        is = copy_or_statement m from.loops (copy_element (variables_from_outside from.loops)) from.statement (variables_from_outside from.loops) (may_in may (length m.symbols) from.loops (length pre)) (last_from may m 0 m.copies pre) o.it there;
       }
 
   -- a statement of the split nest
@@ -96,8 +96,8 @@ module _ (may : Place → Bool) (m : Nest) where
       inside : In f.from (nest_statements m)
       inside = subst (λ (zs : List Standing). In f.from zs) (sym f.parted) (In-right f.from f.pre (f.from ∷ f.post) (inl refl))
 
-      by : IsCopy m f.from.loops (element (variables_of f.from.loops)) f.from.statement (last_from may m 0 m.copies f.pre) (reads_at may (length m.symbols) f.from.loops (length f.pre) f.from.statement) f.text.raw
-          ⊎ (f.text.raw ≡ split_statement (variables_of f.from.loops) (may_in may (length m.symbols) f.from.loops (length f.pre)) f.from.statement (element (variables_of f.from.loops)) (last_from may m 0 m.copies f.pre))
+      by : IsCopy m f.from.loops (copy_element (variables_from_outside f.from.loops)) f.from.statement (last_from may m 0 m.copies f.pre) (reads_at may (length m.symbols) f.from.loops (length f.pre) f.from.statement) f.text.raw
+          ⊎ (f.text.raw ≡ split_statement (variables_from_outside f.from.loops) (may_in may (length m.symbols) f.from.loops (length f.pre)) f.from.statement (copy_element (variables_from_outside f.from.loops)) (last_from may m 0 m.copies f.pre))
           → IsTarget x
       by (inl c) = inl (
         array m f.from.loops c.number c.read,
@@ -106,7 +106,7 @@ module _ (may : Place → Bool) (m : Nest) where
       )
       by (inr e) = inr (f.from, inside, ap (λ (g : Guarded). g.left.name) (sym e) ∙ ap (λ (z : Standing). z.statement.left.name) (sym f.text.same))
 
-  kept : IsLoop m.body → IsPlain m.body → IsSplitFrom may m (with_arrays may m (made_arrays may m))
+  kept : IsLoop m.body → IsPlain m.body → IsSplitFrom may m (with_copy_arrays may m (made_arrays may m))
   kept loop plain = record {
     rest = refl;
     made = refl;

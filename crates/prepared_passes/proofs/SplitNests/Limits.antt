@@ -14,6 +14,7 @@ use Rattle.last_values.specs.normal_forms.Steps as steps
 use Rattle.linear_forms.specs.Expressed.{variable as named_variable}
 use Rattle.linear_forms.specs.Linear.{HaveValues}
 use Rattle.meaning.specs.Dialect.{fortran77}
+use Rattle.tree.specs.declared.width.Width.{Width}
 use Rattle.meaning.specs.Holding.{HoldsProgram}
 use Rattle.meaning.specs.Store.{Store, cell_in, is_within}
 use Rattle.meaning.specs.Typed.{declared}
@@ -43,7 +44,7 @@ use Rattle.prepared_passes.specs.expansion.Laws.{value_among}
 use Rattle.rewrite.specs.Following.{sequential}
 use Rattle.scalar_expand.proofs.Covers.{extents_cover, extents_found}
 use Rattle.scalar_expand.specs.Expanded as expanded
-use Rattle.scalar_expand.specs.Extents.{extents_of}
+use Rattle.scalar_expand.specs.Extents.{extents_of_trips}
 use Rattle.scalar_expand.specs.Flow.{AreTurns}
 use Rattle.scalar_expand.specs.Numbers.{from_place, limits_of, numbers_under, trip_at}
 use Rattle.scalar_expand.specs.Privates.{round_loop, trip_or_none}
@@ -51,18 +52,18 @@ use Rattle.scalar_expand.specs.Privates as privates
 use Rattle.scalar_expand.specs.Stores.{AreTurned, element_cell, numbers}
 use Rattle.scalar_expand.specs.Texts.{extent_texts}
 use Rattle.scalar_expand.specs.declared.privates.Private.{Private}
-use Rattle.node_splitting.specs.Arrays.{copy_name, element, extents_over, texts_over, trips_of, variable, with_trip}
+use Rattle.node_splitting.specs.Arrays.{copy_name, copy_element, extents_over, texts_over, trips_if_all, variable_subscript, with_trip}
 use Rattle.scalar_expand.specs.declared.privates.RoundLoop.{RoundLoop}
 use Rattle.prepared_passes.proofs.SplitNests.Cells.{element_place}
 
 -- ---- trips
 
-pub trips_are : (ls : List Loop) (ts : List Trip) → trips_of ls ≡ Some ts → privates.trips_of (map round_loop ls) ≡ ts
+pub trips_are : (ls : List Loop) (ts : List Trip) → trips_if_all ls ≡ Some ts → privates.trips_of (map round_loop ls) ≡ ts
 trips_are [] ts e = let same : [] ≡ ts = cc in same
-trips_are (l ∷ ls) ts e = by (λ us g. trips_are ls us g) l.trip (trips_of ls) refl refl e
+trips_are (l ∷ ls) ts e = by (λ us g. trips_are ls us g) l.trip (trips_if_all ls) refl refl e
   where
-    by : ((us : List Trip) → trips_of ls ≡ Some us → privates.trips_of (map round_loop ls) ≡ us)
-        → (o : Option Trip) (p : Option (List Trip)) → l.trip ≡ o → trips_of ls ≡ p → with_trip o p ≡ Some ts → privates.trips_of (map round_loop (l ∷ ls)) ≡ ts
+    by : ((us : List Trip) → trips_if_all ls ≡ Some us → privates.trips_of (map round_loop ls) ≡ us)
+        → (o : Option Trip) (p : Option (List Trip)) → l.trip ≡ o → trips_if_all ls ≡ p → with_trip o p ≡ Some ts → privates.trips_of (map round_loop (l ∷ ls)) ≡ ts
     by q None p f g h = cc
     by q (Some t) None f g h = cc
     by q (Some t) (Some us) f g h =
@@ -70,12 +71,12 @@ trips_are (l ∷ ls) ts e = by (λ us g. trips_are ls us g) l.trip (trips_of ls)
         ap₂ (λ (x : Trip) (xs : List Trip). x ∷ xs) (ap trip_or_none f) (q us g) ∙ same
 
 -- where the loops have extents
-pub extents_are : (n : ℕ) (ls : List Loop) (es : List Trip) → extents_over n ls ≡ Some es → extents_of n (privates.trips_of (map round_loop ls)) ≡ Some es
-extents_are n ls es e = by (trips_of ls) refl e
+pub extents_are : (n : ℕ) (ls : List Loop) (es : List Trip) → extents_over n ls ≡ Some es → extents_of_trips n (privates.trips_of (map round_loop ls)) ≡ Some es
+extents_are n ls es e = by (trips_if_all ls) refl e
   where
-    by : (o : Option (List Trip)) → trips_of ls ≡ o → steps.◌>>=◌ o (extents_of n) ≡ Some es → extents_of n (privates.trips_of (map round_loop ls)) ≡ Some es
+    by : (o : Option (List Trip)) → trips_if_all ls ≡ o → steps.◌>>=◌ o (extents_of_trips n) ≡ Some es → extents_of_trips n (privates.trips_of (map round_loop ls)) ≡ Some es
     by None f g = cc
-    by (Some ts) f g = ap (extents_of n) (trips_are ls ts f) ∙ g
+    by (Some ts) f g = ap (extents_of_trips n) (trips_are ls ts f) ∙ g
 
 -- the array of a copy, as one over these loops
 abbrev pub over : List Loop → List Trip → ℕ → Private
@@ -92,11 +93,11 @@ few_extents n ls es e =
 
 -- ---- elements
 
-pub same_variables : (ls : List Loop) → map expanded.variable (map round_loop ls) ≡ map variable (variables_of_loops ls)
+pub same_variables : (ls : List Loop) → map expanded.loop_subscript (map round_loop ls) ≡ map variable_subscript (variables_of_loops ls)
 same_variables [] = refl
-same_variables (l ∷ ls) = ap (λ (ss : List Subscript). variable l.variable ∷ ss) (same_variables ls)
+same_variables (l ∷ ls) = ap (λ (ss : List Subscript). variable_subscript l.variable ∷ ss) (same_variables ls)
 
-pub element_is : (ls : List Loop) (es : List Trip) (j : ℕ) → expanded.element (over ls es j) ≡ element (variables_of_loops ls) j
+pub element_is : (ls : List Loop) (es : List Trip) (j : ℕ) → expanded.element (over ls es j) ≡ copy_element (variables_of_loops ls) j
 element_is ls es j = ap (λ (ss : List Subscript). record { name = copy_name j; subscripts = subscripts (reverse ss) }) (same_variables ls)
 
 pub turned : (ls : List Loop) (is : List ℕ) (u : Store) → ((o : Loop) → In o ls → u.bounds o.variable ≡ Some []) → Hold ls is u → AreTurned (map round_loop ls) is u
@@ -111,7 +112,7 @@ abbrev at_most : Option (List ℕ) → ℤ → ℤ
 at_most None z = pos 0
 at_most (Some y) z = z
 
-module _ (p : Program) (around : List (List ℕ)) (deepest : ℕ) (m : Nest) (h : IsPrepared p.declarations around deepest m) (s : Store) (holds : HoldsProgram fortran77 p s)
+module _ (width : Width) (p : Program) (around : List (List ℕ)) (deepest : ℕ) (m : Nest) (h : IsPrepared p.declarations around deepest m) (s : Store) (holds : HoldsProgram (fortran77 width) p s)
     (v : ℕ → ℤ) (valued : (k : ℕ) (y : List ℕ) → nth_of m.symbols k ≡ Some y → s.held (variable_cell y) ≡ Int (v k)) where
   pub symbol_bounds : (y : List ℕ) → In y m.symbols → s.bounds y ≡ Some []
   symbol_bounds y i =
@@ -132,17 +133,17 @@ module _ (p : Program) (around : List (List ℕ)) (deepest : ℕ) (m : Nest) (h 
         let f = extents_found (length m.symbols) v (privates.trips_of (map round_loop ls)) es (extents_are (length m.symbols) ls es are) in
         extents_known (length m.symbols) [] (privates.trips_of (map round_loop ls)) es f.divisors f.under tt
 
-    said : (k : ℕ) (y : List ℕ) → slice_get m.symbols k ≡ Some y → Says fortran77 s (named_variable y) (at_most (slice_get m.symbols k) (v k))
+    said : (k : ℕ) (y : List ℕ) → slice_get m.symbols k ≡ Some y → Says (fortran77 width) s (named_variable y) (at_most (slice_get m.symbols k) (v k))
     said k y e r f =
         let at = place_of m.symbols k y e in
-        let there : value_of fortran77 (named_variable y) s ≡ Ok (Int (v k))
+        let there : value_of (fortran77 width) (named_variable y) s ≡ Ok (Int (v k))
         = ap (λ (o : Option (List (ℤ × ℤ))). do c ← cell_in o y []; Ok (s.held c)) (symbol_bounds y (in_place m.symbols k y at))
         ∙ ap (λ (w : Value). let r : Result Value Fault = Ok w in r) (valued k y at) in
         sym (ok_same {F = Fault} (Int (v k)) r (sym there ∙ f)) ∙ ap (λ (o : Option (List ℕ)). Int (at_most o (v k))) (sym e)
 
-    told : Tell fortran77 s (extent_texts m.symbols es) (numbers_under (length m.symbols) v [] es)
+    told : Tell (fortran77 width) s (extent_texts m.symbols es) (numbers_under (length m.symbols) v [] es)
     told =
-        texts_tell fortran77 s m.symbols (λ k. at_most (slice_get m.symbols k) (v k)) said
+        texts_tell (fortran77 width) s m.symbols (λ k. at_most (slice_get m.symbols k) (v k)) said
         (λ k e. ap (λ (o : Option (List ℕ)). at_most o (v k)) e) v there es [] [] known tt (let most = (few_extents (length m.symbols) ls es are).0 in omega (arith, most))
       where
         there : (k : ℕ) → k < length m.symbols → at_most (slice_get m.symbols k) (v k) ≡ v k
@@ -161,8 +162,8 @@ module _ (p : Program) (around : List (List ℕ)) (deepest : ℕ) (m : Nest) (h 
         by q =
             q.is
             ∙ ap (λ (bs : List (ℤ × ℤ)). Some bs)
-            (bounds_said s m.symbols v have_values (length m.symbols) v (reverse (extent_texts m.symbols es)) (reverse (numbers_under (length m.symbols) v [] es)) q.value q.has
-            (tell_onto s (extent_texts m.symbols es) (numbers_under (length m.symbols) v [] es) [] [] told tt)
+            (bounds_said width s m.symbols v have_values (length m.symbols) v (reverse (extent_texts m.symbols es)) (reverse (numbers_under (length m.symbols) v [] es)) q.value q.has
+            (tell_onto width s (extent_texts m.symbols es) (numbers_under (length m.symbols) v [] es) [] [] told tt)
             ∙ map_reverse (from_place (length m.symbols) v (pos 1)) (numbers_under (length m.symbols) v [] es))
 
     pub covered : (j : ℕ) (is : List ℕ) → AreTurns (trip_at (length m.symbols) v) [] ls is → is_within (limits_of (length m.symbols) v (pos 1) (over ls es j)) (numbers is) ≡ true
@@ -172,7 +173,7 @@ module _ (p : Program) (around : List (List ℕ)) (deepest : ℕ) (m : Nest) (h 
     pub cell_there : (bits j : ℕ) (is : List ℕ) (u : Store) → u.bounds (copy_name j) ≡ s.bounds (copy_name j)
         → IsSomeAnd (s.bounds (copy_name j)) (AreBoundsBy m.symbols v (texts_over m.symbols (extents_over (length m.symbols) ls)))
         → AreTurns (trip_at (length m.symbols) v) [] ls is → ((o : Loop) → In o ls → u.bounds o.variable ≡ Some []) → Hold ls is u
-        → cell_named (sequential bits) (element (variables_of_loops ls) j) u ≡ Ok (element_cell (over ls es j) is)
+        → cell_named (sequential bits) (copy_element (variables_of_loops ls) j) u ≡ Ok (element_cell (over ls es j) is)
     cell_there bits j is u same made t b hold =
         subst (λ r. cell_named (sequential bits) r u ≡ Ok (element_cell (over ls es j) is)) (element_is ls es j)
         (element_place bits u (over ls es j) is (limits_of (length m.symbols) v (pos 1) (over ls es j)) (turned ls is u b hold) (same ∙ limits_are j made) (covered j is t))

@@ -5,7 +5,7 @@ use Rattle.std.proofs.lemmas.List.{append_cancel_left}
 use Rattle.std.specs.Prelude.{codes, decimal, slice_index_or}
 use Rattle.if_convert.specs.Masks.{mask_name}
 use Rattle.last_values.specs.normal_forms.NormalLoops.{counter_name}
-use Rattle.scalar_expand.specs.Privates.{array_name, number_behind}
+use Rattle.scalar_expand.specs.Privates.{expanded_name, number_behind}
 use Rattle.scalar_rename.specs.Ranges.{range_name}
 use Rattle.tree.specs.Names.{IsSourceName}
 use Rattle.prepared_passes.proofs.ExpandedNests.Names.{source_is}
@@ -31,10 +31,10 @@ copy_no_counter i k e = let at : 67 ≡ 76 = ap (λ (y : List ℕ). slice_index_
 copy_no_mask : (i k : ℕ) → ¬ (copy_name i ≡ mask_name k)
 copy_no_mask i k e = let at : 67 ≡ 77 = ap (λ (y : List ℕ). slice_index_or y 3 0) e in absurd (omega (arith, at))
 
-full_name : (n : ℕ) (x : List ℕ) → IsSourceName x → array_name n x ≡ (codes "FV_EXP_" ++ x) ++ number_behind n
+full_name : (n : ℕ) (x : List ℕ) → IsSourceName x → expanded_name n x ≡ (codes "FV_EXP_" ++ x) ++ number_behind n
 full_name n x s = ap (λ b. cond b ((codes "FV_EXP_" ++ x) ++ number_behind n) x) (source_is x s)
 
-copy_no_array : (i n : ℕ) (x : List ℕ) → IsSourceName x → ¬ (copy_name i ≡ array_name n x)
+copy_no_array : (i n : ℕ) (x : List ℕ) → IsSourceName x → ¬ (copy_name i ≡ expanded_name n x)
 copy_no_array i n x s e = let at : 67 ≡ 69 = ap (λ (y : List ℕ). slice_index_or y 3 0) (e ∙ full_name n x s) in absurd (omega (arith, at))
 
 copy_no_range : (i n j : ℕ) (x : List ℕ) → ¬ (copy_name i ≡ range_name n x j)

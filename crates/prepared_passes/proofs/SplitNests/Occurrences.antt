@@ -4,14 +4,14 @@ use Rattle.std.proofs.Common.{◌≡◌, ◌⊎◌, inl, inr, refl, ap, ◌∙�
 use Rattle.nest.specs.Plain.{Guarded, Loop, Nest}
 use Rattle.nest_order.proofs.orders.Lists.{In-append, In-left, In-right}
 use Rattle.nest_order.specs.orders.Lists.{In}
-use Rattle.nest_order.specs.runs.Touched.{references_in, references_in_each, references_in_guard, references_in_subscripts}
-use Rattle.prepared_passes.specs.expansion.Left.{references_of}
+use Rattle.nest_order.specs.runs.Touched.{touched_in, references_in_each, touched_in_guard, touched_in_subscripts}
+use Rattle.prepared_passes.specs.expansion.Left.{references_touched}
 use Rattle.tree.specs.Plain.{Apply, Binary, Constructor, Expression, Expressions, Logic, Named, Number, Only, Reduce, Reference}
 use Rattle.tree.specs.Plain.{Reshape, Section, Spread, Subscript, Subscripts, Transpose, Unary, expression, no_expressions}
 use Rattle.tree.specs.Plain.{no_subscripts, subscript, subscripts}
-use Rattle.node_splitting.specs.Arrays.{variable}
+use Rattle.node_splitting.specs.Arrays.{variable_subscript}
 use Rattle.node_splitting.specs.Counts.{count, count_subscript, first_in_left, first_in_right}
-use Rattle.node_splitting.specs.Reads.{as_expression, behind, but_whole, copied, is_copied, itself_or, read_or, reads_in, reads_in_left, reads_in_right, reads_in_statement, reads_of, reads_of_all, reads_of_subscript, split_in, split_of, split_of_all, split_statement}
+use Rattle.node_splitting.specs.Reads.{read_as_expression, behind, but_whole, read_copied, is_copied, itself_or, read_or, reads_in, reads_in_left, reads_in_right, reads_in_statement, reads_of, reads_of_all, reads_of_subscript, split_in, split_of, split_of_all, split_statement}
 use Rattle.prepared_passes.proofs.SplitNests.Reading.{Passes, all_read, all_read_in, among_true}
 use Rattle.prepared_passes.proofs.SplitNests.Standings.{IsCopy}
 
@@ -27,31 +27,31 @@ module _ (loops : List (List ℕ)) (may : ℕ → Bool) (element : ℕ → Refer
   abbrev HasNone : List Subscript → Type 0
   HasNone ss = (q : ℕ) → reads_in loops may q (subscripts ss) ≡ []
 
-  stays_onto : (vs : List (List ℕ)) (ss : List Subscript) → ((v : List ℕ) → In v vs → In v loops) → Stays ss → Stays (reverse_aux (map variable vs) ss)
+  stays_onto : (vs : List (List ℕ)) (ss : List Subscript) → ((v : List ℕ) → In v vs → In v loops) → Stays ss → Stays (reverse_aux (map variable_subscript vs) ss)
   stays_onto [] ss f h = h
-  stays_onto (v ∷ vs) ss f h = stays_onto vs (variable v ∷ ss) (λ w i. f w (inr i)) (λ q c. one q c)
+  stays_onto (v ∷ vs) ss f h = stays_onto vs (variable_subscript v ∷ ss) (λ w i. f w (inr i)) (λ q c. one q c)
     where
-      one : (q c : ℕ) → split_in loops may element q c (subscripts (variable v ∷ ss)) ≡ subscripts (variable v ∷ ss)
+      one : (q c : ℕ) → split_in loops may element q c (subscripts (variable_subscript v ∷ ss)) ≡ subscripts (variable_subscript v ∷ ss)
       one q c =
           ap (λ b. subscript (Only (read_or b (element c) (Named v no_subscripts)))
-          (split_in loops may element (q + count_subscript loops (variable v)) (c + length (reads_of_subscript loops may q (variable v))) (subscripts ss)))
+          (split_in loops may element (q + count_subscript loops (variable_subscript v)) (c + length (reads_of_subscript loops may q (variable_subscript v))) (subscripts ss)))
           (not_copied q v (f v (inl refl)))
-          ∙ ap (subscript (variable v)) (h (q + count_subscript loops (variable v)) (c + length (reads_of_subscript loops may q (variable v))))
+          ∙ ap (subscript (variable_subscript v)) (h (q + count_subscript loops (variable_subscript v)) (c + length (reads_of_subscript loops may q (variable_subscript v))))
 
   pub variables_stay : (vs : List (List ℕ)) → ((v : List ℕ) → In v vs → In v loops) → (q c : ℕ)
-      → split_in loops may element q c (subscripts (reverse (map variable vs))) ≡ subscripts (reverse (map variable vs))
+      → split_in loops may element q c (subscripts (reverse (map variable_subscript vs))) ≡ subscripts (reverse (map variable_subscript vs))
   variables_stay vs f = stays_onto vs [] f (λ q c. refl)
 
-  none_onto : (vs : List (List ℕ)) (ss : List Subscript) → ((v : List ℕ) → In v vs → In v loops) → HasNone ss → HasNone (reverse_aux (map variable vs) ss)
+  none_onto : (vs : List (List ℕ)) (ss : List Subscript) → ((v : List ℕ) → In v vs → In v loops) → HasNone ss → HasNone (reverse_aux (map variable_subscript vs) ss)
   none_onto [] ss f h = h
-  none_onto (v ∷ vs) ss f h = none_onto vs (variable v ∷ ss) (λ w i. f w (inr i)) (λ q. one q)
+  none_onto (v ∷ vs) ss f h = none_onto vs (variable_subscript v ∷ ss) (λ w i. f w (inr i)) (λ q. one q)
     where
-      one : (q : ℕ) → reads_in loops may q (subscripts (variable v ∷ ss)) ≡ []
+      one : (q : ℕ) → reads_in loops may q (subscripts (variable_subscript v ∷ ss)) ≡ []
       one q =
-          ap (λ b. itself_or b (record { name = v; subscripts = no_subscripts }) [] ++ reads_in loops may (q + count_subscript loops (variable v)) (subscripts ss)) (not_copied q v (f v (inl refl)))
-          ∙ h (q + count_subscript loops (variable v))
+          ap (λ b. itself_or b (record { name = v; subscripts = no_subscripts }) [] ++ reads_in loops may (q + count_subscript loops (variable_subscript v)) (subscripts ss)) (not_copied q v (f v (inl refl)))
+          ∙ h (q + count_subscript loops (variable_subscript v))
 
-  pub variables_have_none : (vs : List (List ℕ)) → ((v : List ℕ) → In v vs → In v loops) → (q : ℕ) → reads_in loops may q (subscripts (reverse (map variable vs))) ≡ []
+  pub variables_have_none : (vs : List (List ℕ)) → ((v : List ℕ) → In v vs → In v loops) → (q : ℕ) → reads_in loops may q (subscripts (reverse (map variable_subscript vs))) ≡ []
   variables_have_none vs f = none_onto vs [] f (λ q. refl)
 
   -- ---- what stands where reads were copied
@@ -70,7 +70,7 @@ module _ (loops : List (List ℕ)) (may : ℕ → Bool) (element : ℕ → Refer
     pub number : ℕ
     pub least : low ≤ number
     pub below : number < high
-    pub among : In r (references_in (as_expression (element number)))
+    pub among : In r (touched_in (read_as_expression (element number)))
 
   abbrev pub CameFrom : ℕ → ℕ → List Reference → Reference → Type 0
   CameFrom low high rs r = IsSplitOf rs r ⊎ IsOfElement low high r
@@ -95,9 +95,9 @@ module _ (loops : List (List ℕ)) (may : ℕ → Bool) (element : ℕ → Refer
           more c (c + length (reads1 ++ reads2)) (c + length reads1) ((c + length reads1) + length reads2) (omega arith) (omega (arith, all)) us (rs ++ us) r (λ x k. In-right x rs us k) (g j)
 
   named : (b : Bool) (q c : ℕ) (x : List ℕ) (ss : Subscripts) (r : Reference)
-      → (In r (references_in_subscripts (split_in loops may element q c ss)) → CameFrom c (c + length (reads_in loops may q ss)) (references_in_subscripts ss) r)
-      → In r (references_in (read_or b (element c) (Named x (split_in loops may element q c ss))))
-      → CameFrom c (c + length (itself_or b (record { name = x; subscripts = ss }) (reads_in loops may q ss))) (references_in (Named x ss)) r
+      → (In r (touched_in_subscripts (split_in loops may element q c ss)) → CameFrom c (c + length (reads_in loops may q ss)) (touched_in_subscripts ss) r)
+      → In r (touched_in (read_or b (element c) (Named x (split_in loops may element q c ss))))
+      → CameFrom c (c + length (itself_or b (record { name = x; subscripts = ss }) (reads_in loops may q ss))) (touched_in (Named x ss)) r
   named true q c x ss r h i = inr (record { number = c; least = omega arith; below = omega arith; among = i })
   named false q c x ss r h (inl e) = inl (record {
     first = record { name = x; subscripts = ss };
@@ -108,10 +108,10 @@ module _ (loops : List (List ℕ)) (may : ℕ → Bool) (element : ℕ → Refer
     subscripts = ap (λ (z : Reference). z.subscripts) e;
   })
   named false q c x ss r h (inr i) =
-      more c (c + length (reads_in loops may q ss)) c (c + length (reads_in loops may q ss)) (omega arith) (omega arith) (references_in_subscripts ss) (references_in (Named x ss)) r (λ y k. inr k) (h i)
+      more c (c + length (reads_in loops may q ss)) c (c + length (reads_in loops may q ss)) (omega arith) (omega arith) (touched_in_subscripts ss) (touched_in (Named x ss)) r (λ y k. inr k) (h i)
 
   mutual
-    pub of_split : (q c : ℕ) (e : Expression) (r : Reference) → In r (references_in (split_of loops may element q c e)) → CameFrom c (c + length (reads_of loops may q e)) (references_in e) r
+    pub of_split : (q c : ℕ) (e : Expression) (r : Reference) → In r (touched_in (split_of loops may element q c e)) → CameFrom c (c + length (reads_of loops may q e)) (touched_in e) r
     of_split q c (Number n) r i = absurd i
     of_split q c (Logic b) r i = absurd i
     of_split q c (Named x ss) r i =
@@ -119,8 +119,8 @@ module _ (loops : List (List ℕ)) (may : ℕ → Bool) (element : ℕ → Refer
     of_split q c (Unary o a) r i = of_split q c a r i
     of_split q c (Binary o a b) r i =
         of_two c (reads_of loops may q a) (reads_of loops may (q + count loops a) b)
-        (references_in (split_of loops may element q c a)) (references_in (split_of loops may element (q + count loops a) (c + length (reads_of loops may q a)) b))
-        (references_in a) (references_in b) r (λ j. of_split q c a r j) (λ j. of_split (q + count loops a) (c + length (reads_of loops may q a)) b r j) i
+        (touched_in (split_of loops may element q c a)) (touched_in (split_of loops may element (q + count loops a) (c + length (reads_of loops may q a)) b))
+        (touched_in a) (touched_in b) r (λ j. of_split q c a r j) (λ j. of_split (q + count loops a) (c + length (reads_of loops may q a)) b r j) i
     of_split q c (Apply f es) r i = of_split_all q c es r i
     of_split q c (Constructor es ls) r i = absurd i
     of_split q c (Spread a n e) r i = absurd i
@@ -133,20 +133,20 @@ module _ (loops : List (List ℕ)) (may : ℕ → Bool) (element : ℕ → Refer
     of_split_all q c no_expressions r i = absurd i
     of_split_all q c (expression e es) r i =
         of_two c (reads_of loops may q e) (reads_of_all loops may (q + count loops e) es)
-        (references_in (split_of loops may element q c e)) (references_in_each (split_of_all loops may element (q + count loops e) (c + length (reads_of loops may q e)) es))
-        (references_in e) (references_in_each es) r (λ j. of_split q c e r j) (λ j. of_split_all (q + count loops e) (c + length (reads_of loops may q e)) es r j) i
+        (touched_in (split_of loops may element q c e)) (references_in_each (split_of_all loops may element (q + count loops e) (c + length (reads_of loops may q e)) es))
+        (touched_in e) (references_in_each es) r (λ j. of_split q c e r j) (λ j. of_split_all (q + count loops e) (c + length (reads_of loops may q e)) es r j) i
 
-    pub of_split_in : (q c : ℕ) (ss : Subscripts) (r : Reference) → In r (references_in_subscripts (split_in loops may element q c ss))
-        → CameFrom c (c + length (reads_in loops may q ss)) (references_in_subscripts ss) r
+    pub of_split_in : (q c : ℕ) (ss : Subscripts) (r : Reference) → In r (touched_in_subscripts (split_in loops may element q c ss))
+        → CameFrom c (c + length (reads_in loops may q ss)) (touched_in_subscripts ss) r
     of_split_in q c no_subscripts r i = absurd i
     of_split_in q c (subscript (Only e) ss) r i =
         of_two c (reads_of loops may q e) (reads_in loops may (q + count loops e) ss)
-        (references_in (split_of loops may element q c e)) (references_in_subscripts (split_in loops may element (q + count loops e) (c + length (reads_of loops may q e)) ss))
-        (references_in e) (references_in_subscripts ss) r (λ j. of_split q c e r j) (λ j. of_split_in (q + count loops e) (c + length (reads_of loops may q e)) ss r j) i
+        (touched_in (split_of loops may element q c e)) (touched_in_subscripts (split_in loops may element (q + count loops e) (c + length (reads_of loops may q e)) ss))
+        (touched_in e) (touched_in_subscripts ss) r (λ j. of_split q c e r j) (λ j. of_split_in (q + count loops e) (c + length (reads_of loops may q e)) ss r j) i
     of_split_in q c (subscript (Section a b d) ss) r i =
         of_two c [] (reads_in loops may (q + count_subscript loops (Section a b d)) ss) []
-        (references_in_subscripts (split_in loops may element (q + count_subscript loops (Section a b d)) (c + 0) ss))
-        [] (references_in_subscripts ss) r (λ j. absurd j) (λ j. of_split_in (q + count_subscript loops (Section a b d)) (c + 0) ss r j) i
+        (touched_in_subscripts (split_in loops may element (q + count_subscript loops (Section a b d)) (c + 0) ss))
+        [] (touched_in_subscripts ss) r (λ j. absurd j) (λ j. of_split_in (q + count_subscript loops (Section a b d)) (c + 0) ss r j) i
 
 -- ---- reads
 
@@ -154,15 +154,15 @@ module _ (rs : List Reference) where
   abbrev AllThere : List Reference → Type 0
   AllThere xs = (r : Reference) → In r xs → In r rs
 
-  references_pass : Passes (λ e. AllThere (references_in e)) (λ es. AllThere (references_in_each es)) (λ ss. AllThere (references_in_subscripts ss))
+  references_pass : Passes (λ e. AllThere (touched_in e)) (λ es. AllThere (references_in_each es)) (λ ss. AllThere (touched_in_subscripts ss))
   references_pass = record {
     named = λ x ss h y i. h y (inr i);
     unary = λ o a h. h;
-    binary = λ o a b h. (λ y i. h y (In-left y (references_in a) (references_in b) i), λ y i. h y (In-right y (references_in a) (references_in b) i));
+    binary = λ o a b h. (λ y i. h y (In-left y (touched_in a) (touched_in b) i), λ y i. h y (In-right y (touched_in a) (touched_in b) i));
     apply = λ f es h. h;
-    each = λ e es h. (λ y i. h y (In-left y (references_in e) (references_in_each es) i), λ y i. h y (In-right y (references_in e) (references_in_each es) i));
-    only = λ e ss h y i. h y (In-left y (references_in e) (references_in_subscripts ss) i);
-    more = λ e ss h y i. h y (In-right y (references_in e) (references_in_subscripts ss) i);
+    each = λ e es h. (λ y i. h y (In-left y (touched_in e) (references_in_each es) i), λ y i. h y (In-right y (touched_in e) (references_in_each es) i));
+    only = λ e ss h y i. h y (In-left y (touched_in e) (touched_in_subscripts ss) i);
+    more = λ e ss h y i. h y (In-right y (touched_in e) (touched_in_subscripts ss) i);
     section = λ a b c ss h. h;
   }
 
@@ -172,48 +172,48 @@ module _ (loops : List (List ℕ)) (may : ℕ → Bool) (element : ℕ → Refer
   abbrev allowed : ℕ → Bool
   allowed = but_whole loops may g
 
-  in_guard : (r : Reference) → In r (references_in_guard g.guard) → In r (references_of g)
-  in_guard r i = inr (In-left r (references_in_guard g.guard) (references_in_subscripts g.left.subscripts ++ references_in g.right) i)
+  in_guard : (r : Reference) → In r (touched_in_guard g.guard) → In r (references_touched g)
+  in_guard r i = inr (In-left r (touched_in_guard g.guard) (touched_in_subscripts g.left.subscripts ++ touched_in g.right) i)
 
-  in_subscripts : (r : Reference) → In r (references_in_subscripts g.left.subscripts) → In r (references_of g)
+  in_subscripts : (r : Reference) → In r (touched_in_subscripts g.left.subscripts) → In r (references_touched g)
   in_subscripts r i =
-      inr (In-right r (references_in_guard g.guard) (references_in_subscripts g.left.subscripts ++ references_in g.right)
-      (In-left r (references_in_subscripts g.left.subscripts) (references_in g.right) i))
+      inr (In-right r (touched_in_guard g.guard) (touched_in_subscripts g.left.subscripts ++ touched_in g.right)
+      (In-left r (touched_in_subscripts g.left.subscripts) (touched_in g.right) i))
 
-  in_right : (r : Reference) → In r (references_in g.right) → In r (references_of g)
+  in_right : (r : Reference) → In r (touched_in g.right) → In r (references_touched g)
   in_right r i =
-      inr (In-right r (references_in_guard g.guard) (references_in_subscripts g.left.subscripts ++ references_in g.right)
-      (In-right r (references_in_subscripts g.left.subscripts) (references_in g.right) i))
+      inr (In-right r (touched_in_guard g.guard) (touched_in_subscripts g.left.subscripts ++ touched_in g.right)
+      (In-right r (touched_in_subscripts g.left.subscripts) (touched_in g.right) i))
 
   -- a reference of the statement as it was, one with its subscripts split, or one of an element
   abbrev pub StoodIn : ℕ → Reference → Type 0
-  StoodIn c r = In r (references_of g) ⊎ CameFrom loops (but_whole loops may g) element c (c + length (reads_in_statement loops may g)) (references_of g) r
+  StoodIn c r = In r (references_touched g) ⊎ CameFrom loops (but_whole loops may g) element c (c + length (reads_in_statement loops may g)) (references_touched g) r
 
   -- a reference of what is copied stands in the statement
-  pub read_there : (x : Reference) → In x (reads_in_statement loops may g) → (r : Reference) → In r (references_in (as_expression x)) → In r (references_of g)
+  pub read_there : (x : Reference) → In x (reads_in_statement loops may g) → (r : Reference) → In r (touched_in (read_as_expression x)) → In r (references_touched g)
   read_there x i r j = by (In-append x (reads_in_left loops may g) (reads_in_right loops may g) i)
     where
-      by : In x (reads_in_left loops may g) ⊎ In x (reads_in_right loops may g) → In r (references_of g)
+      by : In x (reads_in_left loops may g) ⊎ In x (reads_in_right loops may g) → In r (references_touched g)
       by (inl k) =
-          (all_read_in loops (but_whole loops may g) (λ e. AllThere (references_of g) (references_in e)) (λ es. AllThere (references_of g) (references_in_each es))
-          (λ ss. AllThere (references_of g) (references_in_subscripts ss)) (references_pass (references_of g)) (first_in_left loops g) g.left.subscripts (λ y h. in_subscripts y h) x k).good r j
+          (all_read_in loops (but_whole loops may g) (λ e. AllThere (references_touched g) (touched_in e)) (λ es. AllThere (references_touched g) (references_in_each es))
+          (λ ss. AllThere (references_touched g) (touched_in_subscripts ss)) (references_pass (references_touched g)) (first_in_left loops g) g.left.subscripts (λ y h. in_subscripts y h) x k).good r j
       by (inr k) =
-          (all_read loops (but_whole loops may g) (λ e. AllThere (references_of g) (references_in e)) (λ es. AllThere (references_of g) (references_in_each es))
-          (λ ss. AllThere (references_of g) (references_in_subscripts ss)) (references_pass (references_of g)) (first_in_right loops g) g.right (λ y h. in_right y h) x k).good r j
+          (all_read loops (but_whole loops may g) (λ e. AllThere (references_touched g) (touched_in e)) (λ es. AllThere (references_touched g) (references_in_each es))
+          (λ ss. AllThere (references_touched g) (touched_in_subscripts ss)) (references_pass (references_touched g)) (first_in_right loops g) g.right (λ y h. in_right y h) x k).good r j
 
   -- the references of a copy
   pub of_copy : (c j : ℕ) → c ≤ j → j < c + length (reads_in_statement loops may g) → (x : Reference) → In x (reads_in_statement loops may g) → (r : Reference)
-      → In r (references_of (copied element g j x)) → StoodIn c r
+      → In r (references_touched (read_copied element g j x)) → StoodIn c r
   of_copy c j least below x i r (inl e) = inr (inr (record { number = j; least = least; below = below; among = inl e }))
-  of_copy c j least below x i r (inr h) = by (In-append r (references_in_guard g.guard) (references_in_subscripts (element j).subscripts ++ references_in (as_expression x)) h)
+  of_copy c j least below x i r (inr h) = by (In-append r (touched_in_guard g.guard) (touched_in_subscripts (element j).subscripts ++ touched_in (read_as_expression x)) h)
     where
-      rest : In r (references_in_subscripts (element j).subscripts) ⊎ In r (references_in (as_expression x)) → StoodIn c r
+      rest : In r (touched_in_subscripts (element j).subscripts) ⊎ In r (touched_in (read_as_expression x)) → StoodIn c r
       rest (inl k) = inr (inr (record { number = j; least = least; below = below; among = inr k }))
       rest (inr k) = inl (read_there x i r k)
 
-      by : In r (references_in_guard g.guard) ⊎ In r (references_in_subscripts (element j).subscripts ++ references_in (as_expression x)) → StoodIn c r
+      by : In r (touched_in_guard g.guard) ⊎ In r (touched_in_subscripts (element j).subscripts ++ touched_in (read_as_expression x)) → StoodIn c r
       by (inl k) = inl (in_guard r k)
-      by (inr k) = rest (In-append r (references_in_subscripts (element j).subscripts) (references_in (as_expression x)) k)
+      by (inr k) = rest (In-append r (touched_in_subscripts (element j).subscripts) (touched_in (read_as_expression x)) k)
 
   abbrev left_now : ℕ → Subscripts
   left_now c = split_in loops (but_whole loops may g) element (first_in_left loops g) c g.left.subscripts
@@ -222,7 +222,7 @@ module _ (loops : List (List ℕ)) (may : ℕ → Bool) (element : ℕ → Refer
   right_now c = split_of loops (but_whole loops may g) element (first_in_right loops g) (c + length (reads_in_left loops may g)) g.right
 
   -- and of the statement with what is read in their place
-  pub of_statement : (c : ℕ) (r : Reference) → In r (references_of (split_statement loops may g element c)) → StoodIn c r
+  pub of_statement : (c : ℕ) (r : Reference) → In r (references_touched (split_statement loops may g element c)) → StoodIn c r
   of_statement c r (inl e) = inr (inl (record {
     first = g.left;
     inside = inl refl;
@@ -231,29 +231,29 @@ module _ (loops : List (List ℕ)) (may : ℕ → Bool) (element : ℕ → Refer
     from = c;
     subscripts = ap (λ (z : Reference). z.subscripts) e;
   }))
-  of_statement c r (inr h) = by (In-append r (references_in_guard g.guard) (references_in_subscripts (left_now c) ++ references_in (right_now c)) h)
+  of_statement c r (inr h) = by (In-append r (touched_in_guard g.guard) (touched_in_subscripts (left_now c) ++ touched_in (right_now c)) h)
     where
-      rest : In r (references_in_subscripts (left_now c) ++ references_in (right_now c)) → CameFrom loops (but_whole loops may g) element c (c + length (reads_in_statement loops may g)) (references_in_subscripts g.left.subscripts ++ references_in g.right) r
+      rest : In r (touched_in_subscripts (left_now c) ++ touched_in (right_now c)) → CameFrom loops (but_whole loops may g) element c (c + length (reads_in_statement loops may g)) (touched_in_subscripts g.left.subscripts ++ touched_in g.right) r
       rest k =
-          of_two loops (but_whole loops may g) element c (reads_in_left loops may g) (reads_in_right loops may g) (references_in_subscripts (left_now c)) (references_in (right_now c))
-          (references_in_subscripts g.left.subscripts) (references_in g.right) r
+          of_two loops (but_whole loops may g) element c (reads_in_left loops may g) (reads_in_right loops may g) (touched_in_subscripts (left_now c)) (touched_in (right_now c))
+          (touched_in_subscripts g.left.subscripts) (touched_in g.right) r
           (λ j. of_split_in loops (but_whole loops may g) element (first_in_left loops g) c g.left.subscripts r j)
           (λ j. of_split loops (but_whole loops may g) element (first_in_right loops g) (c + length (reads_in_left loops may g)) g.right r j) k
 
-      there : (y : Reference) → In y (references_in_subscripts g.left.subscripts ++ references_in g.right) → In y (references_of g)
-      there y i = inr (In-right y (references_in_guard g.guard) (references_in_subscripts g.left.subscripts ++ references_in g.right) i)
+      there : (y : Reference) → In y (touched_in_subscripts g.left.subscripts ++ touched_in g.right) → In y (references_touched g)
+      there y i = inr (In-right y (touched_in_guard g.guard) (touched_in_subscripts g.left.subscripts ++ touched_in g.right) i)
 
-      by : In r (references_in_guard g.guard) ⊎ In r (references_in_subscripts (left_now c) ++ references_in (right_now c)) → StoodIn c r
+      by : In r (touched_in_guard g.guard) ⊎ In r (touched_in_subscripts (left_now c) ++ touched_in (right_now c)) → StoodIn c r
       by (inl k) = inl (in_guard r k)
       by (inr k) =
           inr (more loops (but_whole loops may g) element c (c + length (reads_in_statement loops may g)) c (c + length (reads_in_statement loops may g)) (omega arith) (omega arith)
-          (references_in_subscripts g.left.subscripts ++ references_in g.right) (references_of g) r there (rest k))
+          (touched_in_subscripts g.left.subscripts ++ touched_in g.right) (references_touched g) r there (rest k))
 
   -- of whichever it is
   pub raw_stood : (n : Nest) (ls : List Loop) (c : ℕ) (raw : Guarded) → IsCopy n ls element g c (reads_in_statement loops may g) raw ⊎ (raw ≡ split_statement loops may g element c)
-      → (r : Reference) → In r (references_of raw) → StoodIn c r
-  raw_stood n ls c raw (inl k) r i = of_copy c k.number k.low k.high k.read k.among r (subst (λ (x : Guarded). In r (references_of x)) k.is i)
-  raw_stood n ls c raw (inr e) r i = of_statement c r (subst (λ (x : Guarded). In r (references_of x)) e i)
+      → (r : Reference) → In r (references_touched raw) → StoodIn c r
+  raw_stood n ls c raw (inl k) r i = of_copy c k.number k.low k.high k.read k.among r (subst (λ (x : Guarded). In r (references_touched x)) k.is i)
+  raw_stood n ls c raw (inr e) r i = of_statement c r (subst (λ (x : Guarded). In r (references_touched x)) e i)
 
   pub raw_guard : (n : Nest) (ls : List Loop) (c : ℕ) (raw : Guarded) → IsCopy n ls element g c (reads_in_statement loops may g) raw ⊎ (raw ≡ split_statement loops may g element c)
       → raw.guard ≡ g.guard

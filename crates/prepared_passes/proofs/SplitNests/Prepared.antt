@@ -46,10 +46,10 @@ use Rattle.statement_passes.specs.Standings.{IsLoop, IsMappedFrom}
 use Rattle.tree.specs.Names.{IsSourceName}
 use Rattle.tree.specs.Plain.{Declaration, Expression}
 use Rattle.tree.specs.declared.ops.Kind.TheVariants.{Integer}
-use Rattle.node_splitting.specs.Arrays.{copy_name, element, extents_over, texts_over}
-use Rattle.node_splitting.specs.Counts.{variables_of}
+use Rattle.node_splitting.specs.Arrays.{copy_name, copy_element, extents_over, texts_over}
+use Rattle.node_splitting.specs.Counts.{variables_from_outside}
 use Rattle.node_splitting.specs.Reads.{split_statement}
-use Rattle.node_splitting.specs.Split.{firsts, made_arrays, may_in, with_arrays}
+use Rattle.node_splitting.specs.Split.{firsts, made_arrays, may_in, with_copy_arrays}
 use Rattle.prepared_passes.specs.splitting.Laws.{SplitNestIsPrepared}
 use Rattle.prepared_passes.specs.splitting.Splits.{MayBeSplit}
 use Rattle.prepared_passes.proofs.SplitNests.Limits.{extents_are, few_extents}
@@ -245,12 +245,12 @@ module _ (es : List Declaration) (around : List (List ℕ)) (deepest : ℕ) (may
       let there : In c.guarded (each_raw may m c.from.loops (length c.pre) c.from.statement) = subst (λ k. In c.guarded (each_raw may m c.from.loops k c.from.statement)) at c.inside in
       subst (λ (y : Standing). IsThere y × IsOutside y) (sym c.same)
       (by c.from c.pre c.post c.parted c.guarded
-      (copy_or_statement m c.from.loops (element (variables_of c.from.loops)) c.from.statement (variables_of c.from.loops) (may_in may (length m.symbols) c.from.loops (length c.pre))
+      (copy_or_statement m c.from.loops (copy_element (variables_from_outside c.from.loops)) c.from.statement (variables_from_outside c.from.loops) (may_in may (length m.symbols) c.from.loops (length c.pre))
       (slice_index_or (firsts may m) (length c.pre) 0) c.guarded there))
     where
       by : (s : Standing) (pre post : List Standing) → nest_statements m ≡ pre ++ s ∷ post → (y : Guarded)
-          → IsCopy m s.loops (element (variables_of s.loops)) s.statement (slice_index_or (firsts may m) (length pre) 0) (reads may m (length pre) s) y
-          ⊎ (y ≡ split_statement (variables_of s.loops) (may_in may (length m.symbols) s.loops (length pre)) s.statement (element (variables_of s.loops))
+          → IsCopy m s.loops (copy_element (variables_from_outside s.loops)) s.statement (slice_index_or (firsts may m) (length pre) 0) (reads may m (length pre) s) y
+          ⊎ (y ≡ split_statement (variables_from_outside s.loops) (may_in may (length m.symbols) s.loops (length pre)) s.statement (copy_element (variables_from_outside s.loops))
           (slice_index_or (firsts may m) (length pre) 0))
           → IsThere (record { loops = s.loops; statement = y }) × IsOutside (record { loops = s.loops; statement = y })
       by s pre post parted y (inl c) = (
@@ -297,10 +297,10 @@ module _ (es : List Declaration) (around : List (List ℕ)) (deepest : ℕ) (may
       raw_loop (Label n) t = t
       raw_loop (Jump n) t = t
 
-  pub whole_prepared : IsPrepared es around (deepest + 19) (with_arrays may m (made_arrays may m))
+  pub whole_prepared : IsPrepared es around (deepest + 19) (with_copy_arrays may m (made_arrays may m))
   whole_prepared =
       let sum : (deepest + 1) + 18 ≡ deepest + 19 = omega arith in
-      subst (λ n. IsPrepared es around n (with_arrays may m (made_arrays may m))) sum
+      subst (λ n. IsPrepared es around n (with_copy_arrays may m (made_arrays may m))) sum
       (subst (λ (z : Nest). IsPrepared es around ((deepest + 1) + 18) z) (sym (whole_is may m can.loop)) (texts_prepared es around (deepest + 1) (raw_nest may m) but_text h.parts.few))
 
 pub split_nest_is_prepared : SplitNestIsPrepared

@@ -14,7 +14,7 @@ use Rattle.nest.specs.Plain.{Choice, Guarded, Jump, Label, Loop, Made, Nest, Par
 use Rattle.nest_order.proofs.orders.Lists.{In-append, In-right}
 use Rattle.nest_order.proofs.orders.Membership.{In-map}
 use Rattle.nest_order.specs.orders.Lists.{In}
-use Rattle.nest_order.specs.runs.Touched.{references_in, references_in_subscripts}
+use Rattle.nest_order.specs.runs.Touched.{touched_in, touched_in_subscripts}
 use Rattle.nest_order.specs.shapes.Shapes.{ArePlain, IsPlain}
 use Rattle.pass_laws.proofs.NormalFacts.MadeStatements.{counter_long}
 use Rattle.pass_laws.proofs.NormalFacts.Tables.{all_in}
@@ -25,7 +25,7 @@ use Rattle.pass_laws.specs.prepared_nests.Nests.{IsPrepared}
 use Rattle.pass_laws.specs.prepared_nests.Statements.{IsPreparedStatement, made_names}
 use Rattle.prepared_passes.proofs.ArrangedNests.Names.{found_in}
 use Rattle.prepared_passes.proofs.ExpandedNests.Walks.{round_in}
-use Rattle.prepared_passes.specs.expansion.Left.{IsCopyOf, NoPrivateScalarIsLeft, references_of}
+use Rattle.prepared_passes.specs.expansion.Left.{IsCopyOf, NoPrivateScalarIsLeft, references_touched}
 use Rattle.rewrite.specs.Making.{made, made_subscripts}
 use Rattle.rewrite.specs.Names.{mentions}
 use Rattle.scalar_expand.proofs.PrivateLaws.{first_begins, has_first, in_middle}
@@ -38,10 +38,10 @@ use Rattle.statement_passes.specs.Standings.{IsLoop}
 use Rattle.tree.specs.Limits.{nest_depth}
 use Rattle.tree.specs.Names.{IsSourceName}
 use Rattle.tree.specs.Plain.{Declaration, Named, Only, Reference, Section, Subscript, Subscripts, no_subscripts, subscript, subscripts}
-use Rattle.node_splitting.specs.Arrays.{element, variable}
-use Rattle.node_splitting.specs.Counts.{first_in_right, is_counter, variables_of}
-use Rattle.node_splitting.specs.Reads.{as_expression, behind, but_whole, is_copied, itself_or, read_or, reads_in, reads_in_statement, split_in, split_statement}
-use Rattle.node_splitting.specs.Split.{canonised, last_from, made_arrays, may_in, reads_at, with_arrays, with_nodes_split}
+use Rattle.node_splitting.specs.Arrays.{copy_element, variable_subscript}
+use Rattle.node_splitting.specs.Counts.{first_in_right, is_counter, variables_from_outside}
+use Rattle.node_splitting.specs.Reads.{read_as_expression, behind, but_whole, is_copied, itself_or, read_or, reads_in, reads_in_statement, split_in, split_statement}
+use Rattle.node_splitting.specs.Split.{in_canonical_text, last_from, made_arrays, may_in, reads_at, with_copy_arrays, with_nodes_split}
 use Rattle.prepared_passes.specs.splitting.Kept.{SplitNestHasNoPrivateScalars}
 use Rattle.prepared_passes.proofs.SplitNests.Canonical.{IsMadeOf, name_stays, of_statement as of_text, subscripts_stay}
 use Rattle.prepared_passes.proofs.SplitNests.Kept.{IsFromStatement, each, from_statement, has}
@@ -67,25 +67,25 @@ some_onto [] y ys e = let no : ⊥ = cc in no
 some_onto (x ∷ xs) y ys e = some_onto xs x (y ∷ ys) e
 
 -- an element of a statement within a loop has a subscript
-some_subscripts : (vs : List (List ℕ)) (v : List ℕ) (more : List (List ℕ)) → vs ≡ v ∷ more → no_subscripts ≡ subscripts (reverse (map variable vs)) → ⊥
-some_subscripts vs v more same e = some_onto (map variable more) (variable v) [] (e ∙ ap (λ us. subscripts (reverse (map variable us))) same)
+some_subscripts : (vs : List (List ℕ)) (v : List ℕ) (more : List (List ℕ)) → vs ≡ v ∷ more → no_subscripts ≡ subscripts (reverse (map variable_subscript vs)) → ⊥
+some_subscripts vs v more same e = some_onto (map variable_subscript more) (variable_subscript v) [] (e ∙ ap (λ us. subscripts (reverse (map variable_subscript us))) same)
 
 -- the references of its subscripts
-in_onto : (vs : List (List ℕ)) (ss : List Subscript) (r : Reference) → In r (references_in_subscripts (subscripts (reverse_aux (map variable vs) ss)))
-    → ((v : List ℕ) × In v vs × (r ≡ scalar v)) ⊎ In r (references_in_subscripts (subscripts ss))
+in_onto : (vs : List (List ℕ)) (ss : List Subscript) (r : Reference) → In r (touched_in_subscripts (subscripts (reverse_aux (map variable_subscript vs) ss)))
+    → ((v : List ℕ) × In v vs × (r ≡ scalar v)) ⊎ In r (touched_in_subscripts (subscripts ss))
 in_onto [] ss r i = inr i
-in_onto (v ∷ vs) ss r i = by (in_onto vs (variable v ∷ ss) r i)
+in_onto (v ∷ vs) ss r i = by (in_onto vs (variable_subscript v ∷ ss) r i)
   where
-    by : ((w : List ℕ) × In w vs × (r ≡ scalar w)) ⊎ In r (references_in_subscripts (subscripts (variable v ∷ ss)))
-        → ((w : List ℕ) × In w (v ∷ vs) × (r ≡ scalar w)) ⊎ In r (references_in_subscripts (subscripts ss))
+    by : ((w : List ℕ) × In w vs × (r ≡ scalar w)) ⊎ In r (touched_in_subscripts (subscripts (variable_subscript v ∷ ss)))
+        → ((w : List ℕ) × In w (v ∷ vs) × (r ≡ scalar w)) ⊎ In r (touched_in_subscripts (subscripts ss))
     by (inl h) = inl (h.0, inr h.1, h.2)
     by (inr (inl e)) = inl (v, inl refl, e)
     by (inr (inr j)) = inr j
 
-pub variable_of_element : (vs : List (List ℕ)) (r : Reference) → In r (references_in_subscripts (subscripts (reverse (map variable vs)))) → (v : List ℕ) × In v vs × (r ≡ scalar v)
+pub variable_of_element : (vs : List (List ℕ)) (r : Reference) → In r (touched_in_subscripts (subscripts (reverse (map variable_subscript vs)))) → (v : List ℕ) × In v vs × (r ≡ scalar v)
 variable_of_element vs r i = by (in_onto vs [] r i)
   where
-    by : ((v : List ℕ) × In v vs × (r ≡ scalar v)) ⊎ In r (references_in_subscripts no_subscripts) → (v : List ℕ) × In v vs × (r ≡ scalar v)
+    by : ((v : List ℕ) × In v vs × (r ≡ scalar v)) ⊎ In r (touched_in_subscripts no_subscripts) → (v : List ℕ) × In v vs × (r ≡ scalar v)
     by (inl h) = h
     by (inr j) = absurd j
 
@@ -185,13 +185,13 @@ both_false true = refl
 both_false false = refl
 
 module _ (m : Nest) (fs : List Declaration) (outside : List (List ℕ)) (deeper : ℕ) (may : Place → Bool) (k : Nest) (h : IsPrepared fs outside deeper k) (loop : IsLoop k.body)
-    (p : Private) (counts : (n : ℕ) → ¬ (p.name ≡ counter_name n)) (left : (s : Standing) → In s (nest_statements k) → In (scalar p.name) (references_of s.statement) → IsCopyOf m p s)
-    (x : Standing) (f : IsFromStatement may k x) (r : In (scalar p.name) (references_of x.statement)) where
+    (p : Private) (counts : (n : ℕ) → ¬ (p.name ≡ counter_name n)) (left : (s : Standing) → In s (nest_statements k) → In (scalar p.name) (references_touched s.statement) → IsCopyOf m p s)
+    (x : Standing) (f : IsFromStatement may k x) (r : In (scalar p.name) (references_touched x.statement)) where
   abbrev ls : List Loop
   ls = f.from.loops
 
   abbrev vs : List (List ℕ)
-  vs = variables_of f.from.loops
+  vs = variables_from_outside f.from.loops
 
   abbrev allowed : ℕ → Bool
   allowed = may_in may (length k.symbols) f.from.loops (length f.pre)
@@ -202,11 +202,11 @@ module _ (m : Nest) (fs : List Declaration) (outside : List (List ℕ)) (deeper 
   same_scalar : (first : Reference) → p.name ≡ first.name → first.subscripts ≡ no_subscripts → scalar p.name ≡ first
   same_scalar first e n = ap₂ (λ y (qs : Subscripts). record { name = y; subscripts = qs }) e (sym n)
 
-  in_raw : In (scalar p.name) (references_of f.text.raw)
-  in_raw = by (of_text vs k.symbols f.text.raw (scalar p.name) (subst (λ (z : Standing). In (scalar p.name) (references_of z.statement)) f.text.same r))
+  in_raw : In (scalar p.name) (references_touched f.text.raw)
+  in_raw = by (of_text vs k.symbols f.text.raw (scalar p.name) (subst (λ (z : Standing). In (scalar p.name) (references_touched z.statement)) f.text.same r))
     where
-      by : IsMadeOf vs k.symbols (references_of f.text.raw) (scalar p.name) → In (scalar p.name) (references_of f.text.raw)
-      by o = subst (λ (z : Reference). In z (references_of f.text.raw)) (sym (same_scalar o.first o.name (none_before vs k.symbols o.first.subscripts o.subscripts))) o.inside
+      by : IsMadeOf vs k.symbols (references_touched f.text.raw) (scalar p.name) → In (scalar p.name) (references_touched f.text.raw)
+      by o = subst (λ (z : Reference). In z (references_touched f.text.raw)) (sym (same_scalar o.first o.name (none_before vs k.symbols o.first.subscripts o.subscripts))) o.inside
 
   counted : (v : List ℕ) → In v vs → (n : ℕ) × (v ≡ counter_name n)
   counted v i =
@@ -217,23 +217,23 @@ module _ (m : Nest) (fs : List Declaration) (outside : List (List ℕ)) (deeper 
       by l (inl j) = absurd j
       by l (inr j) = (found_in (IsPreparedLoop fs k.symbols) l [] k.body h.plain h.parts.loops j).1.variable
 
-  no_element : (j : ℕ) → ¬ In (scalar p.name) (references_in (as_expression (element vs j)))
+  no_element : (j : ℕ) → ¬ In (scalar p.name) (touched_in (read_as_expression (copy_element vs j)))
   no_element j (inl e) =
       let b = in_loop k.body loop h.plain f.from inside in
-      some_subscripts vs b.0.variable (variables_of b.1) (ap variables_of b.2) (ap (λ (z : Reference). z.subscripts) e)
+      some_subscripts vs b.0.variable (variables_from_outside b.1) (ap variables_from_outside b.2) (ap (λ (z : Reference). z.subscripts) e)
   no_element j (inr i) =
       let w = variable_of_element vs (scalar p.name) i in
       let c = counted w.0 w.1 in
       counts c.0 (ap (λ (z : Reference). z.name) w.2 ∙ c.1)
 
-  there : In (scalar p.name) (references_of f.from.statement)
-  there = by (raw_stood vs allowed (element vs) f.from.statement k f.from.loops (last_from may k 0 k.copies f.pre) f.text.raw f.text.is (scalar p.name) in_raw)
+  there : In (scalar p.name) (references_touched f.from.statement)
+  there = by (raw_stood vs allowed (copy_element vs) f.from.statement k f.from.loops (last_from may k 0 k.copies f.pre) f.text.raw f.text.is (scalar p.name) in_raw)
     where
-      by : StoodIn vs allowed (element vs) f.from.statement (last_from may k 0 k.copies f.pre) (scalar p.name) → In (scalar p.name) (references_of f.from.statement)
+      by : StoodIn vs allowed (copy_element vs) f.from.statement (last_from may k 0 k.copies f.pre) (scalar p.name) → In (scalar p.name) (references_touched f.from.statement)
       by (inl i) = i
       by (inr (inl o)) =
-          subst (λ (z : Reference). In z (references_of f.from.statement))
-          (sym (same_scalar o.first o.name (none_split vs (but_whole vs allowed f.from.statement) (element vs) o.place o.from o.first.subscripts o.subscripts))) o.inside
+          subst (λ (z : Reference). In z (references_touched f.from.statement))
+          (sym (same_scalar o.first o.name (none_split vs (but_whole vs allowed f.from.statement) (copy_element vs) o.place o.from o.first.subscripts o.subscripts))) o.inside
       by (inr (inr e)) = absurd (no_element e.number e.among)
 
   copy : IsCopyOf m p f.from
@@ -242,14 +242,14 @@ module _ (m : Nest) (fs : List Declaration) (outside : List (List ℕ)) (deeper 
   -- ---- in which nothing is copied
 
   abbrev held : Subscripts
-  held = subscripts (reverse (map variable vs))
+  held = subscripts (reverse (map variable_subscript vs))
 
   abbrev taken : Guarded
-  taken = record { line = m.line; guard = None; left = scalar p.name; right = Named p.array (subscripts (reverse (map variable vs))) }
+  taken = record { line = m.line; guard = None; left = scalar p.name; right = Named p.array (subscripts (reverse (map variable_subscript vs))) }
 
-  subscripts_are : subscripts (reverse (map expanded.variable p.loops)) ≡ subscripts (reverse (map variable vs))
+  subscripts_are : subscripts (reverse (map expanded.loop_subscript p.loops)) ≡ subscripts (reverse (map variable_subscript vs))
   subscripts_are =
-      ap (λ (os : List RoundLoop). subscripts (reverse (map expanded.variable os))) (sym copy.loops)
+      ap (λ (os : List RoundLoop). subscripts (reverse (map expanded.loop_subscript os))) (sym copy.loops)
       ∙ ap (λ (ss : List Subscript). subscripts (reverse ss)) (same_variables f.from.loops)
 
   taken_is : expanded.copied m.line p ≡ taken
@@ -269,28 +269,28 @@ module _ (m : Nest) (fs : List Declaration) (outside : List (List ℕ)) (deeper 
   none_copied : reads_in_statement vs allowed taken ≡ []
   none_copied =
       ap (λ b. itself_or b (record { name = p.array; subscripts = held }) (reads_in vs (but_whole vs allowed taken) (behind vs (but_whole vs allowed taken) first p.array held) held)) whole
-      ∙ variables_have_none vs (but_whole vs allowed taken) (element vs) vs (λ v i. i) (behind vs (but_whole vs allowed taken) first p.array held)
+      ∙ variables_have_none vs (but_whole vs allowed taken) (copy_element vs) vs (λ v i. i) (behind vs (but_whole vs allowed taken) first p.array held)
 
-  stays : (c : ℕ) → split_statement vs allowed taken (element vs) c ≡ taken
+  stays : (c : ℕ) → split_statement vs allowed taken (copy_element vs) c ≡ taken
   stays c =
       ap (λ e. record { line = m.line; guard = None; left = scalar p.name; right = e })
-      (ap (λ b. read_or b (element vs (c + 0)) (Named p.array (split_in vs (but_whole vs allowed taken) (element vs) (behind vs (but_whole vs allowed taken) first p.array held) (c + 0) held))) whole
-      ∙ ap (λ qs. Named p.array qs) (variables_stay vs (but_whole vs allowed taken) (element vs) vs (λ v i. i) (behind vs (but_whole vs allowed taken) first p.array held) (c + 0)))
+      (ap (λ b. read_or b (copy_element vs (c + 0)) (Named p.array (split_in vs (but_whole vs allowed taken) (copy_element vs) (behind vs (but_whole vs allowed taken) first p.array held) (c + 0) held))) whole
+      ∙ ap (λ qs. Named p.array qs) (variables_stay vs (but_whole vs allowed taken) (copy_element vs) vs (λ v i. i) (behind vs (but_whole vs allowed taken) first p.array held) (c + 0)))
 
-  text_stays : canonised k.symbols f.from.loops taken ≡ taken
+  text_stays : in_canonical_text k.symbols f.from.loops taken ≡ taken
   text_stays = ap (λ e. record { line = m.line; guard = None; left = scalar p.name; right = e }) (array_text vs k.symbols p.array held (subscripts_stay vs k.symbols vs))
 
   raw_is : f.text.raw ≡ taken
   raw_is = by f.text.is
     where
-      by : IsCopy k f.from.loops (element vs) f.from.statement (last_from may k 0 k.copies f.pre) (reads_at may (length k.symbols) f.from.loops (length f.pre) f.from.statement) f.text.raw
-          ⊎ (f.text.raw ≡ split_statement vs allowed f.from.statement (element vs) (last_from may k 0 k.copies f.pre)) → f.text.raw ≡ taken
+      by : IsCopy k f.from.loops (copy_element vs) f.from.statement (last_from may k 0 k.copies f.pre) (reads_at may (length k.symbols) f.from.loops (length f.pre) f.from.statement) f.text.raw
+          ⊎ (f.text.raw ≡ split_statement vs allowed f.from.statement (copy_element vs) (last_from may k 0 k.copies f.pre)) → f.text.raw ≡ taken
       by (inl c) = absurd (subst (λ rs. In c.read rs) (ap (reads_in_statement vs allowed) from_is ∙ none_copied) c.among)
-      by (inr e) = e ∙ (ap (λ (z : Guarded). split_statement vs allowed z (element vs) (last_from may k 0 k.copies f.pre)) from_is ∙ stays (last_from may k 0 k.copies f.pre))
+      by (inr e) = e ∙ (ap (λ (z : Guarded). split_statement vs allowed z (copy_element vs) (last_from may k 0 k.copies f.pre)) from_is ∙ stays (last_from may k 0 k.copies f.pre))
 
   copied_still : IsCopyOf m p x
   copied_still = record {
-    statement = ap (λ (z : Standing). z.statement) f.text.same ∙ (ap (canonised k.symbols f.from.loops) raw_is ∙ (text_stays ∙ sym taken_is));
+    statement = ap (λ (z : Standing). z.statement) f.text.same ∙ (ap (in_canonical_text k.symbols f.from.loops) raw_is ∙ (text_stays ∙ sym taken_is));
     loops = ap (λ (z : Standing). map round_loop z.loops) f.text.same ∙ copy.loops;
     unknown = copy.unknown;
   }
@@ -300,7 +300,7 @@ module _ (m : Nest) (fs : List Declaration) (outside : List (List ℕ)) (deeper 
 pub split_nest_has_no_private_scalars : SplitNestHasNoPrivateScalars
 split_nest_has_no_private_scalars es fs around outside deepest deeper may m k before h loop left = by (with_nodes_split may k) refl
   where
-    whole : NoPrivateScalarIsLeft m (with_arrays may k (made_arrays may k))
+    whole : NoPrivateScalarIsLeft m (with_copy_arrays may k (made_arrays may k))
     whole p i x j r =
         copied_still m fs outside deeper may k h loop p (no_counter es around deepest m before p i) (left p i) x
         (from_statement may k x (comes_from (each may k) 0 (nest_statements k) x (subst (λ (zs : List Standing). In x zs) (has may k loop h.plain).statements j))) r

@@ -13,8 +13,8 @@ use Rattle.dependence_graph.specs.declared.graphs.Place.{Place}
 use Rattle.dependence_graph.specs.nest_graph.References.{is_among}
 use Rattle.nest.specs.Plain.{Guarded, Loop}
 use Rattle.node_splitting.specs.Arrays.{extents_over}
-use Rattle.node_splitting.specs.Counts.{count, count_subscript, first_in_left, first_in_right, is_counter, is_item, variables_of}
-use Rattle.node_splitting.specs.Reads.{as_expression, behind, but_whole, is_copied, itself_or, reads_in, reads_in_left, reads_in_right, reads_in_statement, reads_of, reads_of_all}
+use Rattle.node_splitting.specs.Counts.{count, count_subscript, first_in_left, first_in_right, is_counter, is_item, variables_from_outside}
+use Rattle.node_splitting.specs.Reads.{read_as_expression, behind, but_whole, is_copied, itself_or, reads_in, reads_in_left, reads_in_right, reads_in_statement, reads_of, reads_of_all}
 use Rattle.node_splitting.specs.Split.{may_in}
 
 pub both_true : (a b : Bool) → (a && b) ≡ true → (a ≡ true) × (b ≡ true)
@@ -48,7 +48,7 @@ pub record Passes (Good : Expression → Type 0) (GoodEach : Expressions → Typ
 module _ (loops : List (List ℕ)) (may : ℕ → Bool) (Good : Expression → Type 0) (GoodEach : Expressions → Type 0) (GoodIn : Subscripts → Type 0) (passes : Passes Good GoodEach GoodIn) where
   -- a read that is copied
   pub record IsRead (r : Reference) : Type 0 where
-    pub good : Good (as_expression r)
+    pub good : Good (read_as_expression r)
     pub counts_none : is_counter loops r.name r.subscripts ≡ false
     pub number : ℕ
     pub allowed : may number ≡ true
@@ -119,12 +119,12 @@ module _ (N : List ℕ → Type 0) where
   }
 
 module _ (loops : List (List ℕ)) (may : ℕ → Bool) where
-  pub read_names : (q : ℕ) (e : Expression) (r : Reference) → In r (reads_of loops may q e) → (x : List ℕ) → In x (names_in (as_expression r)) → In x (names_in e)
+  pub read_names : (q : ℕ) (e : Expression) (r : Reference) → In r (reads_of loops may q e) → (x : List ℕ) → In x (names_in (read_as_expression r)) → In x (names_in e)
   read_names q e r i =
       (all_read loops may (λ a. AllNamed (λ x. In x (names_in e)) (names_in a)) (λ es. AllNamed (λ x. In x (names_in e)) (names_in_each es))
       (λ ss. AllNamed (λ x. In x (names_in e)) (names_in_subscripts ss)) (names_pass (λ x. In x (names_in e))) q e (λ x j. j) r i).good
 
-  pub read_names_in : (q : ℕ) (ss : Subscripts) (r : Reference) → In r (reads_in loops may q ss) → (x : List ℕ) → In x (names_in (as_expression r)) → In x (names_in_subscripts ss)
+  pub read_names_in : (q : ℕ) (ss : Subscripts) (r : Reference) → In r (reads_in loops may q ss) → (x : List ℕ) → In x (names_in (read_as_expression r)) → In x (names_in_subscripts ss)
   read_names_in q ss r i =
       (all_read_in loops may (λ a. AllNamed (λ x. In x (names_in_subscripts ss)) (names_in a)) (λ es. AllNamed (λ x. In x (names_in_subscripts ss)) (names_in_each es))
       (λ qs. AllNamed (λ x. In x (names_in_subscripts ss)) (names_in_subscripts qs)) (names_pass (λ x. In x (names_in_subscripts ss))) q ss (λ x j. j) r i).good
@@ -133,7 +133,7 @@ module _ (loops : List (List ℕ)) (may : ℕ → Bool) where
 
 module _ (may : Place → Bool) (n : ℕ) (ls : List Loop) (k : ℕ) (g : Guarded) where
   abbrev allowed_now : ℕ → Bool
-  allowed_now = but_whole (variables_of ls) (may_in may n ls k) g
+  allowed_now = but_whole (variables_from_outside ls) (may_in may n ls k) g
 
   trivial : Passes (λ e. Unit {0}) (λ es. Unit {0}) (λ ss. Unit {0})
   trivial = record {
@@ -147,22 +147,22 @@ module _ (may : Place → Bool) (n : ℕ) (ls : List Loop) (k : ℕ) (g : Guarde
     section = λ a b c ss h. tt;
   }
 
-  pub extents_there : (r : Reference) → In r (reads_in_statement (variables_of ls) (may_in may n ls k) g) → is_some (extents_over n ls) ≡ true
-  extents_there r i = by (In-append r (reads_in_left (variables_of ls) (may_in may n ls k) g) (reads_in_right (variables_of ls) (may_in may n ls k) g) i)
+  pub extents_there : (r : Reference) → In r (reads_in_statement (variables_from_outside ls) (may_in may n ls k) g) → is_some (extents_over n ls) ≡ true
+  extents_there r i = by (In-append r (reads_in_left (variables_from_outside ls) (may_in may n ls k) g) (reads_in_right (variables_from_outside ls) (may_in may n ls k) g) i)
     where
-      some : (q : ℕ) → but_whole (variables_of ls) (may_in may n ls k) g q ≡ true → is_some (extents_over n ls) ≡ true
+      some : (q : ℕ) → but_whole (variables_from_outside ls) (may_in may n ls k) g q ≡ true → is_some (extents_over n ls) ≡ true
       some q e =
           (both_true (is_some (extents_over n ls)) (may (record { stmt = k; at = q }))
-          (both_true (may_in may n ls k q) (not (is_item g.right && (q == first_in_right (variables_of ls) g))) e).0).0
+          (both_true (may_in may n ls k q) (not (is_item g.right && (q == first_in_right (variables_from_outside ls) g))) e).0).0
 
-      by : In r (reads_in_left (variables_of ls) (may_in may n ls k) g) ⊎ In r (reads_in_right (variables_of ls) (may_in may n ls k) g) → is_some (extents_over n ls) ≡ true
+      by : In r (reads_in_left (variables_from_outside ls) (may_in may n ls k) g) ⊎ In r (reads_in_right (variables_from_outside ls) (may_in may n ls k) g) → is_some (extents_over n ls) ≡ true
       by (inl j) =
-          let h = all_read_in (variables_of ls) (but_whole (variables_of ls) (may_in may n ls k) g) (λ e. Unit {0}) (λ es. Unit {0}) (λ ss. Unit {0}) trivial
-          (first_in_left (variables_of ls) g) g.left.subscripts tt r j in
+          let h = all_read_in (variables_from_outside ls) (but_whole (variables_from_outside ls) (may_in may n ls k) g) (λ e. Unit {0}) (λ es. Unit {0}) (λ ss. Unit {0}) trivial
+          (first_in_left (variables_from_outside ls) g) g.left.subscripts tt r j in
           some h.number h.allowed
       by (inr j) =
-          let h = all_read (variables_of ls) (but_whole (variables_of ls) (may_in may n ls k) g) (λ e. Unit {0}) (λ es. Unit {0}) (λ ss. Unit {0}) trivial
-          (first_in_right (variables_of ls) g) g.right tt r j in
+          let h = all_read (variables_from_outside ls) (but_whole (variables_from_outside ls) (may_in may n ls k) g) (λ e. Unit {0}) (λ es. Unit {0}) (λ ss. Unit {0}) trivial
+          (first_in_right (variables_from_outside ls) g) g.right tt r j in
           some h.number h.allowed
 
 -- ---- one after another

@@ -12,6 +12,7 @@ use Rattle.dependence_graph.specs.declared.graphs.Place.{Place}
 use Rattle.last_values.specs.normal_forms.NormalLoops.{counter_name}
 use Rattle.linear_forms.specs.Laws.{HoldsSized}
 use Rattle.meaning.specs.Dialect.{fortran77}
+use Rattle.tree.specs.declared.width.Width.{Width}
 use Rattle.meaning.specs.Holding.{HoldsProgram, IsStorable}
 use Rattle.meaning.specs.Reads.{names_in, names_in_block, names_in_statement, names_in_subscripts}
 use Rattle.meaning.specs.Run.{Going, State, does, does_all}
@@ -34,7 +35,7 @@ use Rattle.nest_steps.proofs.Acts.{Leads-then, Leads-to}
 use Rattle.nest_steps.proofs.Mapped.{mapped_nest_leads, wide_enough}
 use Rattle.nest_steps.proofs.Rounds.{loop_turns}
 use Rattle.nest_steps.specs.Leading.{Led, Leads}
-use Rattle.nest_steps.specs.Mapped.{AllLead, AllLeadIn, count_in, count_of, mapped}
+use Rattle.nest_steps.specs.Mapped.{AllLead, AllLeadIn, count_in, count_of, mapped_parts_of}
 use Rattle.nest_steps.specs.Rounds.{Hold, InLoops, Turning}
 use Rattle.nest_steps.specs.Statements.{cell_of}
 use Rattle.pass_laws.proofs.NormalFacts.MadeStatements.{counter_long, counter_same}
@@ -66,9 +67,9 @@ use Rattle.statement_passes.specs.Standings.{IsLoop}
 use Rattle.prepared_passes.proofs.RenamedNests.Behind.{AreSame, Clear, endings_lead}
 use Rattle.prepared_passes.proofs.RenamedNests.Bodies.{Apart, IsPlace, count_part, first_place, inner_place, numbers_of, rest_place}
 use Rattle.prepared_passes.proofs.RenamedNests.Declared.{IsDeclared, names_declared}
-use Rattle.node_splitting.specs.Arrays.{array, copy_name, element, extents_over, texts_over}
-use Rattle.node_splitting.specs.Counts.{variables_of}
-use Rattle.node_splitting.specs.Split.{firsts, last_from, made_arrays, may_in, with_arrays, arrays_from, firsts_from, last}
+use Rattle.node_splitting.specs.Arrays.{array, copy_name, copy_element, extents_over, texts_over}
+use Rattle.node_splitting.specs.Counts.{variables_from_outside}
+use Rattle.node_splitting.specs.Split.{firsts, last_from, made_arrays, may_in, with_copy_arrays, arrays_from, firsts_from, last}
 use Rattle.prepared_passes.specs.splitting.Laws.{GoOnButCopies, SplitNestGoesOnAsNest}
 use Rattle.prepared_passes.specs.splitting.Splits.{IsCopyName, MayBeSplit}
 use Rattle.prepared_passes.proofs.SplitNests.Copying.{AreBeside, IsReady, put_both, statement_leads}
@@ -81,6 +82,8 @@ use Rattle.linear_forms.specs.CanonicalLaws.{AreDistinct}
 use Rattle.pass_laws.proofs.NormalFacts.Trips.{IsTripOf}
 use Rattle.prepared_passes.proofs.SplitNests.Reading.{extents_there}
 use Rattle.rewrite.proofs.Values.{cell_in-named}
+use Rattle.tree.specs.Widths.{bits_of}
+use Rattle.meaning.proofs.Widths.{narrowest}
 
 -- one loop more
 turns_more : (trip : List ℕ → Loop → ℕ) (done : List ℕ) (ls : List Loop) (is : List ℕ) (l : Loop) (i : ℕ) → AreTurns trip done ls is → 1 ≤ i → i ≤ trip (done ++ is) l
@@ -112,8 +115,8 @@ among_true (y ∷ ys) x (inr i) = by (bytes_eq y x) (among_true ys x i)
     by true f = refl
     by false f = f
 
-module _ (p : Program) (around : List (List ℕ)) (deepest : ℕ) (may : Place → Bool) (m : Nest) (h : IsPrepared p.declarations around deepest m)
-    (can : MayBeSplit p.declarations may m) (s : State) (run : MayRun p (with_arrays may m (made_arrays may m)) s) where
+module _ (width : Width) (p : Program) (around : List (List ℕ)) (deepest : ℕ) (may : Place → Bool) (m : Nest) (h : IsPrepared p.declarations around deepest m)
+    (can : MayBeSplit p.declarations may m) (s : State) (run : MayRun width p (with_copy_arrays may m (made_arrays may m)) s) where
   abbrev IsMade : List ℕ → Type 0
   IsMade = IsCopyName may m
 
@@ -133,10 +136,10 @@ module _ (p : Program) (around : List (List ℕ)) (deepest : ℕ) (may : Place �
   trip = trip_at (length m.symbols) run.values
 
   abbrev like : List ℕ → ℕ → Store → Store → Type 0
-  like is k = AreBeside 31 (IsCopyName may m) (IsDeclared p.declarations) m.symbols (value_among m.symbols 0 run.values) s.store.bounds
+  like is k = AreBeside (bits_of width) (IsCopyName may m) (IsDeclared p.declarations) m.symbols (value_among m.symbols 0 run.values) s.store.bounds
 
   abbrev At : List Loop → List ℕ → ℕ → Store → Store → Type 0
-  At = InLoops 31 counters like
+  At = InLoops (bits_of width) counters like
 
   -- ---- names
 
@@ -170,7 +173,7 @@ module _ (p : Program) (around : List (List ℕ)) (deepest : ℕ) (may : Place �
   counter_of : (x : List ℕ) → is_among (variables_of_loops (nest_loops m)) x ≡ true → (l : Loop) × In l (nest_loops m) × (x ≡ l.variable)
   counter_of x e = let o = In-map (λ (l : Loop). l.variable) x (nest_loops m) (among_in (variables_of_loops (nest_loops m)) x e) in (o.it, o.inside, o.is)
 
-  counter_scalar : (store : Store) → HoldsProgram fortran77 p store → (y : List ℕ) → is_among (variables_of_loops (nest_loops m)) y ≡ true → store.bounds y ≡ Some []
+  counter_scalar : (store : Store) → HoldsProgram (fortran77 width) p store → (y : List ℕ) → is_among (variables_of_loops (nest_loops m)) y ≡ true → store.bounds y ≡ Some []
   counter_scalar store holds y e =
       let c = counter_of y e in
       let r = each_asked (IsPreparedLoop p.declarations m.symbols) (nest_loops m) [] m.body h.plain (walked (IsPreparedLoop p.declarations m.symbols) [] m.body h.parts.loops) c.0 c.1 in
@@ -301,8 +304,8 @@ module _ (p : Program) (around : List (List ℕ)) (deepest : ℕ) (may : Place �
             let o = In-map (λ (a : Made). a.name) g.left.name m.made (Contains-In g.left.name (made_names m) c) in
             (all_in (IsPreparedMade p.declarations m.symbols deepest) m.made h.parts.made o.it o.inside).counter j (sym o.is ∙ e)
 
-    ready : (line : ℕ) → IsReady 31 (IsCopyName may m) (IsDeclared p.declarations) m.symbols value s.store.bounds counters ls is (length pre) line (variables_of ls)
-        (may_in may (length m.symbols) ls (length pre)) g (element (variables_of ls)) (cell ls is) from
+    ready : (line : ℕ) → IsReady (bits_of width) (IsCopyName may m) (IsDeclared p.declarations) m.symbols value s.store.bounds counters ls is (length pre) line (variables_from_outside ls)
+        (may_in may (length m.symbols) ls (length pre)) g (copy_element (variables_from_outside ls)) (cell ls is) from
     ready line = record {
       clear = λ x i. (all_fine x i).0;
       known = λ x i. (all_fine x i).1;
@@ -312,15 +315,15 @@ module _ (p : Program) (around : List (List ℕ)) (deepest : ℕ) (may : Place �
       other = λ j. no_variable (copy_name j) (copy_no_counter j) ls round;
       once = λ i j a b e. copy_names_are_apart i j (below i a) (below j b) e;
       room = λ t u at j low high. (let a = has_array j low high in
-          cell_there p around deepest m h s.store run.holds run.values run.valued ls (es_of ls) (extents_are_some a.read a.among) 31 j is u (at.stores.second (copy_name j))
+          cell_there width p around deepest m h s.store run.holds run.values run.valued ls (es_of ls) (extents_are_some a.read a.among) (bits_of width) j is u (at.stores.second (copy_name j))
           (has_bounds j low high) turns (λ o i. (at.scalars o.variable (among_true (variables_of_loops (nest_loops m)) o.variable (map-In (λ (l : Loop). l.variable) o (nest_loops m) (round o i)))).1) at.second);
     }
 
-    one_leads : (line : ℕ) → Leads (At ls is (length pre)) (At ls is (length pre + 1)) (does (sequential 31) None (guarded_statement g))
-        (does_all (sequential 31) None (block_of_parts line (parts (map Run (each_raw may m ls (length pre) g)))))
+    one_leads : (line : ℕ) → Leads (At ls is (length pre)) (At ls is (length pre + 1)) (does (sequential (bits_of width)) None (guarded_statement g))
+        (does_all (sequential (bits_of width)) None (block_of_parts line (parts (map Run (each_raw may m ls (length pre) g)))))
     one_leads line =
-        statement_leads 31 (IsCopyName may m) (IsDeclared p.declarations) m.symbols value s.store.bounds counters ls is (length pre) line (variables_of ls)
-        (may_in may (length m.symbols) ls (length pre)) g (element (variables_of ls)) (cell ls is) from (ready line)
+        statement_leads (bits_of width) (IsCopyName may m) (IsDeclared p.declarations) m.symbols value s.store.bounds counters ls is (length pre) line (variables_from_outside ls)
+        (may_in may (length m.symbols) ls (length pre)) g (copy_element (variables_from_outside ls)) (cell ls is) from (ready line)
 
   -- ---- loops
 
@@ -328,11 +331,11 @@ module _ (p : Program) (around : List (List ℕ)) (deepest : ℕ) (may : Place �
   abbrev TurnsAre : List Loop → Loop → Type 0
   TurnsAre ls l = (is : List ℕ) (t : Store) (z : ℤ) (n : ℕ) → ((o : Loop) → In o ls → t.bounds o.variable ≡ Some [])
       → ((y : List ℕ) → In y m.symbols → (t.bounds y ≡ Some []) × (t.held (cell_of y) ≡ Int (value_among m.symbols 0 run.values y)))
-      → Hold ls is t → number_of (sequential 31) l.last t ≡ Ok z → trip_count (pos 1) z (pos 1) ≡ Ok n → trip_at (length m.symbols) run.values is l ≡ n
+      → Hold ls is t → number_of (sequential (bits_of width)) l.last t ≡ Ok z → trip_count (pos 1) z (pos 1) ≡ Ok n → trip_at (length m.symbols) run.values is l ≡ n
 
   loop_turns_so : (ls : List Loop) (l : Loop) → IsNormal l → Under p.declarations m.symbols (nest_loops m) ls l → TurnsAre ls l
   loop_turns_so ls l normal u is t z n bounds fixed hold e count =
-      turns_are 31 m.symbols run.values distinct ls l here.value here.is here.has is_trip is t z n bounds fixed hold e count
+      turns_are (bits_of width) m.symbols run.values distinct ls l here.value here.is here.has is_trip is t z n bounds fixed hold e count
     where
       distinct : AreDistinct m.symbols
       distinct = ordered_distinct m.symbols h.parts.ordered
@@ -355,22 +358,22 @@ module _ (p : Program) (around : List (List ℕ)) (deepest : ℕ) (may : Place �
   abbrev KnownTurns : List ℕ → Loop → ℕ → Type 0
   KnownTurns is l n = trip_at (length m.symbols) run.values is l ≡ n
 
-  steady : (is : List ℕ) (k : ℕ) (t u : Store) (y : List ℕ) (v : Value) → is_in_range 31 v ≡ true → counters y ≡ true → like is k t u → like is k (put (cell_of y) v t) (put (cell_of y) v u)
+  steady : (is : List ℕ) (k : ℕ) (t u : Store) (y : List ℕ) (v : Value) → is_in_range (bits_of width) v ≡ true → counters y ≡ true → like is k t u → like is k (put (cell_of y) v t) (put (cell_of y) v u)
   steady is k t u y v range c a =
-      put_both 31 (IsCopyName may m) (IsDeclared p.declarations) m.symbols value s.store.bounds (cell_of y) v t u range (no_symbol y c) a
+      put_both (bits_of width) (IsCopyName may m) (IsDeclared p.declarations) m.symbols value s.store.bounds (cell_of y) v t u range (no_symbol y c) a
 
   symbols_scalar : (y : List ℕ) → In y m.symbols → s.store.bounds y ≡ Some []
-  symbols_scalar y i = symbol_bounds p around deepest m h s.store run.holds run.values run.valued y i
+  symbols_scalar y i = symbol_bounds width p around deepest m h s.store run.holds run.values run.valued y i
 
   turning : (ls : List Loop) (l : Loop) (ps : Parts) (is : List ℕ) (pre post : List Standing) → Round ls → In l (nest_loops m) → IsPlain (Turns l ps) → TurnsAre ls l
       → AllFine (names_in l.last) → IsPlace (nest_statements m) ls (l ∷ loops_in_parts ps) pre (statements_in_parts (ls ++ l ∷ []) ps) post
-      → Turning 31 counters like KnownTurns ls l is (length pre) (count_in ps)
+      → Turning (bits_of width) counters like KnownTurns ls l is (length pre) (count_in ps)
   turning ls l ps is pre post round inside plain turns fine place = record {
     first = plain.0.first;
     step = plain.0.step;
     counter = among_true (variables_of_loops (nest_loops m)) l.variable (map-In (λ (q : Loop). q.variable) l (nest_loops m) inside);
     own = other_variables l ls (l ∷ loops_in_parts ps) (inl refl) (bearing l inside) round place.round;
-    same = λ t u a z e. sym (number_alike 31 t u l.last (each_of (Alike 31 t u) (names_in l.last) (λ x i. (
+    same = λ t u a z e. sym (number_alike (bits_of width) t u l.last (each_of (Alike (bits_of width) t u) (names_in l.last) (λ x i. (
       a.stores.first x ∙ sym (a.stores.second x),
       λ zs c f. sym (a.stores.held c (subst (λ y. ¬ IsCopyName may m y) (sym (cell_in-named (t.bounds x) x zs c f)) (fine x i).0)),
     )))) ∙ e;
@@ -395,10 +398,10 @@ module _ (p : Program) (around : List (List ℕ)) (deepest : ℕ) (may : Place �
   mutual
     part_leads : (line : ℕ) (ls : List Loop) (is : List ℕ) (q : Part) (pre post : List Standing) → IsPlain q → Round ls → AreTurns trip [] ls is
         → ((o : Loop) → In o (loops_of q) → In o (nest_loops m)) → flow.EachLoop TurnsAre ls q → AllFine (names_in_statement (statement_of_part line q))
-        → IsPlace (nest_statements m) ls (loops_of q) pre (statements_in ls q) post → AllLead (each_raw may m) 31 line KnownTurns At ls is (length pre) q
+        → IsPlace (nest_statements m) ls (loops_of q) pre (statements_in ls q) post → AllLead (each_raw may m) (bits_of width) line KnownTurns At ls is (length pre) q
     part_leads line ls is (Run g) pre post plain round turns among each_turns fine place = one_leads ls is round turns pre post g place.parted fine line
     part_leads line ls is (Turns l ps) pre post plain round turns among each_turns fine place = (
-      loop_turns (each_raw may m) 31 line counters like (wide_enough 31 (omega arith)) steady KnownTurns ls l is (length pre) (count_in ps)
+      loop_turns (each_raw may m) (bits_of width) line counters like (wide_enough (bits_of width) (narrowest width)) steady KnownTurns ls l is (length pre) (count_in ps)
           (turning ls l ps is pre post round (among l (inl refl)) plain each_turns.0
           (λ x i. fine x (inr (In-left x (names_in l.first ++ names_in l.last ++ names_in (numeral l.step)) (names_in_block (block_of_parts line ps))
           (In-left x (names_in l.first ++ names_in l.last) (names_in (numeral l.step)) (In-right x (names_in l.first) (names_in l.last) i))))) place),
@@ -413,13 +416,13 @@ module _ (p : Program) (around : List (List ℕ)) (deepest : ℕ) (may : Place �
 
     parts_lead : (line : ℕ) (ls : List Loop) (is : List ℕ) (ps : Parts) (pre post : List Standing) → ArePlain ps → Round ls → AreTurns trip [] ls is
         → ((o : Loop) → In o (loops_in_parts ps) → In o (nest_loops m)) → flow.EachLoopIn TurnsAre ls ps → AllFine (names_in_block (block_of_parts line ps))
-        → IsPlace (nest_statements m) ls (loops_in_parts ps) pre (statements_in_parts ls ps) post → AllLeadIn (each_raw may m) 31 line KnownTurns At ls is (length pre) ps
+        → IsPlace (nest_statements m) ls (loops_in_parts ps) pre (statements_in_parts ls ps) post → AllLeadIn (each_raw may m) (bits_of width) line KnownTurns At ls is (length pre) ps
     parts_lead line ls is no_parts pre post plain round turns among each_turns fine place = tt
     parts_lead line ls is (part q ps) pre post plain round turns among each_turns fine place = (
       part_leads line ls is q pre (statements_in_parts ls ps ++ post) plain.0 round turns (λ o i. among o (In-left o (loops_of q) (loops_in_parts ps) i)) each_turns.0
           (fine_front (names_in_statement (statement_of_part line q)) (names_in_block (block_of_parts line ps)) fine)
           (first_place (nest_statements m) ls q ps plain.0 plain.1 pre post place),
-      subst (λ k. AllLeadIn (each_raw may m) 31 line KnownTurns At ls is k ps) long
+      subst (λ k. AllLeadIn (each_raw may m) (bits_of width) line KnownTurns At ls is k ps) long
           (parts_lead line ls is ps (pre ++ statements_in ls q) post plain.1 round turns (λ o i. among o (In-right o (loops_of q) (loops_in_parts ps) i)) each_turns.1
           (fine_rest (names_in_statement (statement_of_part line q)) (names_in_block (block_of_parts line ps)) fine)
           (rest_place (nest_statements m) ls q ps plain.0 plain.1 pre post place)),
@@ -439,7 +442,7 @@ module _ (p : Program) (around : List (List ℕ)) (deepest : ℕ) (may : Place �
     once = distinct_too (numbers_of (nest_loops m)) h.parts.once;
   }
 
-  body_leads : AllLead (each_raw may m) 31 m.line KnownTurns At [] [] 0 m.body
+  body_leads : AllLead (each_raw may m) (bits_of width) m.line KnownTurns At [] [] 0 m.body
   body_leads =
       part_leads m.line [] [] m.body [] [] h.plain (λ o i. absurd i) tt (λ o i. i) all_turn
       (fine_front (names_in_statement (statement_of_part m.line m.body)) (names_in_block m.after) fine_block) whole_place
@@ -451,18 +454,18 @@ module _ (p : Program) (around : List (List ℕ)) (deepest : ℕ) (may : Place �
       second = λ x. refl;
       held = λ c n. refl;
       ranged = λ c known. in_range (declared p.declarations c.name) (s.store.held c) known (run.holds.kinds c);
-      fixed = λ z i. symbol_held p around deepest m h s.store run.holds run.values run.valued z i;
+      fixed = λ z i. symbol_held width p around deepest m h s.store run.holds run.values run.valued z i;
     };
     scalars = λ y c. (counter_scalar s.store run.holds y c, counter_scalar s.store run.holds y c);
     first = tt;
     second = tt;
   }
     where
-      in_range : (o : Option Declaration) (v : Value) → IsSomeAnd o (λ (d : Declaration). ⊤) → IfSome o (λ (d : Declaration). IsStorable fortran77 d.kind v) → is_in_range 31 v ≡ true
+      in_range : (o : Option Declaration) (v : Value) → IsSomeAnd o (λ (d : Declaration). ⊤) → IfSome o (λ (d : Declaration). IsStorable (fortran77 width) d.kind v) → is_in_range (bits_of width) v ≡ true
       in_range None v k g = absurd k
       in_range (Some d) v k g = g.within
 
-  clear_after : Clear 31 (IsCopyName may m) (names_in_block m.after)
+  clear_after : Clear (bits_of width) (IsCopyName may m) (names_in_block m.after)
   clear_after x i = (fine_rest (names_in_statement (statement_of_part m.line m.body)) (names_in_block m.after) fine_block x i).0
 
   module _ (l : Loop) (ps : Parts) (body : m.body ≡ Turns l ps) where
@@ -472,56 +475,56 @@ module _ (p : Program) (around : List (List ℕ)) (deepest : ℕ) (may : Place �
     abbrev End : Store → Store → Type 0
     End = At [] [] (count_of m.body)
 
-    loops : Leads Start End (does fortran77 None (statement_of_part m.line m.body)) (does fortran77 None (statement_of_part m.line (mapped_body (each_raw may m) m.body)))
+    loops : Leads Start End (does (fortran77 width) None (statement_of_part m.line m.body)) (does (fortran77 width) None (statement_of_part m.line (mapped_body (each_raw may m) m.body)))
     loops =
-        subst (λ (b : Part). Leads Start End (does fortran77 None (statement_of_part m.line m.body)) (does fortran77 None (statement_of_part m.line (mapped_body (each_raw may m) b)))) (sym body)
-        (subst (λ (b : Part). Leads Start End (does fortran77 None (statement_of_part m.line m.body))
-        (does_all fortran77 None (block_of_parts m.line (parts (mapped (each_raw may m) [] 0 b))))) body
-        (mapped_nest_leads (each_raw may m) 31 m.line KnownTurns At m.body (omega arith) body_leads))
+        subst (λ (b : Part). Leads Start End (does (fortran77 width) None (statement_of_part m.line m.body)) (does (fortran77 width) None (statement_of_part m.line (mapped_body (each_raw may m) b)))) (sym body)
+        (subst (λ (b : Part). Leads Start End (does (fortran77 width) None (statement_of_part m.line m.body))
+        (does_all (fortran77 width) None (block_of_parts m.line (parts (mapped_parts_of (each_raw may m) [] 0 b))))) body
+        (mapped_nest_leads (each_raw may m) (bits_of width) m.line KnownTurns At m.body (narrowest width) body_leads))
 
-    after : Leads (AreSame 31 (IsCopyName may m)) (AreSame 31 (IsCopyName may m)) (does_all fortran77 None m.after) (does_all fortran77 None m.after)
-    after = endings_lead 31 (IsCopyName may m) m.after h.parts.after.endings clear_after
+    after : Leads (AreSame (bits_of width) (IsCopyName may m)) (AreSame (bits_of width) (IsCopyName may m)) (does_all (fortran77 width) None m.after) (does_all (fortran77 width) None m.after)
+    after = endings_lead (bits_of width) (IsCopyName may m) m.after h.parts.after.endings clear_after
 
-    ended : (t u : Store) → End t u → AreSame 31 (IsCopyName may m) t u
+    ended : (t u : Store) → End t u → AreSame (bits_of width) (IsCopyName may m) t u
     ended t u a = record { bounds = λ x. a.stores.second x ∙ sym (a.stores.first x); held = a.stores.held }
 
-    led : IsSound (does_all fortran77 None (loops_then_after m) s).way
-        → Led (AreSame 31 (IsCopyName may m)) (does_all fortran77 None (loops_then_after m) s) (does_all fortran77 None (loops_then_after (raw_nest may m)) s)
+    led : IsSound (does_all (fortran77 width) None (loops_then_after m) s).way
+        → Led (AreSame (bits_of width) (IsCopyName may m)) (does_all (fortran77 width) None (loops_then_after m) s) (does_all (fortran77 width) None (loops_then_after (raw_nest may m)) s)
     led sound =
-        (Leads-then Start (AreSame 31 (IsCopyName may m)) (AreSame 31 (IsCopyName may m)) _ _ _ _ (Leads-to Start End (AreSame 31 (IsCopyName may m)) _ _ ended loops)
-        (Stays-does_all fortran77 None m.after) after).at s s.store s.steps run.going start sound
+        (Leads-then Start (AreSame (bits_of width) (IsCopyName may m)) (AreSame (bits_of width) (IsCopyName may m)) _ _ _ _ (Leads-to Start End (AreSame (bits_of width) (IsCopyName may m)) _ _ ended loops)
+        (Stays-does_all (fortran77 width) None m.after) after).at s s.store s.steps run.going start sound
 
-    goes_on : HoldsSized s.store → IsSound (does_all fortran77 None (loops_then_after m) s).way
-        → GoOnButCopies may m (does_all fortran77 None (loops_then_after m) s) (does_all fortran77 None (loops_then_after (with_arrays may m (made_arrays may m))) s)
+    goes_on : HoldsSized s.store → IsSound (does_all (fortran77 width) None (loops_then_after m) s).way
+        → GoOnButCopies may m (does_all (fortran77 width) None (loops_then_after m) s) (does_all (fortran77 width) None (loops_then_after (with_copy_arrays may m (made_arrays may m))) s)
     goes_on sized sound =
-        subst (GoOnButCopies may m (does_all fortran77 None (loops_then_after m) s)) (sym there)
+        subst (GoOnButCopies may m (does_all (fortran77 width) None (loops_then_after m) s)) (sym there)
         (record { going = one.going; bounds = one.stores.bounds; held = one.stores.held; rest = one.rest })
       where
-        one : Led (AreSame 31 (IsCopyName may m)) (does_all fortran77 None (loops_then_after m) s) (does_all fortran77 None (loops_then_after (raw_nest may m)) s)
+        one : Led (AreSame (bits_of width) (IsCopyName may m)) (does_all (fortran77 width) None (loops_then_after m) s) (does_all (fortran77 width) None (loops_then_after (raw_nest may m)) s)
         one = led sound
 
         plain : IsPlain (mapped_body (each_raw may m) m.body)
         plain = (mapped_nest_has (each_raw may m) m can.loop h.plain).plain
 
-        way : (does_all fortran77 None (loops_then_after (raw_nest may m)) s).way ≡ Going
+        way : (does_all (fortran77 width) None (loops_then_after (raw_nest may m)) s).way ≡ Going
         way = ap (λ (t : State). t.way) one.rest ∙ one.going
 
-        there : does_all fortran77 None (loops_then_after (with_arrays may m (made_arrays may m))) s ≡ does_all fortran77 None (loops_then_after (raw_nest may m)) s
+        there : does_all (fortran77 width) None (loops_then_after (with_copy_arrays may m (made_arrays may m))) s ≡ does_all (fortran77 width) None (loops_then_after (raw_nest may m)) s
         there =
-            ap (λ (z : Nest). does_all fortran77 None (loops_then_after z) s) (whole_is may m can.loop)
-            ∙ texts_run_alike (raw_nest may m) s plain sized (subst IsSound (sym way) tt)
+            ap (λ (z : Nest). does_all (fortran77 width) None (loops_then_after z) s) (whole_is may m can.loop)
+            ∙ texts_run_alike width (raw_nest may m) s plain sized (subst IsSound (sym way) tt)
 
-pub split_nest_goes_on_as_nest : SplitNestGoesOnAsNest
-split_nest_goes_on_as_nest p around deepest may m k s h can split run sized sound =
-    subst (λ (z : Nest). MayRun p z s → GoOnButCopies may m (does_all fortran77 None (loops_then_after m) s) (does_all fortran77 None (loops_then_after z) s)) (sym same)
+pub split_nest_goes_on_as_nest : (width : Width) → SplitNestGoesOnAsNest width
+split_nest_goes_on_as_nest width p around deepest may m k s h can split run sized sound =
+    subst (λ (z : Nest). MayRun width p z s → GoOnButCopies may m (does_all (fortran77 width) None (loops_then_after m) s) (does_all (fortran77 width) None (loops_then_after z) s)) (sym same)
     (λ r. by m.body refl can.loop r) run
   where
-    same : k ≡ with_arrays may m (made_arrays may m)
+    same : k ≡ with_copy_arrays may m (made_arrays may m)
     same = split_is may m k split
 
-    by : (b : Part) → m.body ≡ b → IsLoop b → MayRun p (with_arrays may m (made_arrays may m)) s
-        → GoOnButCopies may m (does_all fortran77 None (loops_then_after m) s) (does_all fortran77 None (loops_then_after (with_arrays may m (made_arrays may m))) s)
-    by (Turns l ps) e loop r = goes_on p around deepest may m h can s r l ps e sized sound
+    by : (b : Part) → m.body ≡ b → IsLoop b → MayRun width p (with_copy_arrays may m (made_arrays may m)) s
+        → GoOnButCopies may m (does_all (fortran77 width) None (loops_then_after m) s) (does_all (fortran77 width) None (loops_then_after (with_copy_arrays may m (made_arrays may m))) s)
+    by (Turns l ps) e loop r = goes_on width p around deepest may m h can s r l ps e sized sound
     by (Run g) e loop r = absurd loop
     by (Choice bs ps) e loop r = absurd loop
     by (Label n) e loop r = absurd loop

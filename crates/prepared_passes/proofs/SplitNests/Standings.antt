@@ -8,7 +8,7 @@ use Rattle.nest_order.specs.orders.Lists.{In}
 use Rattle.statement_passes.specs.Standings.{mapped_standings, standings}
 use Rattle.tree.specs.Plain.{Reference}
 use Rattle.node_splitting.specs.Arrays.{array, arrays}
-use Rattle.node_splitting.specs.Reads.{copied, copies_of, reads_in_statement, split_statement, with_copies}
+use Rattle.node_splitting.specs.Reads.{read_copied, copies_of, reads_in_statement, split_statement, with_copies}
 
 module _ (each : List Loop → ℕ → Guarded → List Guarded) where
   pub record ComesFrom (k : ℕ) (xs : List Standing) (x : Standing) : Type 0 where
@@ -57,7 +57,7 @@ module _ (n : Nest) (ls : List Loop) (element : ℕ → Reference) (g : Guarded)
     pub read : Reference
     pub among : In read rs
     pub there : In (array n ls number read) (arrays n ls c rs)
-    pub is : x ≡ copied element g number read
+    pub is : x ≡ read_copied element g number read
 
   pub is_copy : (c : ℕ) (rs : List Reference) (x : Guarded) → In x (copies_of element g c rs) → IsCopy c rs x
   is_copy c [] x i = absurd i

@@ -43,9 +43,9 @@ use Rattle.scalar_expand.specs.declared.privates.RoundLoop.{RoundLoop}
 use Rattle.tree.specs.Names.{IsSourceName}
 use Rattle.tree.specs.Plain.{Declaration, Expression, Named, Only, Reference, Subscript, Subscripts, no_subscripts, subscript, subscripts}
 use Rattle.tree.specs.declared.ops.Kind.{Kind}
-use Rattle.node_splitting.specs.Arrays.{array, arrays, copy_name, element, extents_over, kind_among, kind_of, made_kind, texts_over}
-use Rattle.node_splitting.specs.Counts.{first_in_left, first_in_right, is_counter, variables_of}
-use Rattle.node_splitting.specs.Reads.{as_expression, but_whole, copied, reads_in_left, reads_in_right, split_statement}
+use Rattle.node_splitting.specs.Arrays.{array, arrays, copy_name, copy_element, extents_over, kind_among, kind_in_nest, made_kind_or_integer, texts_over}
+use Rattle.node_splitting.specs.Counts.{first_in_left, first_in_right, is_counter, variables_from_outside}
+use Rattle.node_splitting.specs.Reads.{read_as_expression, but_whole, read_copied, reads_in_left, reads_in_right, split_statement}
 use Rattle.node_splitting.specs.Split.{arrays_from, firsts, firsts_from, last_from, made_arrays, may_in}
 use Rattle.prepared_passes.specs.splitting.Splits.{IsKnown, MayBeSplit}
 use Rattle.prepared_passes.proofs.SplitNests.Reading.{among_true}
@@ -67,12 +67,12 @@ declared_kind (c ∷ ds) as' x d e = by (bytes_eq c.name x) e (λ f. declared_ki
     by true f g = let same : c ≡ d = cc in ap (λ (z : Declaration). z.kind) same
     by false f g = g f
 
-undeclared_kind : (ds : List Declaration) (as' : List Made) (x : List ℕ) → declared ds x ≡ None → kind_among ds as' x ≡ made_kind as' x
+undeclared_kind : (ds : List Declaration) (as' : List Made) (x : List ℕ) → declared ds x ≡ None → kind_among ds as' x ≡ made_kind_or_integer as' x
 undeclared_kind [] as' x e = refl
 undeclared_kind (c ∷ ds) as' x e = by (bytes_eq c.name x) e (λ f. undeclared_kind ds as' x f)
   where
-    by : (b : Bool) → cond b (Some c) (declared ds x) ≡ None → (declared ds x ≡ None → kind_among ds as' x ≡ made_kind as' x)
-        → cond b c.kind (kind_among ds as' x) ≡ made_kind as' x
+    by : (b : Bool) → cond b (Some c) (declared ds x) ≡ None → (declared ds x ≡ None → kind_among ds as' x ≡ made_kind_or_integer as' x)
+        → cond b c.kind (kind_among ds as' x) ≡ made_kind_or_integer as' x
     by true f g = cc
     by false f g = g f
 
@@ -80,7 +80,7 @@ record IsMadeOf (as' : List Made) (x : List ℕ) : Type 0 where
   made : Made
   inside : In made as'
   name : made.name ≡ x
-  kind : made_kind as' x ≡ made.kind
+  kind : made_kind_or_integer as' x ≡ made.kind
 
 made_of : (as' : List Made) (x : List ℕ) → In x (map (λ (a : Made). a.name) as') → IsMadeOf as' x
 made_of [] x i = absurd i
@@ -94,12 +94,12 @@ made_of (a ∷ as') x i = by (bytes_eq a.name x) refl i (λ j. made_of as' x j)
       made = a;
       inside = inl refl;
       name = (bytes_eq-Decides a.name x).0 e;
-      kind = ap (λ b. cond b a.kind (made_kind as' x)) e;
+      kind = ap (λ b. cond b a.kind (made_kind_or_integer as' x)) e;
     }
     by false e (inl f) g = absurd (no e f)
     by false e (inr j) g =
         let h = g j in
-        record { made = h.made; inside = inr h.inside; name = h.name; kind = ap (λ b. cond b a.kind (made_kind as' x)) e ∙ h.kind }
+        record { made = h.made; inside = inr h.inside; name = h.name; kind = ap (λ b. cond b a.kind (made_kind_or_integer as' x)) e ∙ h.kind }
 
 rank_is : (es : List Expression) → rank_of_extent (extent_for es) ≡ length es
 rank_is [] = refl
@@ -119,7 +119,7 @@ module _ (es : List Declaration) (around : List (List ℕ)) (deepest : ℕ) (may
   ls = s.loops
 
   abbrev names : List (List ℕ)
-  names = variables_of s.loops
+  names = variables_from_outside s.loops
 
   abbrev allowed : ℕ → Bool
   allowed = may_in may (length m.symbols) s.loops (length pre)
@@ -201,7 +201,7 @@ module _ (es : List Declaration) (around : List (List ℕ)) (deepest : ℕ) (may
       by no_subscripts t none is c j = let yes : is_among names x ≡ true = among_true names x j in let bad : true ≡ false = sym yes ∙ none in cc
       by (subscript q qs) t none is c j = suits (declared es x) q qs (subst (λ z. IsSomeAnd (declared es z) IsCounter) (sym is) c) t.0
 
-  kind_is : (x : List ℕ) (ss : Subscripts) (k : Kind) → Stands x → HasKind es (Named x ss) k → is_counter names x ss ≡ false → kind_of m x ≡ k
+  kind_is : (x : List ℕ) (ss : Subscripts) (k : Kind) → Stands x → HasKind es (Named x ss) k → is_counter names x ss ≡ false → kind_in_nest m x ≡ k
   kind_is x ss k st t none = by (declared m.declarations x) refl (can.known s inside x st)
     where
       prepared_kind : (a : Made) → In a m.made → a.name ≡ x → a.kind ≡ k
@@ -214,7 +214,7 @@ module _ (es : List Declaration) (around : List (List ℕ)) (deepest : ℕ) (may
           kind None p q = absurd p
           kind (Some d) p q = sym p.0 ∙ sym q.0
 
-      by : (o : Option Declaration) → declared m.declarations x ≡ o → IsKnown m x → kind_of m x ≡ k
+      by : (o : Option Declaration) → declared m.declarations x ≡ o → IsKnown m x → kind_in_nest m x ≡ k
       by (Some d) e w = declared_kind m.declarations m.made x d e ∙ sym (has_kind x ss k d (can.among x d e) t)
       by None e (inl w) = let none : IsSome {T = Declaration} None = subst (λ (o : Option Declaration). IsSome o) e w in cc
       by None e (inr (inl c)) =
@@ -231,7 +231,7 @@ module _ (es : List Declaration) (around : List (List ℕ)) (deepest : ℕ) (may
   round_of l i = let o = In-map round_loop l s.loops i in (o.it, o.inside, o.is)
 
   module _ (j : ℕ) (r : Reference) (made : In (array m s.loops j r) (made_arrays may m)) (exts : List Trip) (are : extents_over (length m.symbols) s.loops ≡ Some exts)
-      (k : Kind) (kind : kind_of m r.name ≡ k) where
+      (k : Kind) (kind : kind_in_nest m r.name ≡ k) where
     array_declared : IsSomeAnd (declared es (copy_name j)) (λ (d : Declaration). (d.kind ≡ k) × (rank_of_extent d.extent ≡ length (map round_loop s.loops)))
     array_declared = by (declared es (copy_name j)) (can.declared (array m s.loops j r) made)
       where
@@ -244,12 +244,12 @@ module _ (es : List Declaration) (around : List (List ℕ)) (deepest : ℕ) (may
             let five = length-map s.loops round_loop in
             omega (arith, one, two, three, four, five)
 
-        by : (o : Option Declaration) → IsSomeAnd o (λ (d : Declaration). (d.kind ≡ kind_of m r.name) × (d.extent ≡ extent_for (texts_over m.symbols (extents_over (length m.symbols) s.loops))))
+        by : (o : Option Declaration) → IsSomeAnd o (λ (d : Declaration). (d.kind ≡ kind_in_nest m r.name) × (d.extent ≡ extent_for (texts_over m.symbols (extents_over (length m.symbols) s.loops))))
             → IsSomeAnd o (λ (d : Declaration). (d.kind ≡ k) × (rank_of_extent d.extent ≡ length (map round_loop s.loops)))
         by None p = absurd p
         by (Some d) p = (p.0 ∙ kind, ap rank_of_extent p.1 ∙ (rank_is (texts_over m.symbols (extents_over (length m.symbols) s.loops)) ∙ many))
 
-    element_fits : IsElementOf es Own (element names j) k
+    element_fits : IsElementOf es Own (copy_element names j) k
     element_fits =
         subst (λ (q : Reference). IsElementOf es Own q k) (element_is s.loops exts j) (record {
           scalar = element_scalar es bare (copy_name j) k (map round_loop s.loops) array_declared (λ l i. counter_scalar es l.variable (counter_there l i));
@@ -290,15 +290,15 @@ module _ (es : List Declaration) (around : List (List ℕ)) (deepest : ℕ) (may
           In-right r.name (names_of_guard g.guard) _ (In-left r.name (names_in g.right) (g.left.name ∷ names_in_subscripts g.left.subscripts)
           (read_names names chosen (first_in_right names g) g.right r j r.name (inl refl)))
 
-  one_fits : (j : ℕ) (r : Reference) → In r rs → In (array m s.loops j r) (arrays m s.loops from rs) → Fits es names chosen (element names) Own j r
+  one_fits : (j : ℕ) (r : Reference) → In r rs → In (array m s.loops j r) (arrays m s.loops from rs) → Fits es names chosen (copy_element names) Own j r
   one_fits j r i a k t none =
       element_fits j r (there (array m s.loops j r) a) exts_of (extents_some r i) k (kind_is r.name r.subscripts k (read_stands r i) t.0 none)
 
-  all_fit : AreAt (Fits es names chosen (element names) Own) from rs
+  all_fit : AreAt (Fits es names chosen (copy_element names) Own) from rs
   all_fit = each from rs (λ j r i a. one_fits j r i a)
     where
-      each : (c : ℕ) (qs : List Reference) → ((j : ℕ) (r : Reference) → In r qs → In (array m s.loops j r) (arrays m s.loops c qs) → Fits es names chosen (element names) Own j r)
-          → AreAt (Fits es names chosen (element names) Own) c qs
+      each : (c : ℕ) (qs : List Reference) → ((j : ℕ) (r : Reference) → In r qs → In (array m s.loops j r) (arrays m s.loops c qs) → Fits es names chosen (copy_element names) Own j r)
+          → AreAt (Fits es names chosen (copy_element names) Own) c qs
       each c [] f = tt
       each c (q ∷ qs) f = (f c q (inl refl) (inl refl), each (suc c) qs (λ j r i a. f j r (inr i) (inr a)))
 
@@ -320,7 +320,7 @@ module _ (es : List Declaration) (around : List (List ℕ)) (deepest : ℕ) (may
   in_right x i = In-right x (names_of_guard g.guard) _ (In-left x (names_in g.right) (g.left.name ∷ names_in_subscripts g.left.subscripts) i)
 
   pub record IsReadHere (r : Reference) : Type 0 where
-    pub good : IsGood es Stands deepest (as_expression r)
+    pub good : IsGood es Stands deepest (read_as_expression r)
     pub counts_none : is_counter names r.name r.subscripts ≡ false
 
   pub read_here : (r : Reference) → In r rs → IsReadHere r
@@ -367,43 +367,43 @@ module _ (es : List Declaration) (around : List (List ℕ)) (deepest : ℕ) (may
         All-append (λ (e : Expression). depth_of e ≤ deepest + 1) (guard_or_none g.guard) (l ∷ r ∷ []) guard_deep
         (All-cons (λ (e : Expression). depth_of e ≤ deepest + 1) l (r ∷ []) a (All-cons (λ (e : Expression). depth_of e ≤ deepest + 1) r [] b (All-nil (λ (e : Expression). depth_of e ≤ deepest + 1))))
 
-    pub copy_there : (x : Guarded) → IsCopy m s.loops (element names) s.statement from rs x → IsThere x
+    pub copy_there : (x : Guarded) → IsCopy m s.loops (copy_element names) s.statement from rs x → IsThere x
     copy_there x c =
         let r = read_here c.read c.among in
         let e = one_fits c.number c.read c.among c.there r.good.kind r.good.scalar r.counts_none in
         subst IsThere (sym c.is) (record {
           line = was.line;
           plain = (was.plain.0, r.good.plain, e.plain);
-          names = all_of Own (names_of (assignment (copied (element names) g c.number c.read)))
-              (three (names_of_guard g.guard) (names_in (as_expression c.read)) (names_in (as_expression (element names c.number))) Own guard_names (λ y i. owned y (r.good.names y i)) e.own);
+          names = all_of Own (names_of (assignment (read_copied (copy_element names) g c.number c.read)))
+              (three (names_of_guard g.guard) (names_in (read_as_expression c.read)) (names_in (read_as_expression (copy_element names c.number))) Own guard_names (λ y i. owned y (r.good.names y i)) e.own);
           target = inr (new (array m s.loops c.number c.read) (there (array m s.loops c.number c.read) c.there));
           free = λ y. copy_long c.number (all_in (IsPreparedSymbol es) m.symbols h.parts.symbols (copy_name c.number) (Contains-In (copy_name c.number) m.symbols y)).name;
           kind = r.good.kind;
           left = e.scalar;
           right = r.good.scalar;
           guard = was.guard;
-          deep = shallow (as_expression (element names c.number)) (as_expression c.read) (let d = e.shallow in omega (arith, d)) (deeper (as_expression c.read) r.good.deep);
+          deep = shallow (read_as_expression (copy_element names c.number)) (read_as_expression c.read) (let d = e.shallow in omega (arith, d)) (deeper (read_as_expression c.read) r.good.deep);
         })
 
     abbrev result : Guarded
-    result = split_statement names allowed s.statement (element names) from
+    result = split_statement names allowed s.statement (copy_element names) from
 
-    left_became : BecameIn es names chosen (element names) Own g.left.subscripts result.left.subscripts
+    left_became : BecameIn es names chosen (copy_element names) Own g.left.subscripts result.left.subscripts
     left_became =
-        became_in es names chosen (element names) Own (first_in_left names g) from g.left.subscripts was.plain.2 was.left.0.1 (name_rank es g.left.name g.left.subscripts was.left.1)
-        (λ y i. owned y (in_left y i)) (first_at (Fits es names chosen (element names) Own) from (reads_in_left names allowed s.statement) (reads_in_right names allowed s.statement) all_fit)
+        became_in es names chosen (copy_element names) Own (first_in_left names g) from g.left.subscripts was.plain.2 was.left.0.1 (name_rank es g.left.name g.left.subscripts was.left.1)
+        (λ y i. owned y (in_left y i)) (first_at (Fits es names chosen (copy_element names) Own) from (reads_in_left names allowed s.statement) (reads_in_right names allowed s.statement) all_fit)
 
-    right_became : Became es names chosen (element names) Own g.right was.kind result.right
+    right_became : Became es names chosen (copy_element names) Own g.right was.kind result.right
     right_became =
-        became es names chosen (element names) Own (first_in_right names g) (from + length (reads_in_left names allowed s.statement)) g.right was.kind was.plain.1 was.right
-        (λ y i. owned y (in_right y i)) (second_at (Fits es names chosen (element names) Own) from (reads_in_left names allowed s.statement) (reads_in_right names allowed s.statement) all_fit)
+        became es names chosen (copy_element names) Own (first_in_right names g) (from + length (reads_in_left names allowed s.statement)) g.right was.kind was.plain.1 was.right
+        (λ y i. owned y (in_right y i)) (second_at (Fits es names chosen (copy_element names) Own) from (reads_in_left names allowed s.statement) (reads_in_right names allowed s.statement) all_fit)
 
-    left_whole : Became es names chosen (element names) Own (Named g.left.name g.left.subscripts) was.kind (Named g.left.name result.left.subscripts)
+    left_whole : Became es names chosen (copy_element names) Own (Named g.left.name g.left.subscripts) was.kind (Named g.left.name result.left.subscripts)
     left_whole =
-        named_became es names chosen (element names) Own g.left.name g.left.subscripts result.left.subscripts was.kind was.left.0 was.left.1
+        named_became es names chosen (copy_element names) Own g.left.name g.left.subscripts result.left.subscripts was.kind was.left.0 was.left.1
         (owned g.left.name (In-right g.left.name (names_of_guard g.guard) _ (In-right g.left.name (names_in g.right) (g.left.name ∷ names_in_subscripts g.left.subscripts) (inl refl)))) left_became
 
-    pub split_there : IsThere (split_statement names allowed s.statement (element names) from)
+    pub split_there : IsThere (split_statement names allowed s.statement (copy_element names) from)
     split_there = record {
       line = was.line;
       plain = (was.plain.0, right_became.plain, left_became.plain);

@@ -18,7 +18,7 @@ use Rattle.tree.specs.Plain.{no_expressions, no_subscripts, subscript}
 use Rattle.tree.specs.declared.ops.Kind.{Kind}
 use Rattle.tree.specs.declared.ops.Kind.TheVariants.{Integer}
 use Rattle.node_splitting.specs.Counts.{count, is_counter}
-use Rattle.node_splitting.specs.Reads.{as_expression, behind, is_copied, itself_or, read_or, reads_in, reads_of, reads_of_all, split_in, split_of, split_of_all}
+use Rattle.node_splitting.specs.Reads.{read_as_expression, behind, is_copied, itself_or, read_or, reads_in, reads_of, reads_of_all, split_in, split_of, split_of_all}
 use Rattle.prepared_passes.proofs.SplitNests.Reading.{AreAt, Passes, both_true, first_at, not_true, second_at}
 
 -- ---- ranks
@@ -145,15 +145,15 @@ module _ (es : List Declaration) (N : List ℕ → Type 0) (deepest : ℕ) where
 
 -- what may stand in the place of a read of this kind
 pub record IsElementOf (es : List Declaration) (Own : List ℕ → Type 0) (r : Reference) (k : Kind) : Type 0 where
-  pub scalar : IsScalar es (as_expression r) k
-  pub shallow : depth_of (as_expression r) ≤ 1
-  pub plain : IsPlain (as_expression r)
-  pub own : (y : List ℕ) → In y (names_in (as_expression r)) → Own y
+  pub scalar : IsScalar es (read_as_expression r) k
+  pub shallow : depth_of (read_as_expression r) ≤ 1
+  pub plain : IsPlain (read_as_expression r)
+  pub own : (y : List ℕ) → In y (names_in (read_as_expression r)) → Own y
 
 module _ (es : List Declaration) (loops : List (List ℕ)) (may : ℕ → Bool) (element : ℕ → Reference) (Own : List ℕ → Type 0) where
   -- the element with a number fits the read that it is for
   abbrev pub Fits : ℕ → Reference → Type 0
-  Fits c r = (k : Kind) → IsScalar es (as_expression r) k → is_counter loops r.name r.subscripts ≡ false → IsElementOf es Own (element c) k
+  Fits c r = (k : Kind) → IsScalar es (read_as_expression r) k → is_counter loops r.name r.subscripts ≡ false → IsElementOf es Own (element c) k
 
   abbrev Owned : List (List ℕ) → Type 0
   Owned xs = (x : List ℕ) → In x xs → Own x

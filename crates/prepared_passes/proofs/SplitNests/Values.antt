@@ -12,7 +12,7 @@ use Rattle.meaning.proofs.CellFrame.{first_part, second_part}
 use Rattle.rewrite.specs.Following.{sequential}
 use Rattle.rewrite.proofs.Values.{parted, joined, cell_in-named}
 use Rattle.node_splitting.specs.Counts.{count}
-use Rattle.node_splitting.specs.Reads.{as_expression, behind, is_copied, itself_or, read_or, reads_in, reads_of, reads_of_all, split_in, split_of, split_of_all}
+use Rattle.node_splitting.specs.Reads.{read_as_expression, behind, is_copied, itself_or, read_or, reads_in, reads_of, reads_of_all, split_in, split_of, split_of_all}
 
 module _ (bits : ℕ) (s u : Store) where
   -- a name that both stores have alike
@@ -41,7 +41,7 @@ module _ (bits : ℕ) (element : ℕ → Reference) (s u : Store) where
   abbrev pub AreCopied : ℕ → List Reference → Type 0
   AreCopied c [] = Unit {0}
   AreCopied c (r ∷ rs) =
-      ((v : Value) → value_of (sequential bits) (as_expression r) s ≡ Ok v → value_of (sequential bits) (as_expression (element c)) u ≡ Ok v) × AreCopied (suc c) rs
+      ((v : Value) → value_of (sequential bits) (read_as_expression r) s ≡ Ok v → value_of (sequential bits) (read_as_expression (element c)) u ≡ Ok v) × AreCopied (suc c) rs
 
   pub first_copies : (c : ℕ) (xs ys : List Reference) → AreCopied c (xs ++ ys) → AreCopied c xs
   first_copies c [] ys h = tt
@@ -130,7 +130,7 @@ module _ (bits : ℕ) (loops : List (List ℕ)) (may : ℕ → Bool) (element : 
 
 module _ (bits : ℕ) (s : Store) where
   abbrev pub HasValue : Reference → Type 0
-  HasValue r = (v : Value) × (value_of (sequential bits) (as_expression r) s ≡ Ok v)
+  HasValue r = (v : Value) × (value_of (sequential bits) (read_as_expression r) s ≡ Ok v)
 
 module _ (bits : ℕ) (loops : List (List ℕ)) (may : ℕ → Bool) (s : Store) where
   abbrev Has : Reference → Type 0

@@ -40,10 +40,10 @@ use Rattle.pass_laws.proofs.PreparedNests.Normal.LoopSizes.{IsSized, sum_sized}
 use Rattle.pass_laws.proofs.PreparedNests.Normal.TextDepths.{binary_deep, text_deep, trip_deep}
 use Rattle.pass_laws.proofs.PreparedNests.Normal.TextKinds.{at_least_is}
 use Rattle.pass_laws.proofs.PreparedNests.Trips.{names_of_trip}
-use Rattle.statement_passes.specs.Symbols.{place_of, shifted_trip, with_name}
+use Rattle.statement_passes.specs.Symbols.{place_among, shifted_trip, with_name_placed}
 use Rattle.statement_passes.proofs.Forms.{shifted_trip_has_text}
 use Rattle.prepared_passes.proofs.SymbolsAnew.Names.{in_either}
-use Rattle.inductions.specs.Ends.{end_text, ending}
+use Rattle.inductions.specs.Ends.{induction_end_text, induction_ending}
 use Rattle.inductions.specs.Found.{end_form}
 use Rattle.inductions.specs.declared.found.Induction.{Induction}
 use Rattle.prepared_passes.proofs.SubstitutedNests.EndNumbers.{known_sized, trip_comes}
@@ -191,10 +191,10 @@ module _ (es : List Declaration) (around : List (List ℕ)) (deepest : ℕ) (lin
 
   module _ (d : Induction) (f : IsFair d) where
     abbrev more : List (List ℕ)
-    more = with_name symbols d.name
+    more = with_name_placed symbols d.name
 
-    in_more : (P : List ℕ → Type 0) → ((y : List ℕ) → In y symbols → P y) → P d.name → lists.Each P (with_name symbols d.name)
-    in_more P g h = each_from P more (λ y i. by y (in_either symbols (place_of symbols d.name) d.name y i))
+    in_more : (P : List ℕ → Type 0) → ((y : List ℕ) → In y symbols → P y) → P d.name → lists.Each P (with_name_placed symbols d.name)
+    in_more P g h = each_from P more (λ y i. by y (in_either symbols (place_among symbols d.name) d.name y i))
       where
         by : (y : List ℕ) → (y ≡ d.name) ⊎ In y symbols → P y
         by y (inl e) = subst P (sym e) h
@@ -209,11 +209,11 @@ module _ (es : List Declaration) (around : List (List ℕ)) (deepest : ℕ) (lin
       first = number_form (pos 0);
       below = number_form (pos 0);
       value = number_form (pos 0);
-      trip = shifted_trip (place_of symbols d.name) t;
+      trip = shifted_trip (place_among symbols d.name) t;
       end = d.end;
     }
 
-    same_text : in_place.end_text (with_name symbols d.name) [] fake ≡ end_text symbols t d
+    same_text : in_place.end_text (with_name_placed symbols d.name) [] fake ≡ induction_end_text symbols t d
     same_text = ap (λ e. text_of [] more (e ∷ []) d.end) (shifted_trip_has_text [] symbols [] d.name t)
 
     zero_small : IsSmallForm (number_form (pos 0))
@@ -224,43 +224,43 @@ module _ (es : List Declaration) (around : List (List ℕ)) (deepest : ℕ) (lin
       step = f.small;
       first = zero_small;
       below = zero_small;
-      end = sum_small (length symbols + 2) (times (pos 1) (symbol_form (place_of symbols d.name)) ∷ times d.step (trip_form (length symbols + 1) (shifted_trip (place_of symbols d.name) t)) ∷ []) d.end f.end;
-      top = small_form 0 (shifted_trip (place_of symbols d.name) t).top (trip_comes symbols d.name last t p).top;
+      end = sum_small (length symbols + 2) (times (pos 1) (symbol_form (place_among symbols d.name)) ∷ times d.step (trip_form (length symbols + 1) (shifted_trip (place_among symbols d.name) t)) ∷ []) d.end f.end;
+      top = small_form 0 (shifted_trip (place_among symbols d.name) t).top (trip_comes symbols d.name last t p).top;
       divisor = p.divisor;
       by = p.by;
       small = p.small;
     }
 
-    end_is_text : IsText 70 (end_text symbols t d)
+    end_is_text : IsText 70 (induction_end_text symbols t d)
     end_is_text = record {
       number = subst (IsNumber es) same_text
           (end_is es more (in_more (IsIntegerScalar es) (λ y i. each_in (IsIntegerScalar es) symbols integers y i) (integer_of (declared es d.name) f.declared_so)) [] fake tt fake_small);
       names = λ y i. named CountsNone (in_place.end_text more [] fake) (end_over CountsNone more (in_more CountsNone none f.counts) [] fake tt) y (subst (λ e. In y (names_in e)) (sym same_text) i);
       deep = text_deep [] more (trip_text [] symbols [] t ∷ []) d.end 36
-          (sum_sized (length symbols + 2) (times (pos 1) (symbol_form (place_of symbols d.name)) ∷ times d.step (trip_form (length symbols + 1) (shifted_trip (place_of symbols d.name) t)) ∷ []) d.end f.end)
+          (sum_sized (length symbols + 2) (times (pos 1) (symbol_form (place_among symbols d.name)) ∷ times d.step (trip_form (length symbols + 1) (shifted_trip (place_among symbols d.name) t)) ∷ []) d.end f.end)
           (trip_is.deep, tt);
     }
 
-    assigned_good : IsGood es around deepest (block (assigned line d.name (end_text symbols t d) ∷ []))
+    assigned_good : IsGood es around deepest (block (assigned line d.name (induction_end_text symbols t d) ∷ []))
     assigned_good =
-        with_good es around deepest (assigned line d.name (end_text symbols t d)) no_statements tt names profile deep (none_good es around deepest)
+        with_good es around deepest (assigned line d.name (induction_end_text symbols t d)) no_statements tt names profile deep (none_good es around deepest)
       where
-        names : (y : List ℕ) → In y (d.name ∷ names_in (end_text symbols t d)) → CountsNone y
+        names : (y : List ℕ) → In y (d.name ∷ names_in (induction_end_text symbols t d)) → CountsNone y
         names y (inl e) = subst CountsNone (sym e) f.counts
         names y (inr i) = end_is_text.names y i
 
-        deep : deepest_of (assigned line d.name (end_text symbols t d)) ≤ deepest
-        deep = let e = end_is_text.deep in both_most 0 (depth_of (end_text symbols t d)) deepest (omega arith) (omega (arith, e, room))
+        deep : deepest_of (assigned line d.name (induction_end_text symbols t d)) ≤ deepest
+        deep = let e = end_is_text.deep in both_most 0 (depth_of (induction_end_text symbols t d)) deepest (omega arith) (omega (arith, e, room))
 
         whole : (o : Option Declaration) → declared es d.name ≡ o → IsSomeAnd o IsCounter
-            → IsSomeAnd o (λ (c : Declaration). IsWhole es (Named d.name no_subscripts) c.kind × IsWhole es (end_text symbols t d) c.kind)
+            → IsSomeAnd o (λ (c : Declaration). IsWhole es (Named d.name no_subscripts) c.kind × IsWhole es (induction_end_text symbols t d) c.kind)
         whole None e g = absurd g
         whole (Some c) e g = (
           record { suits = (subst (λ (o : Option Declaration). IsSomeAnd o (λ (b : Declaration). (c.kind ≡ b.kind) × Unit {0})) (sym e) (refl, tt), tt); depth = omega arith },
-          record { suits = subst (λ k. HasKind es (end_text symbols t d) k) (sym g.kind) end_is_text.number.0; depth = (let x = end_is_text.deep in omega (arith, x)) },
+          record { suits = subst (λ k. HasKind es (induction_end_text symbols t d) k) (sym g.kind) end_is_text.number.0; depth = (let x = end_is_text.deep in omega (arith, x)) },
         )
 
-        profile : (w : Surroundings) → w.variables ≡ around → IsStatement es (assigned line d.name (end_text symbols t d)) w
+        profile : (w : Surroundings) → w.variables ≡ around → IsStatement es (assigned line d.name (induction_end_text symbols t d)) w
         profile w e = (
           (is_line, tt),
           (whole (declared es d.name) refl f.declared_so, inl end_is_text.number.1, λ c. f.outside (subst (λ xs. Contains xs d.name) e c)),
@@ -269,13 +269,13 @@ module _ (es : List Declaration) (around : List (List ℕ)) (deepest : ℕ) (lin
     test_deep : depth_of (at_least_one (trip_text [] symbols [] t)) ≤ 38
     test_deep = binary_deep Ge (trip_text [] symbols [] t) (Number (pos 1)) 36 trip_is.deep (omega arith)
 
-    under_good : IsGood es around deepest (block (only_where line (at_least_one (trip_text [] symbols [] t)) (assigned line d.name (end_text symbols t d) ∷ []) ∷ []))
+    under_good : IsGood es around deepest (block (only_where line (at_least_one (trip_text [] symbols [] t)) (assigned line d.name (induction_end_text symbols t d) ∷ []) ∷ []))
     under_good =
-        with_good es around deepest (only_where line (at_least_one (trip_text [] symbols [] t)) (assigned line d.name (end_text symbols t d) ∷ [])) no_statements
+        with_good es around deepest (only_where line (at_least_one (trip_text [] symbols [] t)) (assigned line d.name (induction_end_text symbols t d) ∷ [])) no_statements
         ((assigned_good.endings, tt), tt) names profile deep (none_good es around deepest)
       where
         inner : Block
-        inner = block (assigned line d.name (end_text symbols t d) ∷ [])
+        inner = block (assigned line d.name (induction_end_text symbols t d) ∷ [])
 
         of_test : (y : List ℕ) → In y (names_in (trip_text [] symbols [] t)) ⊎ In y [] → CountsNone y
         of_test y (inl i) = trip_is.names y i
@@ -297,7 +297,7 @@ module _ (es : List Declaration) (around : List (List ℕ)) (deepest : ℕ) (lin
             (In-append y (names_in (at_least_one (trip_text [] symbols [] t)) ++ names_in_block inner) [] j))
             (In-append y ((names_in (at_least_one (trip_text [] symbols [] t)) ++ names_in_block inner) ++ []) [] i)
 
-        profile : (w : Surroundings) → w.variables ≡ around → IsStatement es (only_where line (at_least_one (trip_text [] symbols [] t)) (assigned line d.name (end_text symbols t d) ∷ [])) w
+        profile : (w : Surroundings) → w.variables ≡ around → IsStatement es (only_where line (at_least_one (trip_text [] symbols [] t)) (assigned line d.name (induction_end_text symbols t d) ∷ [])) w
         profile w e = (
           is_line,
           refl,
@@ -311,21 +311,21 @@ module _ (es : List Declaration) (around : List (List ℕ)) (deepest : ℕ) (lin
             all_most : (a b c : ℕ) → a ≤ c → b ≤ c → max (max a (max b 0)) 0 ≤ c
             all_most a b c h k = omega (arith, h, k)
 
-    one_good : IsGood es around deepest (block (ending symbols line t d ∷ []))
+    one_good : IsGood es around deepest (block (induction_ending symbols line t d ∷ []))
     one_good = by (is_positive t)
       where
-        by : (b : Bool) → IsGood es around deepest (block (cond b (assigned line d.name (end_text symbols t d))
-            (only_where line (at_least_one (trip_text [] symbols [] t)) (assigned line d.name (end_text symbols t d) ∷ [])) ∷ []))
+        by : (b : Bool) → IsGood es around deepest (block (cond b (assigned line d.name (induction_end_text symbols t d))
+            (only_where line (at_least_one (trip_text [] symbols [] t)) (assigned line d.name (induction_end_text symbols t d) ∷ [])) ∷ []))
         by true = assigned_good
         by false = under_good
 
-  endings_good : (ds : List Induction) → lists.Each IsFair ds → IsGood es around deepest (block (map (ending symbols line t) ds))
+  endings_good : (ds : List Induction) → lists.Each IsFair ds → IsGood es around deepest (block (map (induction_ending symbols line t) ds))
   endings_good [] h = none_good es around deepest
   endings_good (d ∷ ds) h =
-      good_then es around deepest (block (ending symbols line t d ∷ [])) (block (map (ending symbols line t) ds)) (one_good d h.0) (endings_good ds h.1)
+      good_then es around deepest (block (induction_ending symbols line t d ∷ [])) (block (map (induction_ending symbols line t) ds)) (one_good d h.0) (endings_good ds h.1)
 
   pub after_prepared : (d : ℕ) (b : Block) (ds : List Induction) → d ≤ deepest → lists.Each IsFair ds → IsPreparedAfter es around d b
-      → IsPreparedAfter es around deepest (block_then b (block (map (ending symbols line t) ds)))
+      → IsPreparedAfter es around deepest (block_then b (block (map (induction_ending symbols line t) ds)))
   after_prepared d b ds less h k =
-      good_after es around deepest (block_then b (block (map (ending symbols line t) ds)))
-      (good_then es around deepest b (block (map (ending symbols line t) ds)) (was_good es around deepest d b less k) (endings_good ds h))
+      good_after es around deepest (block_then b (block (map (induction_ending symbols line t) ds)))
+      (good_then es around deepest b (block (map (induction_ending symbols line t) ds)) (was_good es around deepest d b less k) (endings_good ds h))

@@ -21,10 +21,10 @@ use Rattle.linear_forms.proofs.Sizes.{both}
 use Rattle.nest.specs.declared.parts.Trip.{Trip}
 use Rattle.nest_steps.specs.Statements.{cell_of}
 use Rattle.last_values.specs.declared.normal_forms.places.Place.TheVariants as place
-use Rattle.last_values.specs.normal_forms.Combinations.{at, coefficient_in, number_form, times}
+use Rattle.last_values.specs.normal_forms.Combinations.{number_of_place, coefficient_in, number_form, times}
 use Rattle.last_values.specs.normal_forms.NormalLoops.{symbol_form, trip_form}
 use Rattle.last_values.specs.normal_forms.Numbers.{number_of_form, products, trip_number}
-use Rattle.last_values.specs.normal_forms.Texts.{quotient, trip_text}
+use Rattle.last_values.specs.normal_forms.Texts.{quotient_text, trip_text}
 use Rattle.last_values.proofs.NormalForms.Numbers.{Zeros, none_among_zeros}
 use Rattle.pass_laws.proofs.LastRuns.Forms.{At, IsKnownForm, number_size, quotient_value, sum_known, text_number}
 use Rattle.pass_laws.proofs.LastRuns.LastNumbers.{number_stays, plus_number, trip_form_number}
@@ -32,11 +32,11 @@ use Rattle.pass_laws.proofs.LastRuns.Pieces.{none_yet}
 use Rattle.pass_laws.specs.prepared_nests.Loops.{IsPreparedTrip}
 use Rattle.pass_laws.proofs.PreparedNests.Normal.LoopSizes.{IsSized, eight_places, terms_counted}
 use Rattle.statement_passes.specs.Laws.{form_with_zero}
-use Rattle.statement_passes.specs.Symbols.{place_of, shifted_trip, with_name}
+use Rattle.statement_passes.specs.Symbols.{place_among, shifted_trip, with_name_placed}
 use Rattle.statement_passes.proofs.Forms.{shifted_is_affine, shifted_is_form, shifted_trip_has_text}
 use Rattle.statement_passes.proofs.Names.{place_of-within}
 use Rattle.prepared_passes.proofs.SymbolsAnew.Names.{length_more}
-use Rattle.inductions.specs.Ends.{end_text}
+use Rattle.inductions.specs.Ends.{induction_end_text}
 use Rattle.inductions.specs.Found.{end_form}
 use Rattle.inductions.specs.declared.found.Induction.{Induction}
 
@@ -47,7 +47,7 @@ no_coefficients zero j c v h = refl
 no_coefficients (suc n) j c v h =
     ap₂ (λ p q. p *ℤ v j +ℤ q) (h j (omega arith) (omega arith)) (no_coefficients n (j + 1) c v (λ i k l. h i (omega (arith, k)) (omega (arith, l)))) ∙ ap (λ z. z +ℤ pos 0) (zero-*ℤ (v j))
 
-zero_at : (k : ℕ) → at (number_form (pos 0)) (place.Loop k) ≡ pos 0
+zero_at : (k : ℕ) → number_of_place (number_form (pos 0)) (place.Loop k) ≡ pos 0
 zero_at zero = refl
 zero_at (suc zero) = refl
 zero_at (suc (suc zero)) = refl
@@ -95,7 +95,7 @@ single (suc n) j p v l m = by (λ k. single n (j + 1) p v (omega (arith, k)) (om
 
 number_of_symbol : (n p : ℕ) (v : ℕ → ℤ) → p < n → number_of_form n none_yet v (symbol_form p) ≡ v p
 number_of_symbol n p v l =
-    ap₂ (λ x y. x +ℤ (y +ℤ pos 0)) (no_coefficients 7 0 (λ k. at (number_form (pos 0)) (place.Loop k)) none_yet (λ k a b. zero_at k)) (single n 0 p v (omega arith) (omega (arith, l)))
+    ap₂ (λ x y. x +ℤ (y +ℤ pos 0)) (no_coefficients 7 0 (λ k. number_of_place (number_form (pos 0)) (place.Loop k)) none_yet (λ k a b. zero_at k)) (single n 0 p v (omega arith) (omega (arith, l)))
     ∙ alone (v p)
   where
     alone : (z : ℤ) → pos 0 +ℤ (z +ℤ pos 0) ≡ z
@@ -178,15 +178,15 @@ known_sized symbols last t p =
 
 -- the trip by the list into which a name has come
 pub trip_comes : (symbols : List (List ℕ)) (x : List ℕ) (last : Expression) (t : Trip) → IsPreparedTrip [] symbols last t
-    → IsPreparedTrip [] (with_name symbols x) last (shifted_trip (place_of symbols x) t)
+    → IsPreparedTrip [] (with_name_placed symbols x) last (shifted_trip (place_among symbols x) t)
 trip_comes symbols x last t h =
-    let a = shifted_is_affine 0 (place_of symbols x) h.form t.top h.affine in
+    let a = shifted_is_affine 0 (place_among symbols x) h.form t.top h.affine in
     let few = a.few in
     let short = h.short in
-    let more = length_more symbols (place_of symbols x) x in
+    let more = length_more symbols (place_among symbols x) x in
     record {
-      top = shifted_is_form 0 (place_of symbols x) t.top h.top;
-      form = form_with_zero (0 + place_of symbols x) h.form;
+      top = shifted_is_form 0 (place_among symbols x) t.top h.top;
+      form = form_with_zero (0 + place_among symbols x) h.form;
       affine = a.affine;
       limited = a.limited ∙ h.limited;
       short = omega (arith, few, short, more);
@@ -206,7 +206,7 @@ module _ (bits : ℕ) (symbols : List (List ℕ)) (last : Expression) (t : Trip)
   pub trip_value : value_of (sequential bits) (trip_text [] symbols [] t) u ≡ Ok (Int (trip_number (length symbols) none_yet (At (vs ++ [])) t))
   unfolding trip_text
   trip_value =
-      ap (λ b. value_of (sequential bits) (quotient (text_of [] symbols [] t.top) b) u) p.by
+      ap (λ b. value_of (sequential bits) (quotient_text (text_of [] symbols [] t.top) b) u) p.by
       ∙ (quotient_value (sequential bits) (text_of [] symbols [] t.top) u (number_of_form (length symbols) none_yet (At (vs ++ [])) t.top) p.divisor p.positive
       (text_number (sequential bits) symbols [] (length symbols) t.top (known_form symbols last t p) u vs [] have tt sized tt)
       (number_size (length symbols) t.top (known_form symbols last t p) (vs ++ []) (subst AreSized (sym (append-nil vs)) sized))
@@ -218,37 +218,37 @@ module _ (bits : ℕ) (symbols : List (List ℕ)) (last : Expression) (t : Trip)
     (end : end_form symbols t d.name d.step ≡ Some d.end) (u : Store) (vs : List ℤ) (have : HaveValues symbols u vs) (sized : AreSized vs)
     (x0 : ℤ) (bounds : u.bounds d.name ≡ Some []) (held : u.held (cell_of d.name) ≡ Int x0) (small : nat_abs x0 ≤ 2 ^ 63) where
   abbrev k : ℕ
-  k = place_of symbols d.name
+  k = place_among symbols d.name
 
   abbrev N : ℕ
   N = length symbols
 
   abbrev more : List (List ℕ)
-  more = with_name symbols d.name
+  more = with_name_placed symbols d.name
 
   abbrev ws : List ℤ
-  ws = insert vs (place_of symbols d.name) x0
+  ws = insert vs (place_among symbols d.name) x0
 
   abbrev z : ℤ
   z = trip_number (length symbols) none_yet (At (vs ++ [])) t
 
-  within : place_of symbols d.name ≤ length vs
+  within : place_among symbols d.name ≤ length vs
   within = let w = place_of-within symbols d.name in let l = have_length symbols vs u have in omega (arith, w, l)
 
-  long : length (insert vs (place_of symbols d.name) x0) ≡ length symbols + 1
+  long : length (insert vs (place_among symbols d.name) x0) ≡ length symbols + 1
   long = let l = have_length symbols vs u have in let m = length_more vs k x0 in omega (arith, l, m)
 
-  longer : length (with_name symbols d.name) ≡ length symbols + 1
+  longer : length (with_name_placed symbols d.name) ≡ length symbols + 1
   longer = length_more symbols k d.name
 
-  have_all : HaveValues (with_name symbols d.name) u (insert vs (place_of symbols d.name) x0)
+  have_all : HaveValues (with_name_placed symbols d.name) u (insert vs (place_among symbols d.name) x0)
   have_all = have_more symbols vs k d.name x0 u bounds held have
 
-  sized_all : AreSized (insert vs (place_of symbols d.name) x0)
+  sized_all : AreSized (insert vs (place_among symbols d.name) x0)
   sized_all = sized_more vs k x0 small sized
 
   -- by the longer list the trip has the same number
-  same_number : trip_number (length (with_name symbols d.name)) none_yet (At (insert vs (place_of symbols d.name) x0 ++ [])) (shifted_trip (place_of symbols d.name) t)
+  same_number : trip_number (length (with_name_placed symbols d.name)) none_yet (At (insert vs (place_among symbols d.name) x0 ++ [])) (shifted_trip (place_among symbols d.name) t)
       ≡ trip_number (length symbols) none_yet (At (vs ++ [])) t
   same_number =
       let one = trip_value bits more last (shifted_trip k t) (trip_comes symbols d.name last t p) u ws have_all sized_all in
@@ -257,22 +257,22 @@ module _ (bits : ℕ) (symbols : List (List ℕ)) (last : Expression) (t : Trip)
       = sym one ∙ (ap (λ e. value_of (sequential bits) e u) (shifted_trip_has_text [] symbols [] d.name t) ∙ two) in
       cc
 
-  alike : (j : ℕ) → j < length (with_name symbols d.name) → At (insert vs (place_of symbols d.name) x0 ++ z ∷ []) j ≡ At (insert vs (place_of symbols d.name) x0 ++ []) j
+  alike : (j : ℕ) → j < length (with_name_placed symbols d.name) → At (insert vs (place_among symbols d.name) x0 ++ z ∷ []) j ≡ At (insert vs (place_among symbols d.name) x0 ++ []) j
   alike j h =
       let l = long in
       let m = longer in
       at_front ws (z ∷ []) j (omega (arith, h, l, m)) ∙ sym (at_front ws [] j (omega (arith, h, l, m)))
 
-  wide : length (with_name symbols d.name) + 1 ≡ length symbols + 2
+  wide : length (with_name_placed symbols d.name) + 1 ≡ length symbols + 2
   wide = let m = longer in omega (arith, m)
 
-  stays : number_of_form (length symbols + 2) none_yet (At (insert vs (place_of symbols d.name) x0 ++ z ∷ [])) (shifted_trip (place_of symbols d.name) t).top
-      ≡ number_of_form (length (with_name symbols d.name)) none_yet (At (insert vs (place_of symbols d.name) x0 ++ [])) (shifted_trip (place_of symbols d.name) t).top
+  stays : number_of_form (length symbols + 2) none_yet (At (insert vs (place_among symbols d.name) x0 ++ z ∷ [])) (shifted_trip (place_among symbols d.name) t).top
+      ≡ number_of_form (length (with_name_placed symbols d.name)) none_yet (At (insert vs (place_among symbols d.name) x0 ++ [])) (shifted_trip (place_among symbols d.name) t).top
   stays =
       subst (λ n. number_of_form n none_yet (At (ws ++ z ∷ [])) (shifted_trip k t).top ≡ number_of_form (length more) none_yet (At (ws ++ [])) (shifted_trip k t).top) wide
       (number_stays (length more) 1 (shifted_trip k t).top (known_form more last (shifted_trip k t) (trip_comes symbols d.name last t p)) none_yet (At (ws ++ [])) (At (ws ++ z ∷ [])) alike)
 
-  end_number : number_of_form (length symbols + 2) none_yet (At (insert vs (place_of symbols d.name) x0 ++ z ∷ [])) d.end ≡ x0 +ℤ d.step *ℤ trip_number (length symbols) none_yet (At (vs ++ [])) t
+  end_number : number_of_form (length symbols + 2) none_yet (At (insert vs (place_among symbols d.name) x0 ++ z ∷ [])) d.end ≡ x0 +ℤ d.step *ℤ trip_number (length symbols) none_yet (At (vs ++ [])) t
   end_number =
       let w = within in
       let l = long in
@@ -285,7 +285,7 @@ module _ (bits : ℕ) (symbols : List (List ℕ)) (last : Expression) (t : Trip)
 
   -- where the trip is of 64 bits
   pub end_value : nat_abs (trip_number (length symbols) none_yet (At (vs ++ [])) t) ≤ 2 ^ 63
-      → value_of (sequential bits) (end_text symbols t d) u ≡ Ok (Int (x0 +ℤ d.step *ℤ trip_number (length symbols) none_yet (At (vs ++ [])) t))
+      → value_of (sequential bits) (induction_end_text symbols t d) u ≡ Ok (Int (x0 +ℤ d.step *ℤ trip_number (length symbols) none_yet (At (vs ++ [])) t))
   end_value few =
       text_number (sequential bits) more (trip_text [] symbols [] t ∷ []) (N + 2) d.end
       (sum_known (N + 2) (times (pos 1) (symbol_form k) ∷ times d.step (trip_form (N + 1) (shifted_trip k t)) ∷ []) d.end end)

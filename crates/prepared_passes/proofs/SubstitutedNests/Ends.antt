@@ -36,7 +36,7 @@ use Rattle.pass_laws.proofs.LastRuns.Forms.{At}
 use Rattle.pass_laws.proofs.LastRuns.LastNumbers.{known_number}
 use Rattle.pass_laws.proofs.LastRuns.Pieces.{none_yet}
 use Rattle.pass_laws.specs.prepared_nests.Loops.{IsPreparedTrip}
-use Rattle.inductions.specs.Ends.{end_text, ending}
+use Rattle.inductions.specs.Ends.{induction_end_text, induction_ending}
 use Rattle.inductions.specs.Found.{end_form}
 use Rattle.inductions.specs.Stores.{element}
 use Rattle.inductions.specs.declared.found.Induction.{Induction}
@@ -186,7 +186,7 @@ module _ (bits : ℕ) (high : bits ≤ 63) (start : List ℕ → ℤ) (symbols :
 
     -- its text has the number, where there is a turn
     valued : (d : Induction) (es : List Induction) → end_form symbols t d.name d.step ≡ Some d.end → int_le (pos 1) (trip_number (length symbols) none_yet (At (vs ++ [])) t) ≡ true
-        → (s u : Store) → AreToCome (d ∷ es) s u → value_of (sequential bits) (end_text symbols t d) u ≡ Ok (Int (start d.name +ℤ d.step *ℤ pos turns))
+        → (s u : Store) → AreToCome (d ∷ es) s u → value_of (sequential bits) (induction_end_text symbols t d) u ≡ Ok (Int (start d.name +ℤ d.step *ℤ pos turns))
     valued d es end one s u a =
         let is : z ≡ pos turns = at_least z turns one count in
         let small : nat_abs z ≤ 2 ^ 63 = subst (λ y. nat_abs y ≤ 2 ^ 63) (sym is) (let f = few in omega (arith, f)) in
@@ -195,8 +195,8 @@ module _ (bits : ℕ) (high : bits ≤ 63) (start : List ℕ → ℤ) (symbols :
 
     assigns : (d : Induction) (es : List Induction) → end_form symbols t d.name d.step ≡ Some d.end → Each (λ (e : Induction). ¬ (d.name ≡ e.name)) es
         → int_le (pos 1) (trip_number (length symbols) none_yet (At (vs ++ [])) t) ≡ true
-        → Goes (AreToCome (d ∷ es)) (AreToCome es) (does (sequential bits) None (assigned line d.name (end_text symbols t d)))
-    assigns d es end once one = second_assignment bits (AreToCome (d ∷ es)) (AreToCome es) line None (scalar d.name) (end_text symbols t d)
+        → Goes (AreToCome (d ∷ es)) (AreToCome es) (does (sequential bits) None (assigned line d.name (induction_end_text symbols t d)))
+    assigns d es end once one = second_assignment bits (AreToCome (d ∷ es)) (AreToCome es) line None (scalar d.name) (induction_end_text symbols t d)
         (λ s u a. (Int (start d.name +ℤ d.step *ℤ pos turns), cell_of d.name, valued d es end one s u a, ap (λ b. cell_in b d.name []) a.scalar.0, a.range.0, settled d es once s u a))
 
     test_value : (u : Store) → HaveValues symbols u vs
@@ -206,18 +206,18 @@ module _ (bits : ℕ) (high : bits ≤ 63) (start : List ℕ → ℤ) (symbols :
 
     under_test : (d : Induction) (es : List Induction) → end_form symbols t d.name d.step ≡ Some d.end → Each (λ (e : Induction). ¬ (d.name ≡ e.name)) es
         → Goes (AreToCome (d ∷ es)) (AreToCome es)
-        (does (sequential bits) None (only_where line (at_least_one (trip_text [] symbols [] t)) (assigned line d.name (end_text symbols t d) ∷ [])))
+        (does (sequential bits) None (only_where line (at_least_one (trip_text [] symbols [] t)) (assigned line d.name (induction_end_text symbols t d) ∷ [])))
     under_test d es end once = record {
       at = λ s u n w a. subst (λ (r : State). Led (AreToCome es) s r)
-          (sym (chooses_at line (at_least_one (trip_text [] symbols [] t)) (block (assigned line d.name (end_text symbols t d) ∷ [])) (record s { store = u; steps = n }) (int_le (pos 1) z) w (test_value u a.have)))
+          (sym (chooses_at line (at_least_one (trip_text [] symbols [] t)) (block (assigned line d.name (induction_end_text symbols t d) ∷ [])) (record s { store = u; steps = n }) (int_le (pos 1) z) w (test_value u a.have)))
           (by s u n w a (int_le (pos 1) z) refl);
     }
       where
         by : (s : State) (u : Store) (n : ℕ) → s.way ≡ Going → AreToCome (d ∷ es) s.store u → (b : Bool) → int_le (pos 1) z ≡ b
             → Led (AreToCome es) s
-            (either b (does_all (sequential bits) None (block (assigned line d.name (end_text symbols t d) ∷ []))) nothing (moved (record s { store = u; steps = n }) (n + 1)))
+            (either b (does_all (sequential bits) None (block (assigned line d.name (induction_end_text symbols t d) ∷ []))) nothing (moved (record s { store = u; steps = n }) (n + 1)))
         by s u n w a true e =
-            subst (λ y. Led (AreToCome es) s (does (sequential bits) None (assigned line d.name (end_text symbols t d)) (record s { store = u; steps = n + 1; way = y }))) w
+            subst (λ y. Led (AreToCome es) s (does (sequential bits) None (assigned line d.name (induction_end_text symbols t d)) (record s { store = u; steps = n + 1; way = y }))) w
             ((assigns d es end once e).at s u (n + 1) w a)
         by s u n w a false e = record {
           stores = unmoved d es (below_one z turns e count) s.store u a;
@@ -226,12 +226,12 @@ module _ (bits : ℕ) (high : bits ≤ 63) (start : List ℕ → ℤ) (symbols :
         }
 
     one_goes : (d : Induction) (es : List Induction) → end_form symbols t d.name d.step ≡ Some d.end → Each (λ (e : Induction). ¬ (d.name ≡ e.name)) es
-        → Goes (AreToCome (d ∷ es)) (AreToCome es) (does (sequential bits) None (ending symbols line t d))
+        → Goes (AreToCome (d ∷ es)) (AreToCome es) (does (sequential bits) None (induction_ending symbols line t d))
     one_goes d es end once = by (is_positive t) refl
       where
         by : (b : Bool) → is_positive t ≡ b → Goes (AreToCome (d ∷ es)) (AreToCome es)
-            (does (sequential bits) None (cond b (assigned line d.name (end_text symbols t d))
-            (only_where line (at_least_one (trip_text [] symbols [] t)) (assigned line d.name (end_text symbols t d) ∷ []))))
+            (does (sequential bits) None (cond b (assigned line d.name (induction_end_text symbols t d))
+            (only_where line (at_least_one (trip_text [] symbols [] t)) (assigned line d.name (induction_end_text symbols t d) ∷ []))))
         by true e =
             let f = both (is_known t) (int_lt (pos 0) t.top.constant) e in
             let g = both (is_undivided t) (is_constant t.top) f.0 in
@@ -240,10 +240,10 @@ module _ (bits : ℕ) (high : bits ≤ 63) (start : List ℕ → ℤ) (symbols :
         by false e = under_test d es end once
 
     pub all_go : (ds : List Induction) → Each (λ (d : Induction). end_form symbols t d.name d.step ≡ Some d.end) ds → AreOnce ds
-        → Goes (AreToCome ds) (AreToCome []) (does_all (sequential bits) None (block (map (ending symbols line t) ds)))
+        → Goes (AreToCome ds) (AreToCome []) (does_all (sequential bits) None (block (map (induction_ending symbols line t) ds)))
     all_go [] ends once = Goes-nothing (AreToCome []) (AreToCome []) (λ s u a. a)
     all_go (d ∷ es) ends once =
-        Goes-then (AreToCome (d ∷ es)) (AreToCome es) (AreToCome []) (does (sequential bits) None (ending symbols line t d)) (does_all (sequential bits) None (block (map (ending symbols line t) es)))
+        Goes-then (AreToCome (d ∷ es)) (AreToCome es) (AreToCome []) (does (sequential bits) None (induction_ending symbols line t d)) (does_all (sequential bits) None (block (map (induction_ending symbols line t) es)))
         (one_goes d es ends.0 once.0) (all_go es ends.1 once.1)
 
   -- then the two stores are one

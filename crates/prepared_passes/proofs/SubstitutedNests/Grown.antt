@@ -51,6 +51,8 @@ use Rattle.inductions.proofs.FoundLaws.{IsFoundIn}
 use Rattle.inductions.proofs.Listed.{IsListed, got_in, grown_here, is_in, listed, other_written, own_one, same_name, scalar_declared, within, written}
 use Rattle.inductions.proofs.Placing.{StandFrom, counted, counted_in, inner_is_not, loops_begin_in, one_of, stand_all, stand_front, stand_rest}
 use Rattle.inductions.proofs.Suited.{statement_suits}
+use Rattle.tree.specs.Widths.{bits_of}
+use Rattle.tree.specs.declared.width.Width.TheVariants.{Plain}
 
 true_false : {A : Type 0} → true ≡ false → A
 true_false e = cc
@@ -144,7 +146,7 @@ module _ (es : List Declaration) (around : List (List ℕ)) (deepest : ℕ) (n :
       by : (b : Bool) → is_own ds y ≡ b → is_own ds y ≡ false
       by true e =
           let o = own_one ds y e in
-          let w = written 31 n.symbols t ss o.induction (found_so o.induction o.is) in
+          let w = written (bits_of Plain) n.symbols t ss o.induction (found_so o.induction o.is) in
           absurd ((statement_so w.standing (got_in ss o.induction.place w.standing w.there)).free
           (subst (Contains n.symbols) (sym (w.name ∙ o.name)) (In-Contains y n.symbols i)))
       by false e = e

@@ -10,14 +10,14 @@ use Rattle.nest_order.specs.orders.Lists.{In}
 use Rattle.nest_order.specs.shapes.Shapes.{IsPlain}
 use Rattle.pass_laws.specs.prepared_nests.Nests.{IsPrepared}
 use Rattle.statement_passes.proofs.Standings.{mapped_nest_has}
-use Rattle.statement_passes.specs.Shifted.{with_symbol, with_symbols}
+use Rattle.statement_passes.specs.Shifted.{with_nest_symbol, with_nest_symbols}
 use Rattle.statement_passes.specs.Standings.{IsLoop, mapped_standings}
-use Rattle.statement_passes.specs.Symbols.{place_of}
+use Rattle.statement_passes.specs.Symbols.{place_among}
 use Rattle.symbols_anew.specs.Found.{names_assigned}
-use Rattle.inductions.specs.Ends.{ending}
-use Rattle.inductions.specs.Found.{inductions_by, inductions_of, outermost}
+use Rattle.inductions.specs.Ends.{induction_ending}
+use Rattle.inductions.specs.Found.{inductions_by, inductions_of, outermost_trip}
 use Rattle.inductions.specs.Nests.{induction_names, inductions_substituted, substituted_by, with_inductions}
-use Rattle.inductions.specs.Putting.{grows_at, put_in, with_forms}
+use Rattle.inductions.specs.Putting.{grows_at, put_in, with_induction_forms}
 use Rattle.inductions.specs.declared.found.Induction.{Induction}
 use Rattle.prepared_passes.proofs.SubstitutedNests.Runs.{HasTrip, IsTurns, outermost_is, trip_of, turns_of}
 use Rattle.prepared_passes.proofs.SubstitutedNests.WithBehind.{then_nothing}
@@ -39,20 +39,20 @@ pub record IsSubstitutedFrom (n : Nest) (ds : List Induction) (t : Trip) (m : Ne
   pub kept : (y : List ℕ) → In y n.symbols → In y m.symbols
   pub added : (y : List ℕ) → In y (induction_names ds) → In y m.symbols
   pub new : (y : List ℕ) → In y m.symbols → In y n.symbols ⊎ In y (induction_names ds)
-  pub after : m.after ≡ block_then n.after (block (map (ending n.symbols n.line t) ds))
+  pub after : m.after ≡ block_then n.after (block (map (induction_ending n.symbols n.line t) ds))
 
-stays_among : (n : Nest) (xs : List (List ℕ)) (y : List ℕ) → In y n.symbols → In y (with_symbols n xs).symbols
+stays_among : (n : Nest) (xs : List (List ℕ)) (y : List ℕ) → In y n.symbols → In y (with_nest_symbols n xs).symbols
 stays_among n [] y i = i
-stays_among n (x ∷ xs) y i = stays_among (with_symbol n x) xs y (in_more n.symbols (place_of n.symbols x) x y i)
+stays_among n (x ∷ xs) y i = stays_among (with_nest_symbol n x) xs y (in_more n.symbols (place_among n.symbols x) x y i)
 
-all_added : (n : Nest) (xs : List (List ℕ)) (y : List ℕ) → In y xs → In y (with_symbols n xs).symbols
+all_added : (n : Nest) (xs : List (List ℕ)) (y : List ℕ) → In y xs → In y (with_nest_symbols n xs).symbols
 all_added n [] y i = absurd i
-all_added n (x ∷ xs) y (inl e) = stays_among (with_symbol n x) xs y (subst (λ z. In z (with_symbol n x).symbols) (sym e) (itself n.symbols (place_of n.symbols x) x))
-all_added n (x ∷ xs) y (inr i) = all_added (with_symbol n x) xs y i
+all_added n (x ∷ xs) y (inl e) = stays_among (with_nest_symbol n x) xs y (subst (λ z. In z (with_nest_symbol n x).symbols) (sym e) (itself n.symbols (place_among n.symbols x) x))
+all_added n (x ∷ xs) y (inr i) = all_added (with_nest_symbol n x) xs y i
 
 module _ (counter : List ℕ) (ds : List Induction) (symbols : List (List ℕ)) where
   one_assigned : (y x : Standing) (k : ℕ) (b : Bool)
-      → In x (map (λ (g : Guarded). record { loops = y.loops; statement = g }) (cond b [] (with_forms counter ds symbols y.loops k y.statement ∷ [])))
+      → In x (map (λ (g : Guarded). record { loops = y.loops; statement = g }) (cond b [] (with_induction_forms counter ds symbols y.loops k y.statement ∷ [])))
       → x.statement.left.name ≡ y.statement.left.name
   one_assigned y x k true i = absurd i
   one_assigned y x k false (inl e) = ap (λ (s : Standing). s.statement.left.name) e
@@ -86,7 +86,7 @@ module _ (n : Nest) (plain : IsPlain n.body) (loop : IsLoop n.body) (o : List �
   }
   kept_by (d ∷ ds) =
       let names = induction_names (d ∷ ds) in
-      let m = with_symbols n names in
+      let m = with_nest_symbols n names in
       let same = all_same n names plain loop in
       let has = mapped_nest_has (put_in o.0 (d ∷ ds) m.symbols) m same.loop same.plain in
       record {
@@ -115,7 +115,7 @@ module _ (es : List Declaration) (around : List (List ℕ)) (deepest : ℕ) (n :
   pub trip : HasTrip es n turns.loop
   trip = trip_of es around deepest n turns h
 
-  pub outermost_there : outermost n.body ≡ Some (turns.loop.variable, trip.trip)
+  pub outermost_there : outermost_trip n.body ≡ Some (turns.loop.variable, trip.trip)
   outermost_there = outermost_is n turns trip.trip trip.is
 
   pub inductions_are : inductions_of n ≡ inductions_by n (Some (turns.loop.variable, trip.trip))

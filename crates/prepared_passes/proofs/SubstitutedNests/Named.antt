@@ -28,8 +28,10 @@ use Rattle.prepared_passes.proofs.SubstitutedNests.Grown as grown
 use Rattle.prepared_passes.proofs.SubstitutedNests.Kept.{inductions_are, trip, turns}
 use Rattle.prepared_passes.proofs.SubstitutedNests.Once.{once_found}
 use Rattle.prepared_passes.specs.symbols.Sources.{IsOfSource}
+use Rattle.tree.specs.Widths.{bits_of}
+use Rattle.tree.specs.declared.width.Width.{Width}
 
-module _ (es : List Declaration) (around : List (List ℕ)) (deepest : ℕ) (n : Nest) (h : IsPrepared es around deepest n) (source : IsOfSource es n) where
+module _ (width : Width) (es : List Declaration) (around : List (List ℕ)) (deepest : ℕ) (n : Nest) (h : IsPrepared es around deepest n) (source : IsOfSource es n) where
   abbrev l : Loop
   l = (turns es around deepest n h source).loop
 
@@ -67,7 +69,7 @@ module _ (es : List Declaration) (around : List (List ℕ)) (deepest : ℕ) (n :
 
   pub is_written : (d : Induction) → In d (inductions_of n) → In d.name (names_assigned n)
   is_written d i =
-      let w = written 31 n.symbols t (nest_statements n) d (grown.is_listed es around deepest n l ps t h source body d (among d i)).found in
+      let w = written (bits_of width) n.symbols t (nest_statements n) d (grown.is_listed es around deepest n l ps t h source body d (among d i)).found in
       subst (λ x. In x (names_assigned n)) w.name
       (map-In (λ (s : Standing). s.statement.left.name) w.standing (nest_statements n) (got_in (nest_statements n) d.place w.standing w.there))
 
@@ -77,7 +79,7 @@ module _ (es : List Declaration) (around : List (List ℕ)) (deepest : ℕ) (n :
   C x = is_own ds x ≡ false
 
   mutual
-    part_last : (counters kept : List ℕ → Bool) (ls : List Loop) (k : ℕ) (p : Part) → Fits 31 l.variable counters kept ds ls k p → (o : Loop) → In o (loops_of p) → AllByRecursion C (names_in o.last)
+    part_last : (counters kept : List ℕ → Bool) (ls : List Loop) (k : ℕ) (p : Part) → Fits (bits_of width) l.variable counters kept ds ls k p → (o : Loop) → In o (loops_of p) → AllByRecursion C (names_in o.last)
     part_last counters kept ls k (Run g) f o i = absurd i
     part_last counters kept ls k (Turns q qs) f o (inl e) = subst (λ (x : Loop). AllByRecursion C (names_in x.last)) (sym e) f.0.last
     part_last counters kept ls k (Turns q qs) f o (inr i) = parts_last counters kept (ls ++ q ∷ []) k qs f.2 o i
@@ -85,7 +87,7 @@ module _ (es : List Declaration) (around : List (List ℕ)) (deepest : ℕ) (n :
     part_last counters kept ls k (Label j) f o i = absurd f
     part_last counters kept ls k (Jump j) f o i = absurd f
 
-    parts_last : (counters kept : List ℕ → Bool) (ls : List Loop) (k : ℕ) (qs : Parts) → FitIn 31 l.variable counters kept ds ls k qs → (o : Loop) → In o (loops_in_parts qs) → AllByRecursion C (names_in o.last)
+    parts_last : (counters kept : List ℕ → Bool) (ls : List Loop) (k : ℕ) (qs : Parts) → FitIn (bits_of width) l.variable counters kept ds ls k qs → (o : Loop) → In o (loops_in_parts qs) → AllByRecursion C (names_in o.last)
     parts_last counters kept ls k no_parts f o i = absurd i
     parts_last counters kept ls k (part q qs) f o i =
         by (In-append o (loops_of q) (loops_in_parts qs) i) (λ j. part_last counters kept ls k q f.0 o j) (λ j. parts_last counters kept ls (k + count_of q) qs f.1 o j)
@@ -103,7 +105,7 @@ module _ (es : List Declaration) (around : List (List ℕ)) (deepest : ℕ) (n :
   pub in_no_trip : (d : Induction) → In d (inductions_of n) → (o : Loop) → In o (nest_loops n) → ¬ In d.name (names_in o.last)
   in_no_trip d i o j k =
       let is : Is ds d = once_found n.symbols t (nest_statements n) n.declarations source.ordered d (among d i) in
-      let grow = grown.all_grow es around deepest n l ps t h source body 31 d is in
+      let grow = grown.all_grow es around deepest n l ps t h source body (bits_of width) d is in
       let yes = own d (among d i) in
       let no = every_name C (names_in o.last) (by grow.counts.last (λ q. parts_last (λ x. is_among (variables_of_loops (nest_loops n)) x) (λ x. is_among n.symbols x) (l ∷ []) 0 ps grow.fit o q) (subst (λ (b : Part). In o (loops_of b)) body j)) d.name k in
       let bad : true ≡ false = sym yes ∙ no in

@@ -24,7 +24,7 @@ use Rattle.nest_order.specs.orders.Lists.{Each, In}
 use Rattle.nest_order.specs.runs.Guarded.{names_of}
 use Rattle.nest_order.specs.shapes.Shapes.{IsPlain, numbers_of}
 use Rattle.nest_rewrite.specs.Statements.{rewritten_statement}
-use Rattle.nest_steps.specs.Mapped.{count_of, mapped, mapped_in}
+use Rattle.nest_steps.specs.Mapped.{count_of, mapped_parts_of, mapped_in}
 use Rattle.pass_laws.proofs.NormalFacts.MadeStatements.{IsKnown, counter_long}
 use Rattle.pass_laws.proofs.NormalFacts.Tables.{all_in, each_from}
 use Rattle.pass_laws.proofs.NormalFacts.Texts.{IsStatementOver}
@@ -41,8 +41,8 @@ use Rattle.pass_laws.proofs.PreparedNests.Normal.Statements.{own_names, plain_st
 use Rattle.pass_laws.proofs.PreparedNests.Trips.{BearsNumber, bears_number}
 use Rattle.pass_laws.proofs.PreparedNests.Walks.{AreRound, Follow, rounds}
 use Rattle.statement_passes.specs.Passes.{mapped_body, mapped_nest}
-use Rattle.statement_passes.specs.Shifted.{shifted_loop, shifted_part, shifted_parts, with_symbol, with_symbols}
-use Rattle.statement_passes.specs.Symbols.{place_of}
+use Rattle.statement_passes.specs.Shifted.{shifted_loop, shifted_part, shifted_parts, with_nest_symbol, with_nest_symbols}
+use Rattle.statement_passes.specs.Symbols.{place_among}
 use Rattle.statement_passes.specs.Standings.{IsLoop, mapped_standings, standings}
 use Rattle.statement_passes.proofs.Standings.{mapped_nest_has}
 use Rattle.prepared_passes.specs.symbols.Sources.{IsOfSource, names_declared}
@@ -50,10 +50,10 @@ use Rattle.prepared_passes.proofs.SymbolsAnew.Comes.{AreFresh, IsButText, IsStat
 use Rattle.prepared_passes.proofs.SymbolsAnew.Names.{absent, no_more}
 use Rattle.prepared_passes.proofs.SymbolsAnew.Over.{statement_over}
 use Rattle.prepared_passes.proofs.SymbolsAnew.Settled.{settled_is, settled_standing}
-use Rattle.inductions.specs.Ends.{ending}
+use Rattle.inductions.specs.Ends.{induction_ending}
 use Rattle.inductions.specs.Found.{inductions_by}
 use Rattle.inductions.specs.Nests.{induction_names, inductions_substituted, substituted_by, with_inductions}
-use Rattle.inductions.specs.Putting.{grows_at, put_in, putting, with_forms}
+use Rattle.inductions.specs.Putting.{grows_at, put_in, putting, with_induction_forms}
 use Rattle.inductions.specs.Together.{Is, is_free, is_own}
 use Rattle.inductions.specs.declared.found.Induction.{Induction}
 use Rattle.inductions.proofs.FoundLaws.{IsFoundIn}
@@ -68,6 +68,9 @@ use Rattle.prepared_passes.proofs.SubstitutedNests.Grown as grown
 use Rattle.prepared_passes.proofs.SubstitutedNests.Once.{AreOnce, once_each, once_found}
 use Rattle.prepared_passes.proofs.SubstitutedNests.Put.{ArePut, put_kinds, put_statement}
 use Rattle.prepared_passes.proofs.SubstitutedNests.Runs.{HasTrip, IsTurns, outermost_is, trip_of, turns_of}
+use Rattle.tree.specs.Widths.{bits_of}
+use Rattle.tree.specs.declared.width.Width.TheVariants.{Plain}
+use Rattle.tree.specs.declared.width.Width.{Width}
 
 -- ---- loops stay where statements become others
 
@@ -81,7 +84,7 @@ module _ (Asked : List Loop → Loop → Type 0) (each : List Loop → ℕ → G
   joined_in ls (x ∷ xs) ys h k = (h.0, joined_in ls xs ys h.1 k)
 
   mutual
-    mapped_has : (ls : List Loop) (k : ℕ) (p : Part) → EachLoop Asked ls p → EachLoopIn Asked ls (parts (mapped each ls k p))
+    mapped_has : (ls : List Loop) (k : ℕ) (p : Part) → EachLoop Asked ls p → EachLoopIn Asked ls (parts (mapped_parts_of each ls k p))
     mapped_has ls k (Run g) h = runs_in ls (each ls k g)
     mapped_has ls k (Turns l ps) h = ((h.0, mapped_in_has (ls ++ l ∷ []) k ps h.1), tt)
     mapped_has ls k (Choice bs ps) h = (h, tt)
@@ -91,7 +94,7 @@ module _ (Asked : List Loop → Loop → Type 0) (each : List Loop → ℕ → G
     mapped_in_has : (ls : List Loop) (k : ℕ) (ps : Parts) → EachLoopIn Asked ls ps → EachLoopIn Asked ls (parts (mapped_in each ls k ps))
     mapped_in_has ls k no_parts h = tt
     mapped_in_has ls k (part p ps) h =
-        joined_in ls (mapped each ls k p) (mapped_in each ls (k + count_of p) ps) (mapped_has ls k p h.0) (mapped_in_has ls (k + count_of p) ps h.1)
+        joined_in ls (mapped_parts_of each ls k p) (mapped_in each ls (k + count_of p) ps) (mapped_has ls k p h.0) (mapped_in_has ls (k + count_of p) ps h.1)
 
   body_has : (p : Part) → IsLoop p → EachLoop Asked [] p → EachLoop Asked [] (mapped_body each p)
   body_has (Turns l ps) loop h = (h.0, mapped_in_has (l ∷ []) 0 ps h.1)
@@ -156,13 +159,13 @@ stays es around deepest n h = record {
       canonical = s.canonical;
     }
 
-made_same : (n : Nest) (xs : List (List ℕ)) → made_names (with_symbols n xs) ≡ made_names n
+made_same : (n : Nest) (xs : List (List ℕ)) → made_names (with_nest_symbols n xs) ≡ made_names n
 made_same n [] = refl
-made_same n (x ∷ xs) = made_same (with_symbol n x) xs
+made_same n (x ∷ xs) = made_same (with_nest_symbol n x) xs
 
 -- ---- the nest
 
-module _ (es : List Declaration) (around : List (List ℕ)) (deepest : ℕ) (n : Nest) (l : Loop) (ps : Parts) (t : Trip) (room : 75 ≤ deepest) (h : IsPrepared es around deepest n)
+module _ (width : Width) (es : List Declaration) (around : List (List ℕ)) (deepest : ℕ) (n : Nest) (l : Loop) (ps : Parts) (t : Trip) (room : 75 ≤ deepest) (h : IsPrepared es around deepest n)
     (source : IsOfSource es n) (body : n.body ≡ Turns l ps) (trip : IsPreparedTrip [] n.symbols l.last t) where
   abbrev ds : List Induction
   ds = inductions_by n (Some (l.variable, t))
@@ -171,15 +174,15 @@ module _ (es : List Declaration) (around : List (List ℕ)) (deepest : ℕ) (n :
   names = induction_names (inductions_by n (Some (l.variable, t)))
 
   abbrev m : Nest
-  m = with_symbols n (induction_names (inductions_by n (Some (l.variable, t))))
+  m = with_nest_symbols n (induction_names (inductions_by n (Some (l.variable, t))))
 
   abbrev each : List Loop → ℕ → Guarded → List Guarded
-  each = put_in l.variable (inductions_by n (Some (l.variable, t))) (with_symbols n (induction_names (inductions_by n (Some (l.variable, t))))).symbols
+  each = put_in l.variable (inductions_by n (Some (l.variable, t))) (with_nest_symbols n (induction_names (inductions_by n (Some (l.variable, t))))).symbols
 
   abbrev new : Nest
-  new = record (mapped_nest (put_in l.variable (inductions_by n (Some (l.variable, t))) (with_symbols n (induction_names (inductions_by n (Some (l.variable, t))))).symbols)
-      (with_symbols n (induction_names (inductions_by n (Some (l.variable, t)))))) {
-        after = block_then n.after (block (map (ending n.symbols n.line t) (inductions_by n (Some (l.variable, t)))));
+  new = record (mapped_nest (put_in l.variable (inductions_by n (Some (l.variable, t))) (with_nest_symbols n (induction_names (inductions_by n (Some (l.variable, t))))).symbols)
+      (with_nest_symbols n (induction_names (inductions_by n (Some (l.variable, t)))))) {
+        after = block_then n.after (block (map (induction_ending n.symbols n.line t) (inductions_by n (Some (l.variable, t)))));
       }
 
   abbrev Free : List ℕ → Type 0
@@ -272,13 +275,13 @@ module _ (es : List Declaration) (around : List (List ℕ)) (deepest : ℕ) (n :
     outside = h.parts.outside;
   }
 
-  all : IsButText es around Free deepest (with_symbols n (induction_names (inductions_by n (Some (l.variable, t)))))
+  all : IsButText es around Free deepest (with_nest_symbols n (induction_names (inductions_by n (Some (l.variable, t)))))
   all = symbols_have_come es around Free deepest n names but_text fresh
 
-  symbol_is : (y : List ℕ) → In y (with_symbols n (induction_names (inductions_by n (Some (l.variable, t))))).symbols → In y n.symbols ⊎ In y (induction_names (inductions_by n (Some (l.variable, t))))
+  symbol_is : (y : List ℕ) → In y (with_nest_symbols n (induction_names (inductions_by n (Some (l.variable, t))))).symbols → In y n.symbols ⊎ In y (induction_names (inductions_by n (Some (l.variable, t))))
   symbol_is y i = symbols_are n names y i
 
-  few : length (with_symbols n (induction_names (inductions_by n (Some (l.variable, t))))).symbols ≤ 1000
+  few : length (with_nest_symbols n (induction_names (inductions_by n (Some (l.variable, t))))).symbols ≤ 1000
   few =
       let least = no_more m.symbols (names_declared n) all.ordered (λ y i. within y (symbol_is y i)) in
       let same = length-map n.declarations (λ (d : Declaration). d.name) in
@@ -299,7 +302,7 @@ module _ (es : List Declaration) (around : List (List ℕ)) (deepest : ℕ) (n :
 
   -- ---- statements
 
-  has_lefts : SameLefts n (with_symbols n (induction_names (inductions_by n (Some (l.variable, t)))))
+  has_lefts : SameLefts n (with_nest_symbols n (induction_names (inductions_by n (Some (l.variable, t)))))
   has_lefts = all-symbols n names h.plain
 
   abbrev O : List ℕ → Bool
@@ -311,20 +314,20 @@ module _ (es : List Declaration) (around : List (List ℕ)) (deepest : ℕ) (n :
       subst (IsIntegerScalar es) o.name (grown.integer_so es around deepest n l ps t h source body o.induction (is_in ds o.induction o.is))
 
   -- the loops round a statement begin with the outermost one
-  shifted_turns : IsTurns (with_symbols n (induction_names (inductions_by n (Some (l.variable, t)))))
+  shifted_turns : IsTurns (with_nest_symbols n (induction_names (inductions_by n (Some (l.variable, t)))))
   shifted_turns = turns_of m all.loop
 
   same_variable : shifted_turns.loop.variable ≡ l.variable
   same_variable = by n names l ps body shifted_turns.loop shifted_turns.parts shifted_turns.is
     where
-      by : (k : Nest) (xs : List (List ℕ)) (o : Loop) (qs : Parts) → k.body ≡ Turns o qs → (o' : Loop) (qs' : Parts) → (with_symbols k xs).body ≡ Turns o' qs' → o'.variable ≡ o.variable
+      by : (k : Nest) (xs : List (List ℕ)) (o : Loop) (qs : Parts) → k.body ≡ Turns o qs → (o' : Loop) (qs' : Parts) → (with_nest_symbols k xs).body ≡ Turns o' qs' → o'.variable ≡ o.variable
       by k [] o qs e o' qs' f = let both : Turns o qs ≡ Turns o' qs' = sym e ∙ f in let same : o ≡ o' = cc in ap (λ (z : Loop). z.variable) (sym same)
       by k (x ∷ xs) o qs e o' qs' f =
-          by (with_symbol k x) xs (shifted_loop (place_of k.symbols x) o)
-          (shifted_parts (place_of k.symbols x) qs)
-          (ap (shifted_part (place_of k.symbols x)) e) o' qs' f
+          by (with_nest_symbol k x) xs (shifted_loop (place_among k.symbols x) o)
+          (shifted_parts (place_among k.symbols x) qs)
+          (ap (shifted_part (place_among k.symbols x)) e) o' qs' f
 
-  module _ (k : ℕ) (s : Standing) (there : slice_get (nest_statements (with_symbols n (induction_names (inductions_by n (Some (l.variable, t)))))) k ≡ Some s)
+  module _ (k : ℕ) (s : Standing) (there : slice_get (nest_statements (with_nest_symbols n (induction_names (inductions_by n (Some (l.variable, t)))))) k ≡ Some s)
       (stays' : grows_at (inductions_by n (Some (l.variable, t))) k ≡ false) where
     was : (x : Standing) × (slice_get (nest_statements n) k ≡ Some x) × (x.statement ≡ s.statement)
     was = has_lefts.lefts k s there
@@ -332,7 +335,7 @@ module _ (es : List Declaration) (around : List (List ℕ)) (deepest : ℕ) (n :
     was_in : In was.0 (nest_statements n)
     was_in = got_in (nest_statements n) k was.0 was.1
 
-    now_in : In s (nest_statements (with_symbols n (induction_names (inductions_by n (Some (l.variable, t))))))
+    now_in : In s (nest_statements (with_nest_symbols n (induction_names (inductions_by n (Some (l.variable, t))))))
     now_in = got_in (nest_statements m) k s there
 
     not_own : is_own (inductions_by n (Some (l.variable, t))) s.statement.left.name ≡ false
@@ -343,7 +346,7 @@ module _ (es : List Declaration) (around : List (List ℕ)) (deepest : ℕ) (n :
         subst (λ xs. IsStatementBut es xs Free deepest s) (made_same n names)
         (all_in (IsStatementBut es (made_names m) Free deepest) (nest_statements m) all.statements s now_in)
 
-    free_now : ¬ Contains (with_symbols n (induction_names (inductions_by n (Some (l.variable, t))))).symbols s.statement.left.name
+    free_now : ¬ Contains (with_nest_symbols n (induction_names (inductions_by n (Some (l.variable, t))))).symbols s.statement.left.name
     free_now c = by (symbol_is s.statement.left.name (Contains-In s.statement.left.name m.symbols c))
       where
         by : In s.statement.left.name n.symbols ⊎ In s.statement.left.name names → ⊥
@@ -359,7 +362,7 @@ module _ (es : List Declaration) (around : List (List ℕ)) (deepest : ℕ) (n :
     is_free_now = ap (λ (g : Guarded). is_free O ds g.left.name) (sym was.2) ∙ grown.left_free es around deepest n l ps t h source body was.0 was_in
         (ap (λ (g : Guarded). is_own ds g.left.name) was.2 ∙ not_own)
 
-    round : AreRound (IsPreparedLoop es (with_symbols n (induction_names (inductions_by n (Some (l.variable, t))))).symbols) s.loops
+    round : AreRound (IsPreparedLoop es (with_nest_symbols n (induction_names (inductions_by n (Some (l.variable, t))))).symbols) s.loops
     round = rounds (IsPreparedLoop es m.symbols) m.body all.loops (distinct_too (numbers_of (nest_loops m)) all.once) s now_in
 
     bear : lists.Each BearsNumber s.loops
@@ -383,16 +386,16 @@ module _ (es : List Declaration) (around : List (List ℕ)) (deepest : ℕ) (n :
         (each_from (IsKnown s.loops) (names_of (assignment s.statement))
         (λ y i j small e. Contains-In j (numbers_of s.loops) (all_in (IsOwn s.loops) (names_of (assignment s.statement)) now.names y i j (below_32 j small) e)))))
 
-    kinds : ArePut es l.variable O ds k own_integer (forms_keep_profile es l.variable O ds k (grown.are_settled es around deepest n l ps t h source body 31) (grown.counter_integer es around deepest n l ps t h source body 31) (λ d is. own_integer d.name (ap is_some is)))
+    kinds : ArePut es l.variable O ds k own_integer (forms_keep_profile es l.variable O ds k (grown.are_settled es around deepest n l ps t h source body (bits_of width)) (grown.counter_integer es around deepest n l ps t h source body (bits_of width)) (λ d is. own_integer d.name (ap is_some is)))
         (rewritten_statement (putting l.variable ds k) s.statement) now.kind (deepest + 5)
     kinds = put_kinds es l.variable O ds k own_integer
-        (forms_keep_profile es l.variable O ds k (grown.are_settled es around deepest n l ps t h source body 31) (grown.counter_integer es around deepest n l ps t h source body 31) (λ d is. own_integer d.name (ap is_some is)))
+        (forms_keep_profile es l.variable O ds k (grown.are_settled es around deepest n l ps t h source body (bits_of width)) (grown.counter_integer es around deepest n l ps t h source body (bits_of width)) (λ d is. own_integer d.name (ap is_some is)))
         s.statement now.kind deepest is_free_now (record { left = now.left; right = now.right; guard = now.guard; deep = now.deep })
 
     pub put_standing : Standing
     put_standing = record { loops = s.loops; statement = rewritten_statement (putting l.variable (inductions_by n (Some (l.variable, t))) k) s.statement }
 
-    put_but : IsStatementBut es (made_names n) (λ z. ¬ Contains (with_symbols n (induction_names (inductions_by n (Some (l.variable, t))))).symbols z) (deepest + 5) put_standing
+    put_but : IsStatementBut es (made_names n) (λ z. ¬ Contains (with_nest_symbols n (induction_names (inductions_by n (Some (l.variable, t))))).symbols z) (deepest + 5) put_standing
     unfolding put_standing
     put_but = record {
       line = now.line;
@@ -407,7 +410,7 @@ module _ (es : List Declaration) (around : List (List ℕ)) (deepest : ℕ) (n :
       deep = kinds.deep;
     }
 
-    pub prepared_there : IsPreparedStatement es new (deepest + 23) (settled_standing (with_symbols n (induction_names (inductions_by n (Some (l.variable, t))))).symbols put_standing)
+    pub prepared_there : IsPreparedStatement es new (deepest + 23) (settled_standing (with_nest_symbols n (induction_names (inductions_by n (Some (l.variable, t))))).symbols put_standing)
     unfolding put_standing
     prepared_there =
         subst (λ d. IsPreparedStatement es new d (settled_standing m.symbols put_standing)) (let e : (deepest + 5) + 18 ≡ deepest + 23 = omega arith in e)
@@ -416,8 +419,8 @@ module _ (es : List Declaration) (around : List (List ℕ)) (deepest : ℕ) (n :
   abbrev Good : Standing → Type 0
   Good x = IsPreparedStatement es new (deepest + 23) x × (¬ Contains around x.statement.left.name)
 
-  statements_good : AllByRecursion Good (mapped_standings (put_in l.variable (inductions_by n (Some (l.variable, t))) (with_symbols n (induction_names (inductions_by n (Some (l.variable, t))))).symbols) 0
-      (nest_statements (with_symbols n (induction_names (inductions_by n (Some (l.variable, t)))))))
+  statements_good : AllByRecursion Good (mapped_standings (put_in l.variable (inductions_by n (Some (l.variable, t))) (with_nest_symbols n (induction_names (inductions_by n (Some (l.variable, t))))).symbols) 0
+      (nest_statements (with_nest_symbols n (induction_names (inductions_by n (Some (l.variable, t)))))))
   unfolding put_standing
   statements_good = each-mapped Good each 0 (nest_statements m) (λ k s there. one k s there)
     where
@@ -427,7 +430,7 @@ module _ (es : List Declaration) (around : List (List ℕ)) (deepest : ℕ) (n :
       one : (k : ℕ) (s : Standing) → slice_get (nest_statements m) k ≡ Some s → AllByRecursion Good (standings s.loops (each s.loops (0 + k) s.statement))
       one k s there = subst (λ j. AllByRecursion Good (standings s.loops (each s.loops j s.statement))) (zero_more k) (by (grows_at ds k) refl)
         where
-          by : (b : Bool) → grows_at ds k ≡ b → AllByRecursion Good (standings s.loops (cond b [] (with_forms l.variable ds m.symbols s.loops k s.statement ∷ [])))
+          by : (b : Bool) → grows_at ds k ≡ b → AllByRecursion Good (standings s.loops (cond b [] (with_induction_forms l.variable ds m.symbols s.loops k s.statement ∷ [])))
           by true e = tt
           by false e = (
             (prepared_there k s there e, all_in (λ (x : Standing). ¬ Contains around x.statement.left.name) (nest_statements m) all.outside s (now_in k s there e)),
@@ -440,7 +443,7 @@ module _ (es : List Declaration) (around : List (List ℕ)) (deepest : ℕ) (n :
       one : (d : Induction) → In d ds → IsFair es around (deepest + 23) n.line h.parts.line n.symbols l.last t trip more_room integers none d
       one d i =
           let is : Is ds d = once_found n.symbols t (nest_statements n) n.declarations source.ordered d i in
-          let w = written 31 n.symbols t (nest_statements n) d (found_so d is) in
+          let w = written (bits_of width) n.symbols t (nest_statements n) d (found_so d is) in
           record {
             end = (found_so d is).end;
             small = (let f = found_so d is in let e = step-at-small d.name f.standing d.step f.step in omega (arith, ints, e));
@@ -488,10 +491,10 @@ by_inductions es around deepest n t u room h source = by (inductions_by n (Some 
     by [] e = stays es around deepest n h
     by (d ∷ xs) e =
         subst (λ (ys : List Induction). IsPrepared es around (deepest + 23)
-        (record (mapped_nest (put_in t.loop.variable ys (with_symbols n (induction_names ys)).symbols) (with_symbols n (induction_names ys))) {
-          after = block_then n.after (block (map (ending n.symbols n.line u.trip) ys));
+        (record (mapped_nest (put_in t.loop.variable ys (with_nest_symbols n (induction_names ys)).symbols) (with_nest_symbols n (induction_names ys))) {
+          after = block_then n.after (block (map (induction_ending n.symbols n.line u.trip) ys));
         })) e
-        (is_prepared es around deepest n t.loop t.parts u.trip room h source t.is u.prepared)
+        (is_prepared Plain es around deepest n t.loop t.parts u.trip room h source t.is u.prepared)
 
 pub substituted_nest_is_prepared : SubstitutedNestIsPrepared
 unfolding inductions_substituted

@@ -19,7 +19,7 @@ use Rattle.nest.specs.Plain.{Guarded}
 use Rattle.nest_rewrite.specs.Statements.{rewritten_statement}
 use Rattle.pass_laws.proofs.NormalFacts.Texts.{AreOver, EachIsOver, GuardIsOver, IsOver, IsStatementOver, OneIsOver}
 use Rattle.pass_laws.specs.prepared_nests.Statements.{expressions_of, guard_or_none}
-use Rattle.inductions.specs.Putting.{constant_at, found, induction_in, putting, text_or, value_text}
+use Rattle.inductions.specs.Putting.{constant_at, found, induction_in, putting, form_text_or, induction_text}
 use Rattle.inductions.specs.Together.{forms_suit, is_free, is_own}
 use Rattle.inductions.specs.declared.found.Induction.{Induction}
 use Rattle.inductions.proofs.Suited.{subscripts_suit, suits}
@@ -60,19 +60,19 @@ module _ (P : List ℕ → Type 0) where
   constant_over (Some e) (negsuc n) h = (h, tt)
 
   module _ (counter : List ℕ) (ds : List Induction) (k : ℕ) (counts : P counter) where
-    text_over : (d : Induction) → P d.name → IsOver P (value_text counter d k)
+    text_over : (d : Induction) → P d.name → IsOver P (induction_text counter d k)
     text_over d h =
         constant_over (with_term (with_term None d.step (variable counter)) (pos 1) (variable d.name)) (constant_at d k)
         (one_over (with_term None d.step (variable counter)) (pos 1) (variable d.name) (one_over None d.step (variable counter) tt (counts, tt)) (h, tt))
 
-    bare_over : (x : List ℕ) → P x → IsOver P (text_or counter k (found ds x) (Named x no_subscripts))
+    bare_over : (x : List ℕ) → P x → IsOver P (form_text_or counter k (found ds x) (Named x no_subscripts))
     bare_over x h = by (found ds x) refl
       where
-        by : (o : Option Induction) → found ds x ≡ o → IsOver P (text_or counter k o (Named x no_subscripts))
+        by : (o : Option Induction) → found ds x ≡ o → IsOver P (form_text_or counter k o (Named x no_subscripts))
         by None e = (h, tt)
         by (Some d) e = text_over d (subst P (sym (found-name ds x d e)) h)
 
-    node_over : (e : Expression) → IsOver P e → IsOver P (text_or counter k (induction_in ds e) e)
+    node_over : (e : Expression) → IsOver P e → IsOver P (form_text_or counter k (induction_in ds e) e)
     node_over (Named x no_subscripts) h = bare_over x h.0
     node_over (Named x (subscript p ps)) h = h
     node_over (Number n) h = h

@@ -7,8 +7,8 @@ use Rattle.tree.specs.Plain.{Expression}
 use Rattle.nest.specs.Blocks.{statement_of_part}
 use Rattle.nest.specs.Plain.{Choice, Jump, Label, Loop, Nest, Part, Parts, Run, Turns, no_parts, part}
 use Rattle.nest_steps.specs.Mapped.{count_in, count_of}
-use Rattle.statement_passes.specs.Shifted.{shifted_loop, shifted_part, shifted_parts, with_symbol, with_symbols}
-use Rattle.statement_passes.specs.Symbols.{place_of}
+use Rattle.statement_passes.specs.Shifted.{shifted_loop, shifted_part, shifted_parts, with_nest_symbol, with_nest_symbols}
+use Rattle.statement_passes.specs.Symbols.{place_among}
 use Rattle.statement_passes.proofs.Shifting.{shifted_runs_alike}
 use Rattle.inductions.specs.Together.{AllGrowIn, Counts, Fits, FitIn}
 use Rattle.inductions.specs.declared.found.Induction.{Induction}
@@ -71,25 +71,25 @@ pub record GrowsIn (bits : ℕ) (counter : List ℕ) (counters kept : List ℕ �
   pub grow : AllGrowIn bits counter counters kept ds loop parts
 
 module _ (bits : ℕ) (counter : List ℕ) (counters kept : List ℕ → Bool) (ds : List Induction) (last : Expression) where
-  one_more : (n : Nest) (x : List ℕ) → GrowsIn bits counter counters kept ds last n → GrowsIn bits counter counters kept ds last (with_symbol n x)
+  one_more : (n : Nest) (x : List ℕ) → GrowsIn bits counter counters kept ds last n → GrowsIn bits counter counters kept ds last (with_nest_symbol n x)
   one_more n x h = record {
-    loop = shifted_loop (place_of n.symbols x) h.loop;
-    parts = shifted_parts (place_of n.symbols x) h.parts;
-    is = ap (shifted_part (place_of n.symbols x)) h.is;
+    loop = shifted_loop (place_among n.symbols x) h.loop;
+    parts = shifted_parts (place_among n.symbols x) h.parts;
+    is = ap (shifted_part (place_among n.symbols x)) h.is;
     last_is = h.last_is;
-    grow = all_grow (place_of n.symbols x) bits counter counters kept ds h.loop h.parts h.grow;
+    grow = all_grow (place_among n.symbols x) bits counter counters kept ds h.loop h.parts h.grow;
   }
 
-  pub with_more : (n : Nest) (xs : List (List ℕ)) → GrowsIn bits counter counters kept ds last n → GrowsIn bits counter counters kept ds last (with_symbols n xs)
+  pub with_more : (n : Nest) (xs : List (List ℕ)) → GrowsIn bits counter counters kept ds last n → GrowsIn bits counter counters kept ds last (with_nest_symbols n xs)
   with_more n [] h = h
-  with_more n (x ∷ xs) h = with_more (with_symbol n x) xs (one_more n x h)
+  with_more n (x ∷ xs) h = with_more (with_nest_symbol n x) xs (one_more n x h)
 
 pub record IsRunAlike (n m : Nest) : Type 0 where
   pub line : m.line ≡ n.line
   pub runs : (line : ℕ) → statement_of_part line m.body ≡ statement_of_part line n.body
 
-pub run_alike : (n : Nest) (xs : List (List ℕ)) → IsRunAlike n (with_symbols n xs)
+pub run_alike : (n : Nest) (xs : List (List ℕ)) → IsRunAlike n (with_nest_symbols n xs)
 run_alike n [] = record { line = refl; runs = λ line. refl }
 run_alike n (x ∷ xs) =
-    let more = run_alike (with_symbol n x) xs in
-    record { line = more.line; runs = λ line. more.runs line ∙ shifted_runs_alike line (place_of n.symbols x) n.body }
+    let more = run_alike (with_nest_symbol n x) xs in
+    record { line = more.line; runs = λ line. more.runs line ∙ shifted_runs_alike line (place_among n.symbols x) n.body }

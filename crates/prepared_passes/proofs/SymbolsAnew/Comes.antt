@@ -38,9 +38,9 @@ use Rattle.pass_laws.specs.prepared_nests.Nests.{IsPreparedSymbol}
 use Rattle.pass_laws.specs.prepared_nests.Statements.{IsOwn, assignment, expressions_of, made_names}
 use Rattle.pass_laws.proofs.PreparedNests.Lists.{Contains-In, In-Contains}
 use Rattle.statement_passes.specs.Laws.{form_with_zero}
-use Rattle.statement_passes.specs.Shifted.{shifted_branches, shifted_loop, shifted_part, shifted_parts, with_symbol, with_symbols}
+use Rattle.statement_passes.specs.Shifted.{shifted_branches, shifted_loop, shifted_part, shifted_parts, with_nest_symbol, with_nest_symbols}
 use Rattle.statement_passes.specs.Standings.{IsLoop, shifted_standing}
-use Rattle.statement_passes.specs.Symbols.{place_of, shifted_place, shifted_trip, with_name}
+use Rattle.statement_passes.specs.Symbols.{place_among, shifted_place, shifted_trip, with_name_placed}
 use Rattle.statement_passes.proofs.Forms.{shifted_is_affine, shifted_is_form, shifted_trip_has_text}
 use Rattle.statement_passes.proofs.Names.{names_stay_in_order, place_of-within}
 use Rattle.statement_passes.proofs.Standings.{symbol_leaves_nest}
@@ -111,10 +111,10 @@ without_one (y ∷ ys) (suc at) j x v s h have =
 
 module _ (es : List Declaration) (symbols : List (List ℕ)) (x : List ℕ) where
   abbrev at : ℕ
-  at = place_of symbols x
+  at = place_among symbols x
 
   abbrev all : List (List ℕ)
-  all = with_name symbols x
+  all = with_name_placed symbols x
 
   abbrev shifted_loops : List Loop → List Loop
   shifted_loops ls = map (shifted_loop at) ls
@@ -272,10 +272,10 @@ module _ (es : List Declaration) (around : List (List ℕ)) (Free : List ℕ →
   Outside y = ¬ Contains around y.statement.left.name
 
   symbol_comes : (n : Nest) (x : List ℕ) → IsButText es around Free deepest n → IsPreparedSymbol es x → is_among n.symbols x ≡ false
-      → IsButText es around Free deepest (with_symbol n x)
+      → IsButText es around Free deepest (with_nest_symbol n x)
   symbol_comes n x h new apart =
       let from = symbol_leaves_nest n x h.plain in
-      let k = place_of n.symbols x in
+      let k = place_among n.symbols x in
       record {
         plain = from.plain;
         loop = loop_stays k n.body h.loop;
@@ -290,7 +290,7 @@ module _ (es : List Declaration) (around : List (List ℕ)) (Free : List ℕ →
             (All-map (Asked n) (shifted_standing k) (nest_statements n)
             (All-weaker (Asked n) (λ (y : Standing). Asked n (shifted_standing k y)) (statement_comes es n.symbols x (made_names n) Free deepest)
             (nest_statements n) h.statements));
-        made = All-weaker (IsPreparedMade es n.symbols deepest) (IsPreparedMade es (with_name n.symbols x) deepest)
+        made = All-weaker (IsPreparedMade es n.symbols deepest) (IsPreparedMade es (with_name_placed n.symbols x) deepest)
             (made_comes es n.symbols x deepest) n.made h.made;
         made_once = h.made_once;
         after = h.after;
@@ -304,9 +304,9 @@ module _ (es : List Declaration) (around : List (List ℕ)) (Free : List ℕ →
     pub once : AreDistinct xs
     pub prepared : (y : List ℕ) → In y xs → IsPreparedSymbol es y
 
-  later_fresh : (symbols : List (List ℕ)) (x : List ℕ) (xs : List (List ℕ)) → AreFresh symbols (x ∷ xs) → AreFresh (with_name symbols x) xs
+  later_fresh : (symbols : List (List ℕ)) (x : List ℕ) (xs : List (List ℕ)) → AreFresh symbols (x ∷ xs) → AreFresh (with_name_placed symbols x) xs
   later_fresh symbols x xs f = record {
-    apart = λ y i j. by y i (in_either symbols (place_of symbols x) x y j);
+    apart = λ y i j. by y i (in_either symbols (place_among symbols x) x y j);
     once = f.once.1;
     prepared = λ y i. f.prepared y (inr i);
   }
@@ -316,21 +316,21 @@ module _ (es : List Declaration) (around : List (List ℕ)) (Free : List ℕ →
       by y i (inr j) = f.apart y (inr i) j
 
   pub symbols_have_come : (n : Nest) (xs : List (List ℕ)) → IsButText es around Free deepest n → AreFresh n.symbols xs
-      → IsButText es around Free deepest (with_symbols n xs)
+      → IsButText es around Free deepest (with_nest_symbols n xs)
   symbols_have_come n [] h f = h
   symbols_have_come n (x ∷ xs) h f =
-      symbols_have_come (with_symbol n x) xs
+      symbols_have_come (with_nest_symbol n x) xs
       (symbol_comes n x h (f.prepared x (inl refl)) (absent n.symbols x (f.apart x (inl refl)))) (later_fresh n.symbols x xs f)
 
 -- what the symbols are then
-pub symbols_are : (n : Nest) (xs : List (List ℕ)) (y : List ℕ) → In y (with_symbols n xs).symbols → In y n.symbols ⊎ In y xs
+pub symbols_are : (n : Nest) (xs : List (List ℕ)) (y : List ℕ) → In y (with_nest_symbols n xs).symbols → In y n.symbols ⊎ In y xs
 symbols_are n [] y i = inl i
-symbols_are n (x ∷ xs) y i = by (symbols_are (with_symbol n x) xs y i)
+symbols_are n (x ∷ xs) y i = by (symbols_are (with_nest_symbol n x) xs y i)
   where
     first : (y ≡ x) ⊎ In y n.symbols → In y n.symbols ⊎ In y (x ∷ xs)
     first (inl e) = inr (inl e)
     first (inr j) = inl j
 
-    by : In y (with_name n.symbols x) ⊎ In y xs → In y n.symbols ⊎ In y (x ∷ xs)
-    by (inl j) = first (in_either n.symbols (place_of n.symbols x) x y j)
+    by : In y (with_name_placed n.symbols x) ⊎ In y xs → In y n.symbols ⊎ In y (x ∷ xs)
+    by (inl j) = first (in_either n.symbols (place_among n.symbols x) x y j)
     by (inr j) = inr (inr j)

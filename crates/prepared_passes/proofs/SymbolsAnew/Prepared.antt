@@ -16,8 +16,8 @@ use Rattle.nest.specs.Bodies.{Standing, nest_loops, nest_statements}
 use Rattle.nest.specs.Plain.{Guarded, Loop, Made, Nest, Part, Run, Turns, Choice, Label, Jump, Parts, no_parts, part, parts}
 use Rattle.nest_order.specs.orders.Lists.{In}
 use Rattle.nest_order.specs.shapes.Shapes.{numbers_of}
-use Rattle.nest_reasons.specs.Symbols.{is_integer, is_integer_scalar, is_scalar}
-use Rattle.nest_steps.specs.Mapped.{count_of, mapped, mapped_in}
+use Rattle.nest_reasons.specs.Symbols.{is_integer, is_integer_scalar, is_scalar_extent}
+use Rattle.nest_steps.specs.Mapped.{count_of, mapped_parts_of, mapped_in}
 use Rattle.pass_laws.proofs.NormalFacts.FoundSymbols.{chosen, chosen_once, integer_is, scalar_is}
 use Rattle.pass_laws.proofs.NormalFacts.Tables.{all_in, each_from}
 use Rattle.pass_laws.proofs.ReadyNests.Lists.{Each-All}
@@ -30,7 +30,7 @@ use Rattle.pass_laws.specs.prepared_nests.Statements.{IsPreparedStatement, expre
 use Rattle.pass_laws.proofs.PreparedNests.Lists.{Contains-In, In-Contains, distinct_too}
 use Rattle.pass_laws.proofs.PreparedNests.Walks.{AreRound, rounds}
 use Rattle.statement_passes.specs.Passes.{mapped_body}
-use Rattle.statement_passes.specs.Shifted.{with_symbols}
+use Rattle.statement_passes.specs.Shifted.{with_nest_symbols}
 use Rattle.statement_passes.specs.Standings.{IsLoop, mapped_standings}
 use Rattle.statement_passes.proofs.Standings.{mapped_nest_has}
 use Rattle.symbols_anew.specs.Found.{is_new, known_names, names_assigned, new_symbols}
@@ -53,7 +53,7 @@ module _ (Asked : List Loop → Loop → Type 0) (each : List Loop → ℕ → G
   joined_in ls (x ∷ xs) ys h k = (h.0, joined_in ls xs ys h.1 k)
 
   mutual
-    mapped_has : (ls : List Loop) (k : ℕ) (p : Part) → EachLoop Asked ls p → EachLoopIn Asked ls (parts (mapped each ls k p))
+    mapped_has : (ls : List Loop) (k : ℕ) (p : Part) → EachLoop Asked ls p → EachLoopIn Asked ls (parts (mapped_parts_of each ls k p))
     mapped_has ls k (Run g) h = runs_in ls (each ls k g)
     mapped_has ls k (Turns l ps) h = ((h.0, mapped_in_has (ls ++ l ∷ []) k ps h.1), tt)
     mapped_has ls k (Choice bs ps) h = (h, tt)
@@ -63,7 +63,7 @@ module _ (Asked : List Loop → Loop → Type 0) (each : List Loop → ℕ → G
     mapped_in_has : (ls : List Loop) (k : ℕ) (ps : Parts) → EachLoopIn Asked ls ps → EachLoopIn Asked ls (parts (mapped_in each ls k ps))
     mapped_in_has ls k no_parts h = tt
     mapped_in_has ls k (part p ps) h =
-        joined_in ls (mapped each ls k p) (mapped_in each ls (k + count_of p) ps) (mapped_has ls k p h.0) (mapped_in_has ls (k + count_of p) ps h.1)
+        joined_in ls (mapped_parts_of each ls k p) (mapped_in each ls (k + count_of p) ps) (mapped_has ls k p h.0) (mapped_in_has ls (k + count_of p) ps h.1)
 
   pub body_has : (p : Part) → IsLoop p → EachLoop Asked [] p → EachLoop Asked [] (mapped_body each p)
   body_has (Turns l ps) loop h = (h.0, mapped_in_has (l ∷ []) 0 ps h.1)
@@ -175,7 +175,7 @@ module _ (es : List Declaration) (before n : Nest) (source : IsOfSource es n) wh
       both_true (is_integer_scalar c.declaration)
       (is_among (names_assigned before) c.declaration.name && not (is_among (known_names n) c.declaration.name)) c.passes in
       let r = both_true (is_among (names_assigned before) c.declaration.name) (not (is_among (known_names n) c.declaration.name)) p.1 in
-      let q = both_true (is_integer c.declaration.kind) (is_scalar c.declaration.extent) p.0 in
+      let q = both_true (is_integer c.declaration.kind) (is_scalar_extent c.declaration.extent) p.0 in
       let unknown : is_among (known_names n) y ≡ false
       = ap (is_among (known_names n)) c.name ∙ not_true (is_among (known_names n) c.declaration.name) r.1 in
       let second = in_neither n.symbols (names_assigned n) y unknown in
@@ -249,7 +249,7 @@ module _ (es : List Declaration) (before n : Nest) (source : IsOfSource es n) wh
     }
 
     -- with all symbols
-    module _ (m : Nest) (is : m ≡ with_symbols n (new_symbols before n)) (all : IsButText es around IsNone deepest m) where
+    module _ (m : Nest) (is : m ≡ with_nest_symbols n (new_symbols before n)) (all : IsButText es around IsNone deepest m) where
       are : (y : List ℕ) → In y m.symbols → In y n.symbols ⊎ In y (new_symbols before n)
       are y i = symbols_are n (new_symbols before n) y (subst (λ (k : Nest). In y k.symbols) is i)
 
@@ -346,8 +346,8 @@ module _ (es : List Declaration) (before n : Nest) (source : IsOfSource es n) wh
     pub new_prepared : (xs : List (List ℕ)) → new_symbols before n ≡ xs → IsPrepared es around (deepest + 18) (with_new n xs)
     new_prepared [] e = stays
     new_prepared (x ∷ xs) e =
-        all_prepared (with_symbols n (x ∷ xs)) (ap (with_symbols n) (sym e))
-        (subst (λ ys. IsButText es around IsNone deepest (with_symbols n ys)) e
+        all_prepared (with_nest_symbols n (x ∷ xs)) (ap (with_nest_symbols n) (sym e))
+        (subst (λ ys. IsButText es around IsNone deepest (with_nest_symbols n ys)) e
         (symbols_have_come es around IsNone deepest n (new_symbols before n) but_text (fresh around IsNone deepest)))
 
 pub prepared_nest_is_prepared_anew : PreparedNestIsPreparedAnew

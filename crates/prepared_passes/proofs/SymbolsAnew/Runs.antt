@@ -3,6 +3,7 @@ use Rattle.std.proofs.Common.{◌≡◌, refl, sym, ap, ◌∙◌, subst, ℕ, �
 use Rattle.tree.specs.Operators.{as_truth}
 use Rattle.tree.specs.Plain.{Expression, Reference, Statement, Block, statement}
 use Rattle.meaning.specs.Dialect.{fortran77}
+use Rattle.tree.specs.declared.width.Width.{Width}
 use Rattle.meaning.specs.Run.{State, assigns, does, does_all}
 use Rattle.meaning.specs.Store.{Store, Cell, cell_at}
 use Rattle.meaning.specs.Value.{cell_named, subscript_values, truth_of, value_of}
@@ -16,18 +17,20 @@ use Rattle.nest.specs.Blocks.{block_of_parts, guarded_statement, numeral, statem
 use Rattle.nest.specs.Plain.{Guarded, Loop, Nest, Part, Run, Turns, Choice, Label, Jump, Parts, no_parts, part, parts}
 use Rattle.nest_order.specs.shapes.Shapes.{ArePlain, IsPlain}
 use Rattle.nest_rewrite.specs.Statements.{rewritten_statement}
-use Rattle.nest_steps.specs.Mapped.{count_of, mapped, mapped_in}
+use Rattle.nest_steps.specs.Mapped.{count_of, mapped_parts_of, mapped_in}
 use Rattle.nest_steps.proofs.Mapped.{does_joined}
 use Rattle.pass_laws.proofs.NormalValues.Replaced.{canonical_subscripts, canonical_value}
 use Rattle.statement_passes.specs.Passes.{mapped_body}
-use Rattle.statement_passes.specs.Shifted.{with_symbol, with_symbols}
-use Rattle.statement_passes.specs.Symbols.{place_of}
+use Rattle.statement_passes.specs.Shifted.{with_nest_symbol, with_nest_symbols}
+use Rattle.statement_passes.specs.Symbols.{place_among}
 use Rattle.statement_passes.proofs.Shifting.{shifted_runs_alike}
 use Rattle.statement_passes.proofs.Standings.{symbol_leaves_nest}
 use Rattle.symbols_anew.specs.Found.{new_symbols}
 use Rattle.symbols_anew.specs.Nests.{each_canonised, with_new, with_symbols_found, with_texts}
 use Rattle.prepared_passes.specs.symbols.Laws.{NestWithSymbolsRunsAlike}
 use Rattle.prepared_passes.proofs.SymbolsAnew.Acts.{Alike, alike_checks, alike_counts, alike_either, alike_evaluates, alike_loops, alike_nothing, alike_stores, alike_then}
+use Rattle.tree.specs.Widths.{bits_of}
+use Rattle.meaning.proofs.Widths.{widest}
 
 module _ (bits : ℕ) (few : bits ≤ 63) (symbols : List (List ℕ)) where
   -- ---- statements
@@ -86,7 +89,7 @@ module _ (bits : ℕ) (few : bits ≤ 63) (symbols : List (List ℕ)) where
     mutual
       alike_part : (ls : List Loop) (k : ℕ) (p : Part) → IsPlain p
           → Alike (does (sequential bits) None (statement_of_part line p))
-          (does_all (sequential bits) None (block_of_parts line (parts (mapped each ls k p))))
+          (does_all (sequential bits) None (block_of_parts line (parts (mapped_parts_of each ls k p))))
       alike_part ls k (Run g) h = alike_statement (map (λ (l : Loop). l.variable) ls) g
       alike_part ls k (Turns l ps) h =
           alike_loops bits few line l.variable l.first l.last (numeral l.step) _ _ (alike_parts (ls ++ l ∷ []) k ps h.1)
@@ -105,7 +108,7 @@ module _ (bits : ℕ) (few : bits ≤ 63) (symbols : List (List ℕ)) where
           record {
             at = λ s z e.
                 let m = both.at s z e in
-                (does_joined bits line (mapped each ls k p) (mapped_in each ls (k + count_of p) ps) s ∙ m.0, m.1);
+                (does_joined bits line (mapped_parts_of each ls k p) (mapped_in each ls (k + count_of p) ps) s ∙ m.0, m.1);
           }
 
     -- the loops themselves
@@ -127,19 +130,19 @@ record IsAsBefore (n m : Nest) : Type 0 where
   plain : IsPlain m.body
   runs : (line : ℕ) → statement_of_part line m.body ≡ statement_of_part line n.body
 
-with_symbol_before : (n : Nest) (x : List ℕ) → IsPlain n.body → IsAsBefore n (with_symbol n x)
+with_symbol_before : (n : Nest) (x : List ℕ) → IsPlain n.body → IsAsBefore n (with_nest_symbol n x)
 with_symbol_before n x h = record {
   line = refl;
   after = refl;
   plain = (symbol_leaves_nest n x h).plain;
-  runs = λ line. shifted_runs_alike line (place_of n.symbols x) n.body;
+  runs = λ line. shifted_runs_alike line (place_among n.symbols x) n.body;
 }
 
-with_symbols_before : (n : Nest) (xs : List (List ℕ)) → IsPlain n.body → IsAsBefore n (with_symbols n xs)
+with_symbols_before : (n : Nest) (xs : List (List ℕ)) → IsPlain n.body → IsAsBefore n (with_nest_symbols n xs)
 with_symbols_before n [] h = record { line = refl; after = refl; plain = h; runs = λ line. refl }
 with_symbols_before n (x ∷ xs) h =
     let one = with_symbol_before n x h in
-    let more = with_symbols_before (with_symbol n x) xs one.plain in
+    let more = with_symbols_before (with_nest_symbol n x) xs one.plain in
     record {
       line = more.line ∙ one.line;
       after = more.after ∙ one.after;
@@ -149,33 +152,33 @@ with_symbols_before n (x ∷ xs) h =
 
 -- ---- the nest
 
-abbrev run_of : ℕ → Part → Block → State → State
-run_of line p after s = does_all fortran77 None (statement (statement_of_part line p) after) s
+abbrev run_of : (width : Width) → ℕ → Part → Block → State → State
+run_of width line p after s = does_all (fortran77 width) None (statement (statement_of_part line p) after) s
 
-same_runs : (n m : Nest) → IsAsBefore n m → (s : State) → run_of m.line m.body m.after s ≡ run_of n.line n.body n.after s
-same_runs n m b s =
-    ap (λ l. run_of l m.body m.after s) b.line
-    ∙ (ap (λ (c : Block). run_of n.line m.body c s) b.after
-    ∙ ap (λ (c : Statement). does_all fortran77 None (statement c n.after) s) (b.runs n.line))
+same_runs : (width : Width) (n m : Nest) → IsAsBefore n m → (s : State) → run_of width m.line m.body m.after s ≡ run_of width n.line n.body n.after s
+same_runs width n m b s =
+    ap (λ l. run_of width l m.body m.after s) b.line
+    ∙ (ap (λ (c : Block). run_of width n.line m.body c s) b.after
+    ∙ ap (λ (c : Statement). does_all (fortran77 width) None (statement c n.after) s) (b.runs n.line))
 
-pub texts_run_alike : (m : Nest) (s : State) → IsPlain m.body → HoldsSized s.store
-    → IsSound (run_of m.line m.body m.after s).way
-    → run_of (with_texts m).line (with_texts m).body (with_texts m).after s ≡ run_of m.line m.body m.after s
-texts_run_alike m s h z e =
-    ap (λ (t : State). does_all fortran77 None m.after t)
-    (alike_body 31 (omega arith) m.symbols m.line m.body h s z
-    ((Stays-does_all fortran77 None m.after).at (does fortran77 None (statement_of_part m.line m.body) s) e))
+pub texts_run_alike : (width : Width) (m : Nest) (s : State) → IsPlain m.body → HoldsSized s.store
+    → IsSound (run_of width m.line m.body m.after s).way
+    → run_of width (with_texts m).line (with_texts m).body (with_texts m).after s ≡ run_of width m.line m.body m.after s
+texts_run_alike width m s h z e =
+    ap (λ (t : State). does_all (fortran77 width) None m.after t)
+    (alike_body (bits_of width) (widest width) m.symbols m.line m.body h s z
+    ((Stays-does_all (fortran77 width) None m.after).at (does (fortran77 width) None (statement_of_part m.line m.body) s) e))
 
-new_runs_alike : (n : Nest) (xs : List (List ℕ)) (s : State) → IsPlain n.body → HoldsSized s.store
-    → IsSound (run_of n.line n.body n.after s).way
-    → run_of (with_new n xs).line (with_new n xs).body (with_new n xs).after s ≡ run_of n.line n.body n.after s
-new_runs_alike n [] s h z e = refl
-new_runs_alike n (x ∷ xs) s h z e =
-    let m = with_symbols n (x ∷ xs) in
+new_runs_alike : (width : Width) (n : Nest) (xs : List (List ℕ)) (s : State) → IsPlain n.body → HoldsSized s.store
+    → IsSound (run_of width n.line n.body n.after s).way
+    → run_of width (with_new n xs).line (with_new n xs).body (with_new n xs).after s ≡ run_of width n.line n.body n.after s
+new_runs_alike width n [] s h z e = refl
+new_runs_alike width n (x ∷ xs) s h z e =
+    let m = with_nest_symbols n (x ∷ xs) in
     let b = with_symbols_before n (x ∷ xs) h in
-    let same = same_runs n m b s in
-    texts_run_alike m s b.plain z (subst (λ (t : State). IsSound t.way) (sym same) e) ∙ same
+    let same = same_runs width n m b s in
+    texts_run_alike width m s b.plain z (subst (λ (t : State). IsSound t.way) (sym same) e) ∙ same
 
-pub nest_with_symbols_runs_alike : NestWithSymbolsRunsAlike
+pub nest_with_symbols_runs_alike : (width : Width) → NestWithSymbolsRunsAlike width
 unfolding with_symbols_found
-nest_with_symbols_runs_alike before n s h z e = new_runs_alike n (new_symbols before n) s h z e
+nest_with_symbols_runs_alike width before n s h z e = new_runs_alike width n (new_symbols before n) s h z e

@@ -9,9 +9,9 @@ use Rattle.nest_order.specs.shapes.Shapes.{IsPlain}
 use Rattle.nest_reasons.specs.Symbols.{is_integer_scalar}
 use Rattle.pass_laws.proofs.NormalFacts.FoundSymbols.{chosen}
 use Rattle.statement_passes.specs.Passes.{mapped_body}
-use Rattle.statement_passes.specs.Shifted.{shifted_loop, with_symbol, with_symbols}
+use Rattle.statement_passes.specs.Shifted.{shifted_loop, with_nest_symbol, with_nest_symbols}
 use Rattle.statement_passes.specs.Standings.{IsLoop, shifted_standing}
-use Rattle.statement_passes.specs.Symbols.{place_of}
+use Rattle.statement_passes.specs.Symbols.{place_among}
 use Rattle.statement_passes.proofs.Standings.{mapped_nest_has, symbol_leaves_nest}
 use Rattle.symbols_anew.specs.Found.{is_new, known_names, names_assigned, new_symbols}
 use Rattle.symbols_anew.specs.Nests.{each_canonised, with_new, with_symbols_found, with_texts}
@@ -62,29 +62,29 @@ same_loops : (at : ℕ) (ls : List Loop) → map without_trip (map (shifted_loop
 same_loops at [] = refl
 same_loops at (l ∷ ls) = ap (λ ms. without_trip l ∷ ms) (same_loops at ls)
 
-one_same : (n : Nest) (x : List ℕ) → IsPlain n.body → IsLoop n.body → IsSame n (with_symbol n x)
+one_same : (n : Nest) (x : List ℕ) → IsPlain n.body → IsLoop n.body → IsSame n (with_nest_symbol n x)
 one_same n x plain loop =
     let from = symbol_leaves_nest n x plain in
     record {
       plain = from.plain;
-      loop = loop_stays (place_of n.symbols x) n.body loop;
-      assigned = all_assigned n (with_symbol n x)
-          (mapped_in (shifted_standing (place_of n.symbols x)) (λ y. refl) n (with_symbol n x) from.statements);
+      loop = loop_stays (place_among n.symbols x) n.body loop;
+      assigned = all_assigned n (with_nest_symbol n x)
+          (mapped_in (shifted_standing (place_among n.symbols x)) (λ y. refl) n (with_nest_symbol n x) from.statements);
       rest = refl;
-      loops = ap (map without_trip) from.loops ∙ same_loops (place_of n.symbols x) (nest_loops n);
-      kept = λ y i. in_more n.symbols (place_of n.symbols x) x y i;
+      loops = ap (map without_trip) from.loops ∙ same_loops (place_among n.symbols x) (nest_loops n);
+      kept = λ y i. in_more n.symbols (place_among n.symbols x) x y i;
     }
 
-pub all_same : (n : Nest) (xs : List (List ℕ)) → IsPlain n.body → IsLoop n.body → IsSame n (with_symbols n xs)
+pub all_same : (n : Nest) (xs : List (List ℕ)) → IsPlain n.body → IsLoop n.body → IsSame n (with_nest_symbols n xs)
 all_same n [] plain loop = record { plain = plain; loop = loop; assigned = λ z i. i; rest = refl; loops = refl; kept = λ y i. i }
 all_same n (x ∷ xs) plain loop =
     let one = one_same n x plain loop in
-    let more = all_same (with_symbol n x) xs one.plain one.loop in
+    let more = all_same (with_nest_symbol n x) xs one.plain one.loop in
     record {
       plain = more.plain;
       loop = more.loop;
       assigned = λ z i. one.assigned z (more.assigned z i);
-      rest = more.rest ∙ ap (λ (k : Nest). record k { symbols = (with_symbols n (x ∷ xs)).symbols; body = (with_symbols n (x ∷ xs)).body }) one.rest;
+      rest = more.rest ∙ ap (λ (k : Nest). record k { symbols = (with_nest_symbols n (x ∷ xs)).symbols; body = (with_nest_symbols n (x ∷ xs)).body }) one.rest;
       loops = more.loops ∙ one.loops;
       kept = λ y i. more.kept y (one.kept y i);
     }
@@ -109,7 +109,7 @@ new_same before n [] e plain loop = record {
   new = λ y i. inl i;
 }
 new_same before n (x ∷ xs) e plain loop =
-    let m = with_symbols n (x ∷ xs) in
+    let m = with_nest_symbols n (x ∷ xs) in
     let same = all_same n (x ∷ xs) plain loop in
     let has = mapped_nest_has (each_canonised m.symbols) m same.loop same.plain in
     record {
@@ -132,9 +132,9 @@ nest_with_symbols_is_same_but_text before n plain loop = new_same before n (new_
 
 -- ---- whatever stands behind
 
-with_behind : (n : Nest) (after : Block) (xs : List (List ℕ)) → with_symbols (record n { after = after }) xs ≡ record (with_symbols n xs) { after = after }
+with_behind : (n : Nest) (after : Block) (xs : List (List ℕ)) → with_nest_symbols (record n { after = after }) xs ≡ record (with_nest_symbols n xs) { after = after }
 with_behind n after [] = refl
-with_behind n after (x ∷ xs) = with_behind (with_symbol n x) after xs
+with_behind n after (x ∷ xs) = with_behind (with_nest_symbol n x) after xs
 
 new_behind : (n : Nest) (after : Block) (xs : List (List ℕ)) → with_new (record n { after = after }) xs ≡ record (with_new n xs) { after = after }
 new_behind n after [] = refl

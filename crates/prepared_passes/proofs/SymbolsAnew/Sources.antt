@@ -5,6 +5,7 @@ use Rattle.std.specs.Option.{option_map}
 use Rattle.tree.specs.Names.{IsSourceName}
 use Rattle.tree.specs.Plain.{Block, Declaration, Program}
 use Rattle.meaning.specs.Dialect.{fortran77}
+use Rattle.tree.specs.declared.width.Width.{Width}
 use Rattle.meaning.specs.Names.{IsInByteOrder}
 use Rattle.meaning.specs.Profile77.{IsProgram77}
 use Rattle.meaning.specs.Typed.{declared}
@@ -106,7 +107,7 @@ declaration_named (d ∷ ds) x (inr i) =
     let r = declaration_named ds x i in
     record { declaration = r.declaration; among = inr r.among; name = r.name }
 
-module _ (p : Program) (n : Nest) (es : List Declaration) (is : IsProgram77 fortran77 p) (among : Contains (found_in p) (InNest n))
+module _ (width : Width) (p : Program) (n : Nest) (es : List Declaration) (is : IsProgram77 (fortran77 width) p) (among : Contains (found_in p) (InNest n))
     (added : AddMadeNames p.declarations es) where
   of_program : n.declarations ≡ p.declarations
   of_program = ap (λ (k : Nest). k.declarations) (found_nest_is_loop p n among).is
@@ -114,7 +115,7 @@ module _ (p : Program) (n : Nest) (es : List Declaration) (is : IsProgram77 fort
   names_source : (x : List ℕ) → In x (map (λ (d : Declaration). d.name) p.declarations) → IsSourceName x
   names_source x i =
       let r = declaration_named p.declarations x i in
-      declared_source fortran77 p is x r.declaration
+      declared_source (fortran77 width) p is x r.declaration
       (ap (declared p.declarations) (sym r.name)
       ∙ declared_once p.declarations r.declaration is.declarations.ordered (In-Contains r.declaration p.declarations r.among))
 
@@ -143,9 +144,9 @@ module _ (p : Program) (n : Nest) (es : List Declaration) (is : IsProgram77 fort
         among = λ x d e. kept_declaration p.declarations es added x d (ap (λ (ds : List Declaration). declared ds x) (sym same) ∙ e);
       }
 
-pub found_nest_is_of_source : FoundNestIsOfSource
-found_nest_is_of_source p n m k es masks is among normal converted added =
+pub found_nest_is_of_source : (width : Width) → FoundNestIsOfSource width
+found_nest_is_of_source width p n m k es masks is among normal converted added =
     let one = normal_names n m normal in
     let two = converted_is masks m k converted in
-    is_of_source p n es is among added k two.loop
-    (two.names.declarations ∙ (one.declarations ∙ of_program p n es is among added)) (two.names.symbols ∙ one.symbols)
+    is_of_source width p n es is among added k two.loop
+    (two.names.declarations ∙ (one.declarations ∙ of_program width p n es is among added)) (two.names.symbols ∙ one.symbols)

@@ -23,7 +23,7 @@ use Rattle.dependence_graph.specs.nest_graph.Ready.{IsReady}
 use Rattle.dependence_graph.specs.nest_graph.Spans.{spans_of}
 use Rattle.emission.specs.emission_forms.Written.{HasFormFacts}
 use Rattle.emission.specs.graph_orders.Nests.{run_nest}
-use Rattle.interchange.specs.Arranged.{body_in, has_no_loop, in_order, trips_of, vectors_of}
+use Rattle.interchange.specs.Arranged.{body_in, is_loop_free, in_order, free_trips_of, vectors_of}
 use Rattle.interchange.specs.Chains.{Chain, chain_of, part_in_loops}
 use Rattle.interchange.specs.Orders.{order_of}
 use Rattle.interchange.specs.Reads.{read_own_elements}
@@ -31,7 +31,7 @@ use Rattle.interchange.specs.Reads.{read_own_elements}
 -- a trip in which no loop's variable counts names symbols alone, as canonical text does
 abbrev pub TripsNameSymbols : Nest → Type 0
 TripsNameSymbols m =
-    (l : Loop) (t : Trip) (x : List ℕ) → In l (nest_loops m) → l.trip ≡ Some t → has_no_loop t ≡ true
+    (l : Loop) (t : Trip) (x : List ℕ) → In l (nest_loops m) → l.trip ≡ Some t → is_loop_free t ≡ true
     → In x (names_in l.last) → In x m.symbols
 
 -- the loops of the chain in the order that the edges ask for, round its statements as they are
@@ -49,7 +49,7 @@ pub record MayMove (bits : ℕ) (m : Nest) (g : Graph) (c : Chain) (trips : List
   pub forms : HasFormFacts m w
   pub names : TripsNameSymbols m
   pub chain : chain_of m.body ≡ Some c
-  pub are : trips_of c.loops ≡ Some trips
+  pub are : free_trips_of c.loops ≡ Some trips
   pub own : read_own_elements m ≡ true
 
 -- where the nest's sequential run goes on, so does that of the nest with its loops moved, in the same store but for the

@@ -1,6 +1,5 @@
 -- Nests of loops, statements, block IFs, labels and jumps ahead, which if-conversion is about.
-use Rattle.std.specs.Prelude.{◌≡◌, ⊤, ℕ, None, All}
-use Rattle.std.specs.Prelude.{List, []}
+use Rattle.std.specs.Prelude.{◌≡◌, ⊤, ℕ, None, All, List, []}
 use Rattle.meaning.specs.Reads.{names_in_block}
 use Rattle.nest.specs.Blocks.{block_of_nest}
 use Rattle.nest.specs.Plain.{Nest, Part, Run, Turns, Choice, Label, Jump, Parts, no_parts, part, Branches, no_branches}

@@ -4,6 +4,7 @@ use Rattle.tree.specs.Names.{IsSourceName}
 use Rattle.tree.specs.Plain.{Declaration, Program}
 use Rattle.meaning.specs.Blocks.{Surroundings}
 use Rattle.meaning.specs.Dialect.{fortran77}
+use Rattle.tree.specs.declared.width.Width.{Width}
 use Rattle.meaning.specs.Profile77.{IsProgram77, IsStatement}
 use Rattle.find_nests.specs.Found.{InNest, found_in}
 use Rattle.find_nests.specs.Laws.{IsFoundNest}
@@ -23,18 +24,20 @@ use Rattle.if_convert.specs.Masks.{mask_name}
 use Rattle.prepared_passes.specs.conversion.Branching.{IsBranching, IsUnguarded}
 use Rattle.prepared_passes.specs.conversion.Places.{IsMask}
 
-abbrev pub FoundNestIsUnguarded : Type 0
-FoundNestIsUnguarded = (p : Program) (n m : Nest) → IsProgram77 fortran77 p → Contains (found_in p) (InNest n)
+abbrev pub FoundNestIsUnguarded : (width : Width) → Type 0
+FoundNestIsUnguarded width = (p : Program) (n m : Nest) → IsProgram77 (fortran77 width) p
+    → Contains (found_in p) (InNest n)
     → normalised n ≡ Some m → IsUnguarded m.body
 
-abbrev pub ProgramHasNoMasks : Type 0
-ProgramHasNoMasks = (p : Program) (i : ℕ) → IsProgram77 fortran77 p → ¬ Contains (names_of p) (mask_name i)
+abbrev pub ProgramHasNoMasks : (width : Width) → Type 0
+ProgramHasNoMasks width = (p : Program) (i : ℕ) → IsProgram77 (fortran77 width) p
+    → ¬ Contains (names_of p) (mask_name i)
 
 -- So masks may be made for the normal form of a nest that is found, and it is prepared with them. The declarations ds
 -- have the names of p, the variables of its loops, and maybe further made names, but no masks; es has the masks, too
-abbrev pub FoundNestIsConverted : Type 0
-FoundNestIsConverted = (p : Program) (n m k : Nest) (ds es : List Declaration) (masks : ℕ) (w : Surroundings)
-    (found : IsFoundNest p n) → IsProgram77 fortran77 p → Contains (found_in p) (InNest n)
+abbrev pub FoundNestIsConverted : (width : Width) → Type 0
+FoundNestIsConverted width = (p : Program) (n m k : Nest) (ds es : List Declaration) (masks : ℕ) (w : Surroundings)
+    (found : IsFoundNest p n) → IsProgram77 (fortran77 width) p → Contains (found_in p) (InNest n)
     → normalised n ≡ Some m → converted_nest masks m ≡ Some k → k.masks ≤ 2 ^ 32
     → AddMadeNames p.declarations ds → ((i : ℕ) → declared ds (mask_name i) ≡ None)
     → All (λ (l : Loop). IsSomeAnd (declared ds l.variable) IsCounter) (nest_loops m)
@@ -53,7 +56,7 @@ pub record HasDeclarations (m : Nest) : Type 0 where
   pub prepared : IsPrepared declarations around normal_depth m
 
 -- there are such ones: those of the program, with the variables of its loops and with masks
-abbrev pub FoundNestHasDeclarations : Type 0
-FoundNestHasDeclarations = (p : Program) (n m k : Nest) (masks : ℕ) → IsProgram77 fortran77 p
+abbrev pub FoundNestHasDeclarations : (width : Width) → Type 0
+FoundNestHasDeclarations width = (p : Program) (n m k : Nest) (masks : ℕ) → IsProgram77 (fortran77 width) p
     → Contains (found_in p) (InNest n) → normalised n ≡ Some m → converted_nest masks m ≡ Some k → k.masks ≤ 2 ^ 32
     → HasDeclarations k

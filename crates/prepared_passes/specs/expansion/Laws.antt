@@ -1,6 +1,5 @@
 -- What is known of a prepared nest in which private scalars become arrays.
-use Rattle.std.specs.Prelude.{◌≡◌, Some, ℕ, suc, ℤ, pos, false, if◌then◌else◌, Contains}
-use Rattle.std.specs.Prelude.{List, [], ◌∷◌, length, map}
+use Rattle.std.specs.Prelude.{◌≡◌, Some, ℕ, suc, ℤ, pos, false, if◌then◌else◌, Contains, List, [], ◌∷◌, length, map}
 use Rattle.std.specs.Str.{bytes_eq}
 use Rattle.tree.specs.Names.{IsSourceName}
 use Rattle.tree.specs.Plain.{Declaration}

@@ -14,8 +14,8 @@ use Rattle.scalar_expand.specs.declared.privates.Private.{Private}
 use Rattle.prepared_passes.specs.expansion.Laws.{MayBeExpanded}
 
 -- guard, left side and right side
-abbrev pub references_of : Guarded → List Reference
-references_of g = g.left ∷ references_read (assignment g)
+abbrev pub references_touched : Guarded → List Reference
+references_touched g = g.left ∷ references_read (assignment g)
 
 -- the value of the scalar's element is copied to it, in the loops round it; its last iteration isn't known
 pub record IsCopyOf (m : Nest) (p : Private) (s : Standing) : Type 0 where
@@ -27,7 +27,7 @@ pub record IsCopyOf (m : Nest) (p : Private) (s : Standing) : Type 0 where
 -- mask, whose array bears its name, stands in no copy
 abbrev pub NoPrivateScalarIsLeft : Nest → Nest → Type 0
 NoPrivateScalarIsLeft m k = (p : Private) → In p (private_scalars m) → (s : Standing) → In s (nest_statements k)
-    → In (scalar p.name) (references_of s.statement) → IsCopyOf m p s
+    → In (scalar p.name) (references_touched s.statement) → IsCopyOf m p s
 
 abbrev pub ExpandedNestHasNoPrivateScalars : Type 0
 ExpandedNestHasNoPrivateScalars =

@@ -6,6 +6,7 @@ use Rattle.tree.specs.Plain.{Declaration, Program}
 use Rattle.emission.specs.emission_forms.Written.{HaveGuardedNames}
 use Rattle.linear_forms.specs.Laws.{HoldsSized}
 use Rattle.meaning.specs.Dialect.{fortran77}
+use Rattle.tree.specs.declared.width.Width.{Width}
 use Rattle.meaning.specs.Holding.{HoldsProgram}
 use Rattle.meaning.specs.Run.{State, does_all}
 use Rattle.meaning.specs.Store.{names_of}
@@ -54,28 +55,28 @@ pub record IsExpandedInPlaces (p b a : Program) (around : List (List ℕ)) (deep
 -- A moment in the place of b that goes with the moment u in the place of a: all names but those that were made for the
 -- nest have the bounds and the values that they have there. Where the nest's loops with what comes after them meet no
 -- fault from it, neither do those of the expanded nest from u, and they come to moments that agree on p
-pub record IsBegunBefore (p b : Program) (m : Nest) (u : State) : Type 0 where
+pub record IsBegunBefore (width : Width) (p b : Program) (m : Nest) (u : State) : Type 0 where
   pub state : State
-  pub holds : HoldsProgram fortran77 b state.store
+  pub holds : HoldsProgram (fortran77 width) b state.store
   pub sized : HoldsSized state.store
   pub others : IsSameBut (made_names m) u.store state.store
   pub alike : GoOnAlike p state u
-  pub leads : IsSound (does_all fortran77 None (loops_then_after m) state).way
-      → GoOnAlike p (does_all fortran77 None (loops_then_after m) state)
-      (does_all fortran77 None (loops_then_after (expanded m)) u)
+  pub leads : IsSound (does_all (fortran77 width) None (loops_then_after m) state).way
+      → GoOnAlike p (does_all (fortran77 width) None (loops_then_after m) state)
+      (does_all (fortran77 width) None (loops_then_after (expanded m)) u)
 
 -- So for each moment at which the expanded nest may be run there is one before
-abbrev pub ExpandedNestIsBegunBefore : Type 0
-ExpandedNestIsBegunBefore = (p b a : Program) (around : List (List ℕ)) (deepest deeper : ℕ) (m : Nest) (u : State)
-    → IsExpandedInPlaces p b a around deepest deeper m → MayRun a (expanded m) u → HoldsSized u.store
-    → IsBegunBefore p b m u
+abbrev pub ExpandedNestIsBegunBefore : (width : Width) → Type 0
+ExpandedNestIsBegunBefore width = (p b a : Program) (around : List (List ℕ)) (deepest deeper : ℕ) (m : Nest) (u : State)
+    → IsExpandedInPlaces p b a around deepest deeper m → MayRun width a (expanded m) u → HoldsSized u.store
+    → IsBegunBefore width p b m u
 
 -- ---- guards
 
 -- Where the arrays are allocated by their extents, each reference to one names a cell in each instance of its
 -- statement, whatever the guard is there
-abbrev pub ExpandedNestHasGuardedNames : Type 0
-ExpandedNestHasGuardedNames =
+abbrev pub ExpandedNestHasGuardedNames : (width : Width) → Type 0
+ExpandedNestHasGuardedNames width =
     (p b a : Program) (around : List (List ℕ)) (deepest deeper : ℕ) (m : Nest) (u : State)
-    → IsExpandedInPlaces p b a around deepest deeper m → (may : MayRun a (expanded m) u) → HoldsSized u.store
-    → HaveGuardedNames (expanded m) (setting_at may)
+    → IsExpandedInPlaces p b a around deepest deeper m → (may : MayRun width a (expanded m) u) → HoldsSized u.store
+    → HaveGuardedNames (expanded m) (setting_at width may)

@@ -5,6 +5,7 @@ use Rattle.tree.specs.Names.{IsSourceName}
 use Rattle.tree.specs.Plain.{Declaration, Program}
 use Rattle.meaning.specs.Blocks.{Surroundings}
 use Rattle.meaning.specs.Dialect.{fortran77}
+use Rattle.tree.specs.declared.width.Width.{Width}
 use Rattle.meaning.specs.Holding.{HoldsProgram}
 use Rattle.meaning.specs.Profile77.{IsProgram77, IsStatement}
 use Rattle.meaning.specs.Run.{Going, State, does_all}
@@ -51,8 +52,9 @@ unexpanded_depth = (normal_depth + 18) + 23
 
 -- ---- no induction is written any more
 
-abbrev pub UnexpandedNestWritesNoInduction : Type 0
-UnexpandedNestWritesNoInduction = (p : Program) (n m masked k : Nest) (masks : ℕ) → IsProgram77 fortran77 p
+abbrev pub UnexpandedNestWritesNoInduction : (width : Width) → Type 0
+UnexpandedNestWritesNoInduction width = (p : Program) (n m masked k : Nest) (masks : ℕ)
+    → IsProgram77 (fortran77 width) p
     → Contains (found_in p) (InNest n) → normalised n ≡ Some m → converted_nest masks m ≡ Some masked
     → k ≡ unexpanded m masked → HaveFewRanges (substituted m masked) → k.masks ≤ 2 ^ 32
     → All (IsWrittenNowhere (expanded k)) (induction_names (inductions_of (with_symbols_found m masked)))
@@ -61,23 +63,24 @@ UnexpandedNestWritesNoInduction = (p : Program) (n m masked k : Nest) (masks : �
 
 -- Where the loops of the nest n with what comes after them meet no fault in a program b, neither do those of k, and
 -- they come to moments that agree on p
-abbrev pub GoesOnAs : Program → Program → Nest → Nest → Type 0
-GoesOnAs p b n k = (s : State) → s.way ≡ Going → HoldsProgram fortran77 b s.store → HoldsSized s.store
-    → IsSound (does_all fortran77 None (loops_then_after n) s).way
-    → GoOnAlike p (does_all fortran77 None (loops_then_after n) s) (does_all fortran77 None (loops_then_after k) s)
+abbrev pub GoesOnAs : (width : Width) → Program → Program → Nest → Nest → Type 0
+GoesOnAs width p b n k = (s : State) → s.way ≡ Going → HoldsProgram (fortran77 width) b s.store → HoldsSized s.store
+    → IsSound (does_all (fortran77 width) None (loops_then_after n) s).way
+    → GoOnAlike p (does_all (fortran77 width) None (loops_then_after n) s) (does_all (fortran77 width) None
+    (loops_then_after k) s)
 
 -- What is known of the nest k, made of the nest `masked` of a program b that has masks and names of ranges as scalars
-pub record IsUnexpandedIn (p b : Program) (m masked k : Nest) (around : List (List ℕ)) : Type 0 where
+pub record IsUnexpandedIn (width : Width) (p b : Program) (m masked k : Nest) (around : List (List ℕ)) : Type 0 where
   pub prepared : IsPrepared b.declarations around unexpanded_depth k
   pub may : MayBeExpanded b.declarations k
   pub free : IsFreeBehind k
-  pub goes_on : GoesOnAs p b (with_symbols_found m masked) k
+  pub goes_on : GoesOnAs width p b (with_symbols_found m masked) k
 
 -- Let n be a nest of p, m with loops from 1 by 1, and `masked` with masks. The declarations ds have the names of p, the
 -- variables of its loops, and maybe further made names, but no masks; b has the masks and the names of ranges, too
-abbrev pub FoundNestIsUnexpanded : Type 0
-FoundNestIsUnexpanded = (p b : Program) (n m masked k : Nest) (ds : List Declaration) (masks : ℕ)
-    (w : Surroundings) (found : IsFoundNest p n) → IsProgram77 fortran77 p → Contains (found_in p) (InNest n)
+abbrev pub FoundNestIsUnexpanded : (width : Width) → Type 0
+FoundNestIsUnexpanded width = (p b : Program) (n m masked k : Nest) (ds : List Declaration) (masks : ℕ)
+    (w : Surroundings) (found : IsFoundNest p n) → IsProgram77 (fortran77 width) p → Contains (found_in p) (InNest n)
     → normalised n ≡ Some m → converted_nest masks m ≡ Some masked
     → k ≡ unexpanded m masked → HaveFewRanges (substituted m masked) → k.masks ≤ 2 ^ 32
     → AddMadeNames p.declarations ds → ((i : ℕ) → declared ds (mask_name i) ≡ None)
@@ -88,12 +91,13 @@ FoundNestIsUnexpanded = (p b : Program) (n m masked k : Nest) (ds : List Declara
     → AreNamesDeclared b.declarations (substituted m masked)
     → n.number < 2 ^ 32 → All IsSourceName w.variables
     → IsStatement p.declarations (as_statement found.loop.loop.loop) w
-    → IsUnexpandedIn p b m masked k w.variables
+    → IsUnexpandedIn width p b m masked k w.variables
 
 -- No induction of the nest with its symbols found anew stands behind its loops, and no symbol of it gets a value there
-abbrev pub FoundNestIsApartBehind : Type 0
-FoundNestIsApartBehind = (p : Program) (n m masked : Nest) (ds es : List Declaration) (masks : ℕ) (w : Surroundings)
-    (found : IsFoundNest p n) → IsProgram77 fortran77 p → Contains (found_in p) (InNest n)
+abbrev pub FoundNestIsApartBehind : (width : Width) → Type 0
+FoundNestIsApartBehind width = (p : Program) (n m masked : Nest) (ds es : List Declaration) (masks : ℕ)
+    (w : Surroundings)
+    (found : IsFoundNest p n) → IsProgram77 (fortran77 width) p → Contains (found_in p) (InNest n)
     → normalised n ≡ Some m → converted_nest masks m ≡ Some masked → masked.masks ≤ 2 ^ 32
     → AddMadeNames p.declarations ds → ((i : ℕ) → declared ds (mask_name i) ≡ None)
     → All (λ (l : Loop). IsSomeAnd (declared ds l.variable) IsCounter) (nest_loops m)

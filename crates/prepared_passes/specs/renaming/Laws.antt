@@ -1,6 +1,7 @@
 -- What is known of nests whose scalars were renamed.
 use Rattle.std.specs.Prelude.{◌≡◌, ◌⊎◌, ℕ, None, Contains, List, ◌++◌}
 use Rattle.meaning.specs.Dialect.{fortran77}
+use Rattle.tree.specs.declared.width.Width.{Width}
 use Rattle.meaning.specs.Holding.{HoldsProgram}
 use Rattle.meaning.specs.Reads.{names_in_block}
 use Rattle.meaning.specs.Run.{State, Going, does_all}
@@ -59,19 +60,19 @@ pub record GoOnButNames (m : Nest) (t u : State) : Type 0 where
 
 -- Where the loops of the nest with what comes after them meet no fault, neither do those of the renamed nest, from the
 -- same moment
-abbrev pub RenamedNestGoesOnAsNest : Type 0
-RenamedNestGoesOnAsNest = (p : Program) (around : List (List ℕ)) (deepest : ℕ) (m : Nest) (s : State)
+abbrev pub RenamedNestGoesOnAsNest : (width : Width) → Type 0
+RenamedNestGoesOnAsNest width = (p : Program) (around : List (List ℕ)) (deepest : ℕ) (m : Nest) (s : State)
     → IsPrepared p.declarations around deepest m → MayBeRenamed p.declarations m → s.way ≡ Going
-    → HoldsProgram fortran77 p s.store → IsSound (does_all fortran77 None (loops_then_after m) s).way
-    → GoOnButNames m (does_all fortran77 None (loops_then_after m) s)
-    (does_all fortran77 None (loops_then_after (renamed m)) s)
+    → HoldsProgram (fortran77 width) p s.store → IsSound (does_all (fortran77 width) None (loops_then_after m) s).way
+    → GoOnButNames m (does_all (fortran77 width) None (loops_then_after m) s)
+    (does_all (fortran77 width) None (loops_then_after (renamed m)) s)
 
 -- So it may stand for the nest, where that keeps agreement on p, a program of FORTRAN 77
-abbrev pub RenamedMayStandFor : Type 0
-RenamedMayStandFor = (p : Program) (around : List (List ℕ)) (deepest : ℕ) (m : Nest) (w : Place)
+abbrev pub RenamedMayStandFor : (width : Width) → Type 0
+RenamedMayStandFor width = (p : Program) (around : List (List ℕ)) (deepest : ℕ) (m : Nest) (w : Place)
     → IsPrepared w.program.declarations around deepest m → MayBeRenamed w.program.declarations m
-    → ((x : List ℕ) → Contains (names_of p) x → IsSourceName x) → KeepsAgreement p w (loops_then_after m)
-    → MayStandFor p w (loops_then_after m) w (loops_then_after (renamed m))
+    → ((x : List ℕ) → Contains (names_of p) x → IsSourceName x) → KeepsAgreement width p w (loops_then_after m)
+    → MayStandFor width p w (loops_then_after m) w (loops_then_after (renamed m))
 
 -- whatever stands behind the nest, the same is renamed
 abbrev pub NestIsRenamedWithAnythingBehind : Type 0

@@ -11,7 +11,7 @@ use Rattle.nest_order.specs.shapes.Shapes.{IsPlain}
 use Rattle.dependence_graph.specs.declared.graphs.Place.{Place}
 use Rattle.if_convert.specs.Masks.{mask_name}
 use Rattle.statement_passes.specs.Standings.{IsLoop}
-use Rattle.scalar_expand.specs.Privates.{array_name}
+use Rattle.scalar_expand.specs.Privates.{expanded_name}
 use Rattle.scalar_rename.specs.Ranges.{range_name}
 use Rattle.pass_laws.specs.prepared_nests.After.{CountsNone}
 use Rattle.pass_laws.specs.prepared_nests.Loops.{EachLoop, IsPreparedLoop}
@@ -75,7 +75,7 @@ pub record IsOfItsOwn (i : ℕ) : Type 0 where
   pub long : ¬ IsSourceName (copy_name i)
   pub counter : CountsNone (copy_name i)
   pub mask : (j : ℕ) → ¬ (copy_name i ≡ mask_name j)
-  pub array : (n : ℕ) (x : List ℕ) → IsSourceName x → ¬ (copy_name i ≡ array_name n x)
+  pub array : (n : ℕ) (x : List ℕ) → IsSourceName x → ¬ (copy_name i ≡ expanded_name n x)
   pub range : (n j : ℕ) (x : List ℕ) → ¬ (copy_name i ≡ range_name n x j)
 
 abbrev pub CopyNamesAreTheirOwn : Type 0

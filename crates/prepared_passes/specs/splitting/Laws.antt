@@ -4,6 +4,7 @@ use Rattle.tree.specs.Names.{IsSourceName}
 use Rattle.tree.specs.Plain.{Declaration, Program}
 use Rattle.linear_forms.specs.Laws.{HoldsSized}
 use Rattle.meaning.specs.Dialect.{fortran77}
+use Rattle.tree.specs.declared.width.Width.{Width}
 use Rattle.meaning.specs.Reads.{names_in_block}
 use Rattle.meaning.specs.Run.{State, Going, does_all}
 use Rattle.meaning.specs.Store.{Cell, names_of}
@@ -53,22 +54,22 @@ pub record GoOnButCopies (may : Place → Bool) (m : Nest) (t u : State) : Type 
 
 -- From a moment at which the split nest may be run, where the loops of the nest with what comes after them meet no
 -- fault, neither do those of the split nest
-abbrev pub SplitNestGoesOnAsNest : Type 0
-SplitNestGoesOnAsNest =
+abbrev pub SplitNestGoesOnAsNest : (width : Width) → Type 0
+SplitNestGoesOnAsNest width =
     (p : Program) (around : List (List ℕ)) (deepest : ℕ) (may : Place → Bool) (m k : Nest) (s : State)
     → IsPrepared p.declarations around deepest m → MayBeSplit p.declarations may m
-    → with_nodes_split may m ≡ Some k → MayRun p k s → HoldsSized s.store
-    → IsSound (does_all fortran77 None (loops_then_after m) s).way
-    → GoOnButCopies may m (does_all fortran77 None (loops_then_after m) s)
-    (does_all fortran77 None (loops_then_after k) s)
+    → with_nodes_split may m ≡ Some k → MayRun width p k s → HoldsSized s.store
+    → IsSound (does_all (fortran77 width) None (loops_then_after m) s).way
+    → GoOnButCopies may m (does_all (fortran77 width) None (loops_then_after m) s)
+    (does_all (fortran77 width) None (loops_then_after k) s)
 
 -- So it may stand for the nest, where that keeps agreement on p, a program of FORTRAN 77 that has names of the place,
 -- in a place in which the arrays are as large as their extents say
-abbrev pub SplitMayStandFor : Type 0
-SplitMayStandFor =
+abbrev pub SplitMayStandFor : (width : Width) → Type 0
+SplitMayStandFor width =
     (p : Program) (around : List (List ℕ)) (deepest : ℕ) (may : Place → Bool) (m k : Nest) (w : Where)
     → IsPrepared w.program.declarations around deepest m → MayBeSplit w.program.declarations may m
     → extent_depth ≤ deepest → with_nodes_split may m ≡ Some k
     → ((x : List ℕ) → Contains (names_of p) x → Contains (names_of w.program) x × IsSourceName x)
-    → ((s : State) → Starts w s → MayRun w.program k s) → KeepsAgreement p w (loops_then_after m)
-    → MayStandFor p w (loops_then_after m) w (loops_then_after k)
+    → ((s : State) → Starts width w s → MayRun width w.program k s) → KeepsAgreement width p w (loops_then_after m)
+    → MayStandFor width p w (loops_then_after m) w (loops_then_after k)

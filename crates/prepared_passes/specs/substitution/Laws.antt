@@ -2,6 +2,7 @@
 use Rattle.std.specs.Prelude.{◌≡◌, ℕ, ◌+◌, ◌≤◌, None, List}
 use Rattle.tree.specs.Plain.{Block, Declaration, Program}
 use Rattle.meaning.specs.Dialect.{fortran77}
+use Rattle.tree.specs.declared.width.Width.{Width}
 use Rattle.meaning.specs.Holding.{HoldsProgram}
 use Rattle.meaning.specs.Run.{State, Going, does_all}
 use Rattle.rewrite.specs.Following.{IsSound}
@@ -20,13 +21,13 @@ IsSameButSteps s t = t ≡ record s { steps = t.steps }
 
 -- Where the loops of a nest with what comes after them meet no fault, those of the nest with its inductions substituted
 -- meet none, and come to the same moment but for the number of steps
-abbrev pub SubstitutedNestRunsAlike : Type 0
-SubstitutedNestRunsAlike = (p : Program) (around : List (List ℕ)) (deepest : ℕ) (n : Nest) (s : State)
+abbrev pub SubstitutedNestRunsAlike : (width : Width) → Type 0
+SubstitutedNestRunsAlike width = (p : Program) (around : List (List ℕ)) (deepest : ℕ) (n : Nest) (s : State)
     → IsPrepared p.declarations around deepest n → IsOfSource p.declarations n → IsApartBehind n
-    → s.way ≡ Going → HoldsProgram fortran77 p s.store → HoldsSized s.store
-    → IsSound (does_all fortran77 None (loops_then_after n) s).way
-    → IsSameButSteps (does_all fortran77 None (loops_then_after n) s)
-    (does_all fortran77 None (loops_then_after (inductions_substituted n)) s)
+    → s.way ≡ Going → HoldsProgram (fortran77 width) p s.store → HoldsSized s.store
+    → IsSound (does_all (fortran77 width) None (loops_then_after n) s).way
+    → IsSameButSteps (does_all (fortran77 width) None (loops_then_after n) s)
+    (does_all (fortran77 width) None (loops_then_after (inductions_substituted n)) s)
 
 -- A form that stands for a scalar is at most 5 deep, and canonical text at most 18 deeper; this is room for last values
 abbrev pub room : ℕ

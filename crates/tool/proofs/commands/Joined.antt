@@ -6,18 +6,24 @@ use Rattle.std.proofs.lemmas.Bool.{cond-true, cond-false}
 use Rattle.std.proofs.lemmas.Slice.Eq.{bytes_eq-Decides}
 use Rattle.std.specs.declared.alloc.Global.{Global}
 use Rattle.tool.specs.declared.commands.commands.Options.{Options}
-use Rattle.tool.specs.commands.Command.{no_options, number_of, attached_number, and_final, and_steps, and_option, options_of, texts}
+use Rattle.tree.specs.declared.width.Width.{Width}
+use Rattle.tree.specs.declared.width.Width.TheVariants.{Plain, Wide}
+use Rattle.tool.specs.commands.Command.{no_options, is_wide, number_of_word, attached_number, and_wide, and_final, and_steps, and_option, options_of, texts}
 
 abbrev one_of : Option ℕ → Option ℕ → Option ℕ
 one_of (Some n) m = Some n
 one_of None m = m
 
+abbrev wider_of : Width → Width → Width
+wider_of Plain w = w
+wider_of Wide w = Wide
+
 -- both options, where none stands in both
 abbrev pub joined : Options → Option Options → Option Options
 joined o None = None
 joined o (Some p) =
-    if (o.final_store && p.final_store) || (is_some o.steps && is_some p.steps) then None
-    else Some (record { final_store = o.final_store || p.final_store; steps = one_of o.steps p.steps })
+    if ((o.final_store && p.final_store) || (is_some o.steps && is_some p.steps)) || (is_wide o.width && is_wide p.width) then None
+    else Some (record { width = wider_of o.width p.width; final_store = o.final_store || p.final_store; steps = one_of o.steps p.steps })
 
 abbrev pub joined_if : Option Options → Option Options → Option Options
 joined_if None r = None
@@ -31,52 +37,67 @@ joined_if-None : (o : Option Options) → joined_if o None ≡ None
 joined_if-None None = refl
 joined_if-None (Some o) = refl
 
-abbrev pub made : Bool → Option ℕ → Options
-made f s = record { final_store = f; steps = s }
+abbrev pub made : Width → Bool → Option ℕ → Options
+made w f s = record { width = w; final_store = f; steps = s }
 
-final_parts : (f g : Bool) (s t : Option ℕ) → joined (made f s) (and_final (Some (made g t))) ≡ joined_if (and_final (Some (made f s))) (Some (made g t))
-final_parts true true s t = refl
-final_parts true false s t = refl
-final_parts false true None t = refl
-final_parts false true (Some n) t = refl
-final_parts false false s t = refl
+or_none : (c : Bool) (r : Option Options) → cond (c || true) None r ≡ None
+or_none true r = refl
+or_none false r = refl
 
-steps_parts : (n : ℕ) (f g : Bool) (s t : Option ℕ)
-    → joined (made f s) (and_steps (Some n) (Some (made g t))) ≡ joined_if (and_steps (Some n) (Some (made f s))) (Some (made g t))
-steps_parts n true true (Some a) (Some b) = refl
-steps_parts n true true (Some a) None = refl
-steps_parts n true true None (Some b) = refl
-steps_parts n true true None None = refl
-steps_parts n true false (Some a) (Some b) = refl
-steps_parts n true false (Some a) None = refl
-steps_parts n true false None (Some b) = refl
-steps_parts n true false None None = refl
-steps_parts n false g (Some a) (Some b) = refl
-steps_parts n false g (Some a) None = refl
-steps_parts n false g None (Some b) = refl
-steps_parts n false g None None = refl
+wide_parts : (v u : Width) (f g : Bool) (s t : Option ℕ) → joined (made v f s) (and_wide (Some (made u g t))) ≡ joined_if (and_wide (Some (made v f s))) (Some (made u g t))
+wide_parts Plain Plain f g s t = refl
+wide_parts Plain Wide f g s t = sym (or_none ((f && g) || (is_some s && is_some t)) _)
+wide_parts Wide Plain f g s t = or_none ((f && g) || (is_some s && is_some t)) _
+wide_parts Wide Wide f g s t = refl
+
+final_parts : (v u : Width) (f g : Bool) (s t : Option ℕ) → joined (made v f s) (and_final (Some (made u g t))) ≡ joined_if (and_final (Some (made v f s))) (Some (made u g t))
+final_parts v u true true s t = refl
+final_parts v u true false s t = refl
+final_parts v u false true None t = refl
+final_parts v u false true (Some n) t = refl
+final_parts v u false false s t = refl
+
+steps_parts : (n : ℕ) (v u : Width) (f g : Bool) (s t : Option ℕ)
+    → joined (made v f s) (and_steps (Some n) (Some (made u g t))) ≡ joined_if (and_steps (Some n) (Some (made v f s))) (Some (made u g t))
+steps_parts n v u true true (Some a) (Some b) = refl
+steps_parts n v u true true (Some a) None = refl
+steps_parts n v u true true None (Some b) = refl
+steps_parts n v u true true None None = refl
+steps_parts n v u true false (Some a) (Some b) = refl
+steps_parts n v u true false (Some a) None = refl
+steps_parts n v u true false None (Some b) = refl
+steps_parts n v u true false None None = refl
+steps_parts n v u false g (Some a) (Some b) = refl
+steps_parts n v u false g (Some a) None = refl
+steps_parts n v u false g None (Some b) = refl
+steps_parts n v u false g None None = refl
 
 joined-and_final : (o : Options) (r : Option Options) → joined o (and_final r) ≡ joined_if (and_final (Some o)) r
 joined-and_final o None = sym (joined_if-None (and_final (Some o)))
-joined-and_final o (Some p) = final_parts o.final_store p.final_store o.steps p.steps
+joined-and_final o (Some p) = final_parts o.width p.width o.final_store p.final_store o.steps p.steps
+
+joined-and_wide : (o : Options) (r : Option Options) → joined o (and_wide r) ≡ joined_if (and_wide (Some o)) r
+joined-and_wide o None = sym (joined_if-None (and_wide (Some o)))
+joined-and_wide o (Some p) = wide_parts o.width p.width o.final_store p.final_store o.steps p.steps
 
 pub joined-and_steps : (n : Option ℕ) (o : Options) (r : Option Options) → joined o (and_steps n r) ≡ joined_if (and_steps n (Some o)) r
 joined-and_steps None o r = refl
 joined-and_steps (Some n) o None = sym (joined_if-None (and_steps (Some n) (Some o)))
-joined-and_steps (Some n) o (Some p) = steps_parts n o.final_store p.final_store o.steps p.steps
+joined-and_steps (Some n) o (Some p) = steps_parts n o.width p.width o.final_store p.final_store o.steps p.steps
 
-either : (b : Bool) (n : Option ℕ) (o : Options) (r : Option Options)
-    → joined o (cond b (and_final r) (and_steps n r)) ≡ joined_if (cond b (and_final (Some o)) (and_steps n (Some o))) r
-either true n o r = joined-and_final o r
-either false n o r = joined-and_steps n o r
+either : (b w : Bool) (n : Option ℕ) (o : Options) (r : Option Options)
+    → joined o (cond b (and_final r) (cond w (and_wide r) (and_steps n r))) ≡ joined_if (cond b (and_final (Some o)) (cond w (and_wide (Some o)) (and_steps n (Some o)))) r
+either true w n o r = joined-and_final o r
+either false true n o r = joined-and_wide o r
+either false false n o r = joined-and_steps n o r
 
 pub joined-and_option : (word : List ℕ) (o : Options) (r : Option Options) → joined o (and_option word r) ≡ joined_if (and_option word (Some o)) r
-joined-and_option word o r = either (bytes_eq word (codes "--final")) (attached_number word) o r
+joined-and_option word o r = either (bytes_eq word (codes "--final")) (bytes_eq word (codes "--wide")) (attached_number word) o r
 
 -- ---- the words that are left
 
 pub options_of-steps : (word n : List ℕ) (words : List (List ℕ)) → bytes_eq word (codes "--steps") ≡ true
-    → options_of (word ∷ n ∷ words) ≡ and_steps (number_of n) (options_of words)
+    → options_of (word ∷ n ∷ words) ≡ and_steps (number_of_word n) (options_of words)
 options_of-steps word n words e = cond-true (bytes_eq word (codes "--steps")) _ _ e
 
 pub options_of-alone : (word : List ℕ) → bytes_eq word (codes "--steps") ≡ true → options_of (word ∷ []) ≡ None
@@ -99,13 +120,13 @@ test_of name word b e test = ap (λ text. bytes_eq text (codes "--steps")) (sym 
 pub turn-steps : (o : Options) (rest after more : List (String Global)) (word digits : String Global) (name number : List ℕ)
     (n : ℕ) (found all : Option Options)
     → rest ≡ word ∷ after → after ≡ digits ∷ more → name ≡ string_bytes word → true ≡ bytes_eq name (codes "--steps")
-    → number ≡ string_bytes digits → Some n ≡ number_of number → found ≡ and_steps (Some n) (Some o)
+    → number ≡ string_bytes digits → Some n ≡ number_of_word number → found ≡ and_steps (Some n) (Some o)
     → joined o (options_of (texts rest)) ≡ all → joined_if found (options_of (texts more)) ≡ all
 turn-steps o rest after more word digits name number n found all e f named test numbered read is h =
     let left : List (String Global) → Option Options = λ words. joined o (options_of (texts words)) in
-    let value : Some n ≡ number_of (string_bytes digits) = read ∙ ap number_of numbered in
+    let value : Some n ≡ number_of_word (string_bytes digits) = read ∙ ap number_of_word numbered in
     ap (λ x. joined_if x (options_of (texts more))) (is ∙ ap (λ x. and_steps x (Some o)) value)
-    ∙ sym (joined-and_steps (number_of (string_bytes digits)) o (options_of (texts more)))
+    ∙ sym (joined-and_steps (number_of_word (string_bytes digits)) o (options_of (texts more)))
     ∙ ap (joined o) (sym (options_of-steps (string_bytes word) (string_bytes digits) (texts more) (test_of name word true named test)))
     ∙ sym (ap left e ∙ ap (λ words. left (word ∷ words)) f) ∙ h
 

@@ -8,7 +8,7 @@ use Rattle.std.specs.Result.{OkIff, result_ok}
 use Rattle.std.specs.Str.Parse.{digits_value, ParsesUnsigned}
 use Rattle.std.proofs.lemmas.Bool.{leb-true, le-leb, ltb-true, lt-ltb, and_parts, and_from, false≢true}
 use Rattle.std.proofs.lemmas.Str.Parse.{IsNumeralModel, numerals_by_value, parse_digits}
-use Rattle.tool.specs.commands.Command.{number_of}
+use Rattle.tool.specs.commands.Command.{number_of_word}
 
 digits : IsNumeralModel (λ ds. list_all is_ascii_digit ds ≡ true) (digits_value 10)
 digits = numerals_by_value _ (search rules)
@@ -20,7 +20,7 @@ by_test (Err e) true P v d h = absurd (h (d.0 refl))
 by_test (Err e) false P v d h = refl
 
 pub read_number : {E : Type 0} (text : List ℕ) (r : Result ℕ E) → length text ≤ 20 → list_all is_ascii_digit text ≡ true → ParsesUnsigned 64 10 text r
-    → result_ok r ≡ number_of text
+    → result_ok r ≡ number_of_word text
 read_number text r short all h =
     let n = length text in
     let v = digits_value 10 text in

@@ -35,7 +35,8 @@ fault_line fault line =
 abbrev pub note_of : Outcome → List ℕ
 note_of Done = []
 note_of Usage =
-    codes "fvec: usage: vectorise | graph | run77 [--final] [--steps N] | run90 [--final] [--steps N] | make N\n"
+    codes "fvec: usage: vectorise [--wide] | graph [--wide] | run77 [--wide] [--final] [--steps N]"
+    ++ codes " | run90 [--wide] [--final] [--steps N] | make N\n"
 note_of (Refused r) = refusal_line r
 note_of (Faulted fault line) = fault_line fault line
 note_of StepLimit = codes "fvec: step limit\n"

@@ -1,12 +1,15 @@
 //! Commands and their options.
 ghost use Rattle.std.specs.Prelude.{◌≡◌, Some};
-ghost use Rattle.tool.specs.commands.Command.{and_final, and_steps, and_option};
+ghost use Rattle.tool.specs.commands.Command.{no_options, and_wide, and_final, and_steps, and_option};
 
 use crate::commands::numbers::number;
+use tree::Width;
 
 /// The options of a run.
-#[derive(Clone, Copy, Debug, Default, PartialEq, Eq)]
+#[derive(Clone, Copy, Debug, PartialEq, Eq)]
 pub struct Options {
+    /// How wide INTEGER is.
+    pub width: Width,
     /// Whether the final store is written.
     pub final_store: bool,
     /// The most steps that the run may take.
@@ -16,10 +19,10 @@ pub struct Options {
 /// What is done with a deck.
 #[derive(Clone, Copy, Debug, PartialEq, Eq)]
 pub enum Command {
-    /// The deck is translated.
-    Vectorise,
-    /// The dependences of its loops are listed.
-    Graph,
+    /// The deck is translated, with INTEGER of this width.
+    Vectorise(Width),
+    /// The dependences of its loops are listed, with INTEGER of this width.
+    Graph(Width),
     /// The deck of FORTRAN 77 is run.
     Run77(Options),
     /// The deck of Fortran 90 is run.
@@ -36,6 +39,29 @@ pub enum Request {
 }
 
 impl Options {
+    /// No option is given.
+    pub(crate) fn none() -> Options
+        ensures { result ≡ no_options }
+    {
+        Options {
+            width: Width::Plain,
+            final_store: false,
+            steps: None,
+        }
+    }
+
+    fn with_wide(self) -> Option<Options>
+        ensures { result ≡ and_wide (Some self) }
+    {
+        match self.width {
+            Width::Wide => None,
+            Width::Plain => Some(Options {
+                width: Width::Wide,
+                ..self
+            }),
+        }
+    }
+
     fn with_final(self) -> Option<Options>
         ensures { result ≡ and_final (Some self) }
     {
@@ -66,6 +92,9 @@ impl Options {
     {
         if word == "--final" {
             return self.with_final();
+        }
+        if word == "--wide" {
+            return self.with_wide();
         }
         let digits = word.strip_prefix("--steps=")?;
         self.with_steps(number(digits)?)

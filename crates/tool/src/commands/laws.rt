@@ -10,14 +10,20 @@ pub fn number_attached_or_apart()
         ≡ request_of (front ++ codes "--steps" ∷ number ∷ words) }
 {}
 
-/// The order of the two options doesn't matter, wherever they stand and whatever follows.
+/// The order of two options doesn't matter, wherever they stand and whatever follows.
 pub fn options_in_any_order()
-    ensures { (front words : List (List ℕ)) (number : List ℕ)
+    ensures final_steps { (front words : List (List ℕ)) (number : List ℕ)
         → request_of (front ++ codes "--final" ∷ codes "--steps" ∷ number ∷ words)
         ≡ request_of (front ++ codes "--steps" ∷ number ∷ codes "--final" ∷ words) }
+    ensures wide_steps { (front words : List (List ℕ)) (number : List ℕ)
+        → request_of (front ++ codes "--wide" ∷ codes "--steps" ∷ number ∷ words)
+        ≡ request_of (front ++ codes "--steps" ∷ number ∷ codes "--wide" ∷ words) }
+    ensures wide_final { (front words : List (List ℕ))
+        → request_of (front ++ codes "--wide" ∷ codes "--final" ∷ words)
+        ≡ request_of (front ++ codes "--final" ∷ codes "--wide" ∷ words) }
 {}
 
-/// Words that ask for something are four at most.
-pub fn at_most_four_words()
-    ensures { (words : List (List ℕ)) (request : Request) → request_of words ≡ Some request → length words ≤ 4 }
+/// Words that ask for something are five at most.
+pub fn at_most_five_words()
+    ensures { (words : List (List ℕ)) (request : Request) → request_of words ≡ Some request → length words ≤ 5 }
 {}

@@ -2,7 +2,7 @@
 ghost use Rattle.std.specs.Prelude.{◌≡◌};
 ghost use Rattle.std.specs.Char.{is_ascii_digit};
 ghost use Rattle.std.specs.List.{list_all};
-ghost use Rattle.tool.specs.commands.Command.{number_of};
+ghost use Rattle.tool.specs.commands.Command.{number_of_word};
 
 const MOST_DIGITS: usize = 20;
 
@@ -15,7 +15,7 @@ fn all_digits(text: &[u8]) -> bool
 // The number of an option, which has no sign.
 #[tactic(auto, using(crate::proofs::commands::Parsed::read_number))]
 pub(crate) fn number(digits: &str) -> Option<u64>
-    ensures { result ≡ number_of digits.now }
+    ensures { result ≡ number_of_word digits.now }
 {
     if digits.len() > MOST_DIGITS || !all_digits(digits.as_bytes()) {
         return None;

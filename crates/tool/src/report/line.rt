@@ -5,7 +5,7 @@ ghost use Rattle.tool.specs.report.Notes.{after_blank};
 use std::marker::Model;
 
 // How many bytes a line has at most.
-const CAPACITY: usize = 128;
+const CAPACITY: usize = 160;
 
 // A line, kept without memory.
 #[derive(Drop)]

@@ -68,14 +68,22 @@ fn fault_line(fault: Fault, at: u32) -> Line
     line
 }
 
+fn usage_line() -> Line
+    ensures { result ≡ note_of Outcome.Usage }
+{
+    let mut line = Line::of(
+        "fvec: usage: vectorise [--wide] | graph [--wide] | run77 [--wide] [--final] [--steps N]",
+    );
+    line.push(" | run90 [--wide] [--final] [--steps N] | make N\n");
+    line
+}
+
 fn line_of(outcome: Outcome) -> Line
     ensures { result ≡ note_of outcome }
 {
     match outcome {
         Outcome::Done => Line::new(),
-        Outcome::Usage => Line::of(
-            "fvec: usage: vectorise | graph | run77 [--final] [--steps N] | run90 [--final] [--steps N] | make N\n",
-        ),
+        Outcome::Usage => usage_line(),
         Outcome::Refused(refusal) => refusal_line(&refusal),
         Outcome::Faulted(fault, line) => fault_line(fault, line),
         Outcome::StepLimit => Line::of("fvec: step limit\n"),

@@ -1,7 +1,7 @@
 -- The numbers of loops in the trees of a program.
 use Rattle.tree.proofs.Equations.{statement_equations}
-use Rattle.find_nests.proofs.NestParts.PartLaws.{after-if, after-do, after-arm, after-block}
+use Rattle.find_nests.proofs.NestParts.PartLaws.{number_after-if, number_after-do, number_after-arm, number_after-block}
 
-pub ruleset count_laws = (statement_equations, after-if, after-do, after-arm)
+pub ruleset count_laws = (statement_equations, number_after-if, number_after-do, number_after-arm)
 
-pub ruleset block_laws = (after-block)
+pub ruleset block_laws = (number_after-block)

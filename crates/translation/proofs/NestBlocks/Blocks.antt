@@ -6,7 +6,7 @@ use Rattle.std.specs.List.{flat_map}
 use Rattle.std.proofs.lemmas.List.Elements.{Contains-append_cases, Contains-append_left, Contains-append_right}
 use Rattle.meaning_laws.proofs.arrays.Members.{cases_of, here, in_map, nowhere, of_map, there}
 use Rattle.components.proofs.ListLaws.{Each-In}
-use Rattle.components.specs.Lists.{In, Pairwise}
+use Rattle.components.specs.Lists.{IsMember, Pairwise}
 use Rattle.find_nests.specs.Found.{Found, found_in}
 use Rattle.tree.specs.Plain.{Block, Declaration, Program}
 use Rattle.listing.specs.declared.programs.counts.Counts.{Counts}
@@ -25,8 +25,9 @@ use Rattle.translation.specs.nest_blocks.Laws.{AnswersAreBlocks}
 use Rattle.translation.specs.nest_blocks.Blocks.{IsBlockOfLoop, IsMadeForNest}
 use Rattle.translation.proofs.NestBlocks.Holds.{all_are_holds}
 use Rattle.translation.specs.made_declarations.Declaring.{declaration_of_made}
-use Rattle.translation.specs.nest_blocks.LoopAnswers.{Answer, IsRight, IsTranslation, Kept, Translated, found_by, made_by}
+use Rattle.translation.specs.nest_blocks.LoopAnswers.{LoopAnswer, IsRightLoopAnswer, IsTranslation, Kept, Translated, found_by, made_by}
 use Rattle.translation.specs.nest_blocks.LoopAnswers.{counts_by}
+use Rattle.tree.specs.declared.width.Width.{Width}
 
 -- ---- one answer
 
@@ -47,10 +48,10 @@ translated counts n m g ps h = record {
 }
 
 -- right after some masks and copies
-abbrev pub IsRightSomewhere : Answer → Type 0
-IsRightSomewhere a = (counts : Counts) × IsRight counts a
+abbrev pub IsRightSomewhere : LoopAnswer → Type 0
+IsRightSomewhere a = (counts : Counts) × IsRightLoopAnswer counts a
 
-block_of_answer : (p : Program) (k : ℕ) (b : Block) (a : Answer) → IsRightSomewhere a
+block_of_answer : (p : Program) (k : ℕ) (b : Block) (a : LoopAnswer) → IsRightSomewhere a
     → Contains (found_in p) (found_by a) → Puts a k b → IsBlockOfLoop p k b
 block_of_answer p k b (Translated n m g ps) right among puts =
     let found = puts.found in
@@ -73,25 +74,25 @@ abbrev AreNoMore : Counts → Counts → Type 0
 AreNoMore a b = (a.masks ≤ b.masks) × (a.copies ≤ b.copies)
 
 -- what is made before the nest with this number
-abbrev counts_before : Counts → List Answer → ℕ → Counts
+abbrev counts_before : Counts → List LoopAnswer → ℕ → Counts
 counts_before counts [] k = counts
 counts_before counts (Translated n m g ps ∷ rest) k =
     if n.number == k then counts else counts_before (counts_of m) rest k
 counts_before counts (Kept line r ∷ rest) k = counts_before counts rest k
 
 -- and what passes make of it
-abbrev last_by : List Answer → ℕ → Option Nest
+abbrev last_by : List LoopAnswer → ℕ → Option Nest
 last_by [] k = None
 last_by (Translated n m g ps ∷ rest) k = if n.number == k then Some m else last_by rest k
 last_by (Kept line r ∷ rest) k = last_by rest k
 
 -- right after as much as is made before the nest with its number, which is known by that
-abbrev IsRightByNumber : (ℕ → Counts) → (ℕ → Option Nest) → Answer → Type 0
+abbrev IsRightByNumber : (ℕ → Counts) → (ℕ → Option Nest) → LoopAnswer → Type 0
 IsRightByNumber before last_of (Translated n m g ps) =
     IsTranslation (before n.number) n m g ps × (last_of n.number ≡ Some m)
 IsRightByNumber before last_of (Kept line r) = ⊤
 
-abbrev AreInOrder : List Answer → Type 0
+abbrev AreInOrder : List LoopAnswer → Type 0
 AreInOrder answers = Pairwise ComesBefore (nests_among (map found_by answers))
 
 equal : (a b : ℕ) → (a == b) ≡ true → a ≡ b
@@ -105,12 +106,12 @@ unequal a b h = by (a == b) refl
     by false e = refl
 
 -- the nest of an answer is among those of all
-nest_among : (rest : List Answer) (n m : Nest) (g : Graph) (ps : Pieces) → Contains rest (Translated n m g ps)
-    → In n (nests_among (map found_by rest))
+nest_among : (rest : List LoopAnswer) (n m : Nest) (g : Graph) (ps : Pieces) → Contains rest (Translated n m g ps)
+    → IsMember n (nests_among (map found_by rest))
 nest_among rest n m g ps c =
     among_nests (map found_by rest) n (in_map found_by rest (Translated n m g ps) c)
 
-before_rises : (counts : Counts) (answers : List Answer) (k : ℕ) → AreRight counts answers
+before_rises : (counts : Counts) (answers : List LoopAnswer) (k : ℕ) → AreRight counts answers
     → AreNoMore counts (counts_before counts answers k)
 before_rises counts [] k right = (omega arith, omega arith)
 before_rises counts (Translated n m g ps ∷ rest) k right =
@@ -127,15 +128,15 @@ before_rises counts (Translated n m g ps ∷ rest) k right =
 before_rises counts (Kept line r ∷ rest) k right = before_rises counts rest k right.1
 
 -- behind an answer
-past : (counts : Counts) (n m : Nest) (rest : List Answer) (k : ℕ) → n.number < k
+past : (counts : Counts) (n m : Nest) (rest : List LoopAnswer) (k : ℕ) → n.number < k
     → cond (n.number == k) counts (counts_before (counts_of m) rest k) ≡ counts_before (counts_of m) rest k
 past counts n m rest k h = ap (λ b. cond b counts (counts_before (counts_of m) rest k)) (unequal n.number k h)
 
-last_past : (n m : Nest) (rest : List Answer) (k : ℕ) → n.number < k
+last_past : (n m : Nest) (rest : List LoopAnswer) (k : ℕ) → n.number < k
     → cond (n.number == k) (Some m) (last_by rest k) ≡ last_by rest k
 last_past n m rest k h = ap (λ b. cond b (Some m) (last_by rest k)) (unequal n.number k h)
 
-right_by_number : (counts : Counts) (answers : List Answer) (a : Answer) → AreRight counts answers → AreInOrder answers
+right_by_number : (counts : Counts) (answers : List LoopAnswer) (a : LoopAnswer) → AreRight counts answers → AreInOrder answers
     → Contains answers a → IsRightByNumber (counts_before counts answers) (last_by answers) a
 right_by_number counts [] a right order c = absurd (nowhere a c)
 right_by_number counts (Kept line r ∷ rest) a right order c =
@@ -168,7 +169,7 @@ right_by_number counts (Translated n m g ps ∷ rest) a right order c =
           last_past n m rest x.number less ∙ own.1,
         )
 
-    by : (a : Answer) → (Translated n m g ps ≡ a) ⊎ Contains rest a
+    by : (a : LoopAnswer) → (Translated n m g ps ≡ a) ⊎ Contains rest a
         → (Contains rest a → IsRightByNumber (counts_before (counts_of m) rest) (last_by rest) a)
         → IsRightByNumber (counts_before counts (Translated n m g ps ∷ rest)) (last_by (Translated n m g ps ∷ rest)) a
     by a (inl e) more =
@@ -183,12 +184,12 @@ some_is : (m n : Nest) → Some m ≡ Some n → m ≡ n
 some_is m n e = cc
 
 -- a nest that is known by a number is one of an answer
-record IsKnownBy (rest : List Answer) (j : ℕ) : Type 0 where
+record IsKnownBy (rest : List LoopAnswer) (j : ℕ) : Type 0 where
   nest : Nest
-  among : In nest (nests_among (map found_by rest))
+  among : IsMember nest (nests_among (map found_by rest))
   number : nest.number ≡ j
 
-known_by : (answers : List Answer) (j : ℕ) (m : Nest) → last_by answers j ≡ Some m → IsKnownBy answers j
+known_by : (answers : List LoopAnswer) (j : ℕ) (m : Nest) → last_by answers j ≡ Some m → IsKnownBy answers j
 known_by [] j m e = let no : ⊥ = cc in absurd no
 known_by (Kept line r ∷ rest) j m e =
     let w = known_by rest j m e in record { nest = w.nest; among = w.among; number = w.number }
@@ -200,7 +201,7 @@ known_by (Translated x y h qs ∷ rest) j m e = by (x.number == j) refl (known_b
     by false f later g = let w = later g in record { nest = w.nest; among = inr w.among; number = w.number }
 
 -- what is made before a nest doesn't count again
-behind_rises : (counts : Counts) (answers : List Answer) (j k : ℕ) (m : Nest) → AreRight counts answers
+behind_rises : (counts : Counts) (answers : List LoopAnswer) (j k : ℕ) (m : Nest) → AreRight counts answers
     → AreInOrder answers → last_by answers j ≡ Some m → j < k → AreNoMore (counts_of m) (counts_before counts answers k)
 behind_rises counts [] j k m right order e less = let no : ⊥ = cc in absurd no
 behind_rises counts (Kept line r ∷ rest) j k m right order e less = behind_rises counts rest j k m right.1 order e less
@@ -228,7 +229,7 @@ behind_rises counts (Translated x y h qs ∷ rest) j k m right order e less =
 
 -- ---- declarations of made names
 
-made_of_answer : (p : Program) (before : ℕ → Counts) (last_of : ℕ → Option Nest) (d : Declaration) (a : Answer)
+made_of_answer : (p : Program) (before : ℕ → Counts) (last_of : ℕ → Option Nest) (d : Declaration) (a : LoopAnswer)
     → IsRightByNumber before last_of a → Contains (found_in p) (found_by a) → Contains (made_by a) d
     → IsMadeForNest p before last_of d
 made_of_answer p before last_of d (Translated n m g ps) right among c =
@@ -246,7 +247,7 @@ made_of_answer p before last_of d (Translated n m g ps) right among c =
 made_of_answer p before last_of d (Kept line r) right among c = absurd (nowhere d c)
 
 -- what passes made for the nest of a block is declared by the answer
-made_by_block : (p : Program) (k : ℕ) (b : Block) (a : Answer) (right : IsRightSomewhere a)
+made_by_block : (p : Program) (k : ℕ) (b : Block) (a : LoopAnswer) (right : IsRightSomewhere a)
     (among : Contains (found_in p) (found_by a)) (puts : Puts a k b) (x : Made)
     → Contains (block_of_answer p k b a right among puts).normal.made x → Contains (made_by a) (declaration_of_made x)
 unfolding block_of_answer
@@ -254,19 +255,19 @@ made_by_block p k b (Translated n m g ps) right among puts x c = in_map declarat
 made_by_block p k b (Kept line r) right among puts x c = let none = puts.block in let no : ⊥ = cc in absurd no
 
 -- one of the answers has it
-by_an_answer : (d : Declaration) (answers : List Answer) → Contains (flat_map made_by answers) d
-    → (a : Answer) × Contains answers a × Contains (made_by a) d
+by_an_answer : (d : Declaration) (answers : List LoopAnswer) → Contains (flat_map made_by answers) d
+    → (a : LoopAnswer) × Contains answers a × Contains (made_by a) d
 by_an_answer d [] c = absurd (nowhere d c)
 by_an_answer d (a ∷ rest) c = by (Contains-append_cases (made_by a) (flat_map made_by rest) d c) (by_an_answer d rest)
   where
     by : Contains (made_by a) d ⊎ Contains (flat_map made_by rest) d
-        → (Contains (flat_map made_by rest) d → (b : Answer) × Contains rest b × Contains (made_by b) d)
-        → (b : Answer) × Contains (a ∷ rest) b × Contains (made_by b) d
+        → (Contains (flat_map made_by rest) d → (b : LoopAnswer) × Contains rest b × Contains (made_by b) d)
+        → (b : LoopAnswer) × Contains (a ∷ rest) b × Contains (made_by b) d
     by (inl i) later = (a, here a rest, i)
     by (inr i) later = let w = later i in (w.0, there a rest w.0 w.1, w.2)
 
 -- what one of them has all have
-of_answer : (d : Declaration) (answers : List Answer) (a : Answer) → Contains answers a → Contains (made_by a) d
+of_answer : (d : Declaration) (answers : List LoopAnswer) (a : LoopAnswer) → Contains answers a → Contains (made_by a) d
     → Contains (flat_map made_by answers) d
 of_answer d [] a c i = absurd (nowhere a c)
 of_answer d (x ∷ rest) a c i = by (cases_of x rest a c) (λ j. of_answer d rest a j i)
@@ -275,22 +276,22 @@ of_answer d (x ∷ rest) a c i = by (cases_of x rest a c) (λ j. of_answer d res
         → Contains (made_by x ++ flat_map made_by rest) d
     by (inl e) later =
         Contains-append_left (made_by x) (flat_map made_by rest) d
-        (subst (λ (y : Answer). Contains (made_by y) d) (sym e) i)
+        (subst (λ (y : LoopAnswer). Contains (made_by y) d) (sym e) i)
     by (inr j) later = Contains-append_right (made_by x) (flat_map made_by rest) d (later j)
 
 -- ---- all of them
 
-pub each_right : (counts : Counts) (answers : List Answer) (a : Answer) → AreRight counts answers → Contains answers a
+pub each_right : (counts : Counts) (answers : List LoopAnswer) (a : LoopAnswer) → AreRight counts answers → Contains answers a
     → IsRightSomewhere a
 each_right counts [] a right c = absurd (nowhere a c)
 each_right counts (x ∷ rest) a right c = by (cases_of x rest a c) (λ j. each_right (counts_by counts x) rest a right.1 j)
   where
     by : (x ≡ a) ⊎ Contains rest a → (Contains rest a → IsRightSomewhere a) → IsRightSomewhere a
-    by (inl e) later = (counts, subst (IsRight counts) e right.0)
+    by (inl e) later = (counts, subst (IsRightLoopAnswer counts) e right.0)
     by (inr j) later = later j
 
-pub answers_are_blocks : AnswersAreBlocks
-answers_are_blocks p lines blocks made program h = record {
+pub answers_are_blocks : (width : Width) → AnswersAreBlocks width
+answers_are_blocks width p lines blocks made program h = record {
   only = λ k b from e. only k b (h.placed.only k b from e);
   declared = λ k b from e x c. declared k b (h.placed.only k b from e) x c;
   before = counts_before no_counts h.answers;
@@ -299,27 +300,27 @@ answers_are_blocks p lines blocks made program h = record {
   made_are = λ d c. for_nest d (by_an_answer d h.answers (subst (λ (ds : List Declaration). Contains ds d) h.made_are c));
 }
   where
-    right : (a : Answer) → Contains h.answers a → IsRightSomewhere a
+    right : (a : LoopAnswer) → Contains h.answers a → IsRightSomewhere a
     right a c = each_right no_counts h.answers a h.are.right c
 
-    found : (a : Answer) → Contains h.answers a → Contains (found_in p) (found_by a)
+    found : (a : LoopAnswer) → Contains h.answers a → Contains (found_in p) (found_by a)
     found a c = subst (λ (fs : List Found). Contains fs (found_by a)) h.are.found (in_map found_by h.answers a c)
 
     order : AreInOrder h.answers
     order =
-        subst (λ (fs : List Found). Pairwise ComesBefore (nests_among fs)) (sym h.are.found) (nests_are_numbered p program)
+        subst (λ (fs : List Found). Pairwise ComesBefore (nests_among fs)) (sym h.are.found) (nests_are_numbered width p program)
 
-    by_number : (a : Answer) → Contains h.answers a → IsRightByNumber (counts_before no_counts h.answers) (last_by h.answers) a
+    by_number : (a : LoopAnswer) → Contains h.answers a → IsRightByNumber (counts_before no_counts h.answers) (last_by h.answers) a
     by_number a c = right_by_number no_counts h.answers a h.are.right order c
 
-    for_nest : (d : Declaration) → (a : Answer) × Contains h.answers a × Contains (made_by a) d
+    for_nest : (d : Declaration) → (a : LoopAnswer) × Contains h.answers a × Contains (made_by a) d
         → IsMadeForNest p (counts_before no_counts h.answers) (last_by h.answers) d
     for_nest d w = made_of_answer p (counts_before no_counts h.answers) (last_by h.answers) d w.0 (by_number w.0 w.1) (found w.0 w.1) w.2
 
-    only : (k : ℕ) (b : Block) → (a : Answer) × Contains h.answers a × Puts a k b → IsBlockOfLoop p k b
+    only : (k : ℕ) (b : Block) → (a : LoopAnswer) × Contains h.answers a × Puts a k b → IsBlockOfLoop p k b
     only k b w = block_of_answer p k b w.0 (right w.0 w.1) (found w.0 w.1) w.2
 
-    declared : (k : ℕ) (b : Block) (w : (a : Answer) × Contains h.answers a × Puts a k b) (x : Made)
+    declared : (k : ℕ) (b : Block) (w : (a : LoopAnswer) × Contains h.answers a × Puts a k b) (x : Made)
         → Contains (only k b w).normal.made x → Contains made (declaration_of_made x)
     declared k b w x c =
         subst (λ (ds : List Declaration). Contains ds (declaration_of_made x)) (sym h.made_are)

@@ -16,7 +16,7 @@ use Rattle.meaning.specs.ArrayValues.{counted}
 use Rattle.nest.specs.Bodies.{Standing, nest_statements}
 use Rattle.nest.specs.Plain.{Nest}
 use Rattle.array_form.specs.holds.Holds.{all_holds, hold_of, hold_with, holds_of, holds_of_standing}
-use Rattle.array_form.specs.holds.Holds.{reason_of}
+use Rattle.array_form.specs.holds.Holds.{hold_reason_of}
 use Rattle.array_form.specs.holds.Statements.{no_statement, statement_at}
 
 -- what forbids the array form of a statement at a level is among the holds
@@ -39,7 +39,7 @@ own_hold : (k s : ℕ) (r : HoldReason) → is_held (hold_with (s + 1) k (Some r
 own_hold k s r =
     ap (λ a. (a && (k == k)) || false) (eq-eqb (s + 1) (s + 1) refl) ∙ ap (λ a. a || false) (eq-eqb k k refl)
 
-held_with : (k s : ℕ) (o : Option forms.Hold) → o ≡ None ⊎ (is_held (hold_with (s + 1) k (reason_of o)) k s ≡ true)
+held_with : (k s : ℕ) (o : Option forms.HoldCause) → o ≡ None ⊎ (is_held (hold_with (s + 1) k (hold_reason_of o)) k s ≡ true)
 held_with k s None = inl refl
 held_with k s (Some forms.FormHold) = inr (own_hold k s Form)
 held_with k s (Some forms.TriangleHold) = inr (own_hold k s Triangle)
@@ -47,7 +47,7 @@ held_with k s (Some forms.BoundsHold) = inr (own_hold k s Bounds)
 
 module _ (n : Nest) (x : Standing) (k s : ℕ) where
   abbrev holds_at : ℕ → List Hold
-  holds_at i = hold_with (s + 1) i (reason_of (hold_of n x i))
+  holds_at i = hold_with (s + 1) i (hold_reason_of (hold_of n x i))
 
   abbrev holds_from : ℕ → ℕ → List Hold
   holds_from first count = flat_map holds_at (counted first count)

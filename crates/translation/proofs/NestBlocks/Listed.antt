@@ -11,7 +11,7 @@ use Rattle.listing.specs.programs.Listing.{HasCycleEntries, HasNestEntries, Have
 use Rattle.listing.specs.programs.Listing.{no_counts}
 use Rattle.translation.specs.nest_blocks.Answers.{AreAllEntriesBy, AreRight, nests_by}
 use Rattle.translation.specs.nest_blocks.Laws.{AnswersAreListed}
-use Rattle.translation.specs.nest_blocks.LoopAnswers.{Answer, IsTranslation, Kept, Translated, found_by}
+use Rattle.translation.specs.nest_blocks.LoopAnswers.{LoopAnswer, IsTranslation, Kept, Translated, found_by}
 
 -- ---- one answer
 
@@ -22,10 +22,10 @@ nest_entries counts n m g ps es right listed =
 
 -- ---- one after the other
 
-abbrev ListAll : Counts → List Answer → List Entry → List Found → Type 0
+abbrev ListAll : Counts → List LoopAnswer → List Entry → List Found → Type 0
 ListAll counts answers es fs = (h : HaveEntries counts fs es) × (listed_nests counts fs es h ≡ nests_by answers)
 
-all_listed : (counts : Counts) (answers : List Answer) (es : List Entry) → AreRight counts answers → AreAllEntriesBy answers es
+all_listed : (counts : Counts) (answers : List LoopAnswer) (es : List Entry) → AreRight counts answers → AreAllEntriesBy answers es
     → ListAll counts answers es (map found_by answers)
 unfolding nest_entries
 all_listed counts [] es right listed = (listed, refl)

@@ -21,7 +21,7 @@ use Rattle.nest.specs.declared.nests.Nest.{Nest as Nest'}
 use Rattle.meaning_laws.proofs.profiles.Lists.{nowhere}
 use Rattle.translation.specs.nest_blocks.Answers.{ArePlaced, Puts}
 use Rattle.translation.specs.nest_blocks.Places.{IsPut, IsPutFor}
-use Rattle.translation.specs.nest_blocks.LoopAnswers.{Answer, block_by, found_by}
+use Rattle.translation.specs.nest_blocks.LoopAnswers.{LoopAnswer, block_by, found_by}
 
 -- ---- a block is put
 
@@ -74,7 +74,7 @@ same_nest n o e = cc
 same_block : (b c : Block) → Some b ≡ Some c → b ≡ c
 same_block b c e = cc
 
-nothing_put : (answers : List Answer) (a : Answer) (old new : List (Option Block))
+nothing_put : (answers : List LoopAnswer) (a : LoopAnswer) (old new : List (Option Block))
     → ((k : ℕ) (b : Block) → Puts a k b → ⊥) → new ≡ old → ArePlaced answers old → ArePlaced (answers ++ a ∷ []) new
 nothing_put answers a old new never same placed = record {
   only = λ k b from e. earlier k b (placed.only k b from (sym (stays k) ∙ e));
@@ -84,23 +84,23 @@ nothing_put answers a old new never same placed = record {
     stays : (k : ℕ) → block_at new k ≡ block_at old k
     stays k = ap (λ (bs : List (Option Block)). block_at bs k) same
 
-    earlier : (k : ℕ) (b : Block) → (x : Answer) × Contains answers x × Puts x k b
-        → (x : Answer) × Contains (answers ++ a ∷ []) x × Puts x k b
+    earlier : (k : ℕ) (b : Block) → (x : LoopAnswer) × Contains answers x × Puts x k b
+        → (x : LoopAnswer) × Contains (answers ++ a ∷ []) x × Puts x k b
     earlier k b w = (w.0, Contains-append_left answers (a ∷ []) w.0 w.1, w.2)
 
-    one : (x : Answer) (k : ℕ) (b : Block) → Puts x k b → Contains answers x ⊎ (a ≡ x) → block_at new k ≡ Some b
+    one : (x : LoopAnswer) (k : ℕ) (b : Block) → Puts x k b → Contains answers x ⊎ (a ≡ x) → block_at new k ≡ Some b
     one x k b p (inl c) = stays k ∙ placed.each x k b c p
-    one x k b p (inr s) = absurd (never k b (subst (λ (y : Answer). Puts y k b) (sym s) p))
+    one x k b p (inr s) = absurd (never k b (subst (λ (y : LoopAnswer). Puts y k b) (sym s) p))
 
-module _ (answers : List Answer) (a : Answer) (n : Nest) (b : Block) (old new : List (Option Block))
+module _ (answers : List LoopAnswer) (a : LoopAnswer) (n : Nest) (b : Block) (old new : List (Option Block))
     (found : found_by a ≡ InNest n) (is : block_by a ≡ Some b) (behind : IsBehind (map found_by answers) (InNest n))
     (placed : ArePlaced answers old) (put : IsPut (loop_number n - 1) b old new) where
   only : (k : ℕ) (c : Block) → 1 ≤ k → block_at new k ≡ Some c
-      → (x : Answer) × Contains (answers ++ a ∷ []) x × Puts x k c
+      → (x : LoopAnswer) × Contains (answers ++ a ∷ []) x × Puts x k c
   only k c from e = by (cases_eq (k - 1) (loop_number n - 1))
     where
       by : (k - 1 ≡ loop_number n - 1) ⊎ (k - 1 ≢ loop_number n - 1)
-          → (x : Answer) × Contains (answers ++ a ∷ []) x × Puts x k c
+          → (x : LoopAnswer) × Contains (answers ++ a ∷ []) x × Puts x k c
       by (inl s) =
           let counts = behind.counts n refl in
           let number : loop_number n ≡ k = omega (arith, counts, s, from) in
@@ -113,7 +113,7 @@ module _ (answers : List Answer) (a : Answer) (n : Nest) (b : Block) (old new : 
           let w = placed.only k c from (sym (put.same (k - 1) s) ∙ e) in
           (w.0, Contains-append_left answers (a ∷ []) w.0 w.1, w.2)
 
-  each : (x : Answer) (k : ℕ) (c : Block) → Puts x k c → Contains answers x ⊎ (a ≡ x) → block_at new k ≡ Some c
+  each : (x : LoopAnswer) (k : ℕ) (c : Block) → Puts x k c → Contains answers x ⊎ (a ≡ x) → block_at new k ≡ Some c
   each x k c p (inl i) =
       let among : Contains (map found_by answers) (InNest p.nest)
       = subst (Contains (map found_by answers)) p.found (in_map found_by answers x i) in
@@ -123,7 +123,7 @@ module _ (answers : List Answer) (a : Answer) (n : Nest) (b : Block) (old new : 
       let apart : k - 1 ≢ loop_number n - 1 = λ s. omega (arith, from, less, number, s) in
       put.same (k - 1) apart ∙ placed.each x k c i p
   each x k c p (inr s) =
-      let own = subst (λ (y : Answer). Puts y k c) (sym s) p in
+      let own = subst (λ (y : LoopAnswer). Puts y k c) (sym s) p in
       let same : n ≡ own.nest = same_nest n own.nest (sym found ∙ own.found) in
       let number : k ≡ loop_number n = sym own.number ∙ ap loop_number (sym same) in
       ap (λ i. block_at new i) number ∙ put.there ∙ sym is ∙ own.block
@@ -131,7 +131,7 @@ module _ (answers : List Answer) (a : Answer) (n : Nest) (b : Block) (old new : 
   one_put : ArePlaced (answers ++ a ∷ []) new
   one_put = record { only = only; each = λ x k c i p. each x k c p (Contains-push_cases answers a x i) }
 
-pub placed_more : (answers : List Answer) (a : Answer) (f : Found) (block : Option Block)
+pub placed_more : (answers : List LoopAnswer) (a : LoopAnswer) (f : Found) (block : Option Block)
     (old new : List (Option Block)) → found_by a ≡ f → block ≡ block_by a → IsBehind (map found_by answers) f
     → ArePlaced answers old → IsPutFor f block old new → ArePlaced (answers ++ a ∷ []) new
 placed_more answers a (InNest n) (Some b) old new found is behind placed put =

@@ -8,11 +8,12 @@ use Rattle.std.proofs.lemmas.List.{drop_more, map-append, take_all, take_more}
 use Rattle.std.proofs.lemmas.List.Concat.{flat_map-append}
 use Rattle.std.proofs.lemmas.List.Elements.{Contains-append_left, Contains-append_right}
 use Rattle.components.specs.Lists.{Each, Pairwise}
-use Rattle.f90_print.specs.Notes.{text_of}
+use Rattle.f90_print.specs.Notes.{line_text}
 use Rattle.find_nests.specs.Found.{Found, InNest, Kept, found_in}
 use Rattle.find_nests.specs.View.{found_of}
 use Rattle.find_nests.specs.declared.search.Found.{Found as Found'}
 use Rattle.meaning.specs.Dialect.{fortran77}
+use Rattle.tree.specs.declared.width.Width.{Width}
 use Rattle.meaning.specs.Profile77.{IsProgram77}
 use Rattle.tree.specs.Plain.{Block, Declaration, Program}
 use Rattle.tree.specs.View.{block_of}
@@ -33,29 +34,29 @@ use Rattle.translation.specs.nest_blocks.Places.{IsPutFor}
 use Rattle.translation.proofs.NestBlocks.Placed.{IsBehind, placed_more, placed_none}
 use Rattle.translation.specs.made_declarations.Declaring.{declaration_of_name}
 use Rattle.translation.specs.declared.made_declarations.names.MadeName.{MadeName}
-use Rattle.translation.specs.nest_blocks.LoopAnswers.{Answer, AreEntriesBy, IsAnswerTo, IsRight, found_by, made_by}
+use Rattle.translation.specs.nest_blocks.LoopAnswers.{LoopAnswer, AreEntriesBy, IsAnswerTo, IsRightLoopAnswer, found_by, made_by}
 use Rattle.translation.specs.nest_blocks.LoopAnswers.{counts_by}
 
 -- ---- counts
 
 -- what is made behind these answers
-abbrev counts_after : Counts → List Answer → Counts
+abbrev counts_after : Counts → List LoopAnswer → Counts
 counts_after counts [] = counts
 counts_after counts (a ∷ answers) = counts_after (counts_by counts a) answers
 
-right_too : (counts : Counts) (answers : List Answer) (a : Answer) → AreRight counts answers → IsRight (counts_after counts answers) a
+right_too : (counts : Counts) (answers : List LoopAnswer) (a : LoopAnswer) → AreRight counts answers → IsRightLoopAnswer (counts_after counts answers) a
     → AreRight counts (answers ++ a ∷ [])
 right_too counts [] a h own = (own, tt)
 right_too counts (x ∷ answers) a h own = (h.0, right_too (counts_by counts x) answers a h.1 own)
 
-counts_too : (counts : Counts) (answers : List Answer) (a : Answer)
+counts_too : (counts : Counts) (answers : List LoopAnswer) (a : LoopAnswer)
     → counts_after counts (answers ++ a ∷ []) ≡ counts_by (counts_after counts answers) a
 counts_too counts [] a = refl
 counts_too counts (x ∷ answers) a = counts_too (counts_by counts x) answers a
 
 -- ---- entries
 
-listed_too : (answers : List Answer) (a : Answer) (es last : List Entry) → AreAllEntriesBy answers es → AreEntriesBy a last
+listed_too : (answers : List LoopAnswer) (a : LoopAnswer) (es last : List Entry) → AreAllEntriesBy answers es → AreEntriesBy a last
     → AreAllEntriesBy (answers ++ a ∷ []) (es ++ last)
 listed_too [] a es last h own = (last, [], ap (λ us. us ++ last) h ∙ sym (append-nil last), own, refl)
 listed_too (x ∷ answers) a es last h own = (
@@ -71,7 +72,7 @@ listed_too (x ∷ answers) a es last h own = (
 -- answers to these, what they list, what they put in the place of loops, what passes made, and how much of it
 pub record AreAnswersTo (fs : List Found) (lines : List (List ℕ)) (blocks : List (Option Block)) (made : List Declaration)
     (counts : Counts) : Type 0 where
-  pub answers : List Answer
+  pub answers : List LoopAnswer
   pub right : AreRight no_counts answers
   pub found : map found_by answers ≡ fs
   pub entries : List Entry
@@ -100,7 +101,7 @@ answers_more : (fs : List Found) (f : Found) (old more new : List (List ℕ)) (b
     → IsPutFor f block before after → have ≡ had ++ own → AreAnswersTo (fs ++ f ∷ []) new after have next
 answers_more fs f old more new block before after had own have counts next h a behind lines put made = record {
   answers = h.answers ++ a.answer ∷ [];
-  right = right_too no_counts h.answers a.answer h.right (subst (λ (k : Counts). IsRight k a.answer) h.counts_are a.right);
+  right = right_too no_counts h.answers a.answer h.right (subst (λ (k : Counts). IsRightLoopAnswer k a.answer) h.counts_are a.right);
   found =
       map-append found_by h.answers (a.answer ∷ []) ∙ ap (λ gs. gs ++ found_by a.answer ∷ []) h.found
       ∙ ap (λ g. fs ++ g ∷ []) a.found;
@@ -146,9 +147,9 @@ comes_before (Kept line r ∷ fs) rest n m h c =
     by (inl e) later = let no : ⊥ = cc in absurd no
     by (inr i) later = later i
 
-behind : (p : Program) (fs rest : List Found) (f : Found) → IsProgram77 fortran77 p → fs ++ f ∷ rest ≡ found_in p
+behind : (width : Width) (p : Program) (fs rest : List Found) (f : Found) → IsProgram77 (fortran77 width) p → fs ++ f ∷ rest ≡ found_in p
     → IsBehind fs f
-behind p fs rest f program e = record {
+behind width p fs rest f program e = record {
   counts = λ m is. loop_numbers_count p m (subst (Contains (found_in p)) is
       (among f (Contains-append_right fs (f ∷ rest) f (here f rest))));
   from = λ n c. loop_numbers_count p n (among (InNest n) (Contains-append_left fs (f ∷ rest) (InNest n) c));
@@ -161,7 +162,7 @@ behind p fs rest f program e = record {
     in_order : (m : Nest) → f ≡ InNest m → Pairwise ComesBefore (nests_among (fs ++ InNest m ∷ rest))
     in_order m is =
         subst (λ (g : Found). Pairwise ComesBefore (nests_among (fs ++ g ∷ rest))) is
-        (subst (λ (gs : List Found). Pairwise ComesBefore (nests_among gs)) (sym e) (nests_are_numbered p program))
+        (subst (λ (gs : List Found). Pairwise ComesBefore (nests_among gs)) (sym e) (nests_are_numbered width p program))
 
 -- ---- what was found, as the program has it
 
@@ -170,28 +171,28 @@ declared_as made = map declaration_of_name made
 
 pub found_none : (items : List Found') (lines : List Line) (blocks : List (Option Tree)) (made : List MadeName)
     → lines ≡ [] → blocks ≡ [] → made ≡ []
-    → AreAnswersTo (map found_of (take 0 items)) (map text_of lines) (blocks_of blocks) (declared_as made) no_counts
+    → AreAnswersTo (map found_of (take 0 items)) (map line_text lines) (blocks_of blocks) (declared_as made) no_counts
 found_none items lines blocks made l b d =
-    subst (λ (ds : List MadeName). AreAnswersTo [] (map text_of lines) (blocks_of blocks) (declared_as ds) no_counts) (sym d)
-    (subst (λ (bs : List (Option Tree)). AreAnswersTo [] (map text_of lines) (blocks_of bs) [] no_counts) (sym b)
-    (subst (λ (ls : List Line). AreAnswersTo [] (map text_of ls) [] [] no_counts) (sym l) answers_none))
+    subst (λ (ds : List MadeName). AreAnswersTo [] (map line_text lines) (blocks_of blocks) (declared_as ds) no_counts) (sym d)
+    (subst (λ (bs : List (Option Tree)). AreAnswersTo [] (map line_text lines) (blocks_of bs) [] no_counts) (sym b)
+    (subst (λ (ls : List Line). AreAnswersTo [] (map line_text ls) [] [] no_counts) (sym l) answers_none))
 
-module _ (p : Program) (items : List Found') (is : map found_of items ≡ found_in p) where
+module _ (width : Width) (p : Program) (items : List Found') (is : map found_of items ≡ found_in p) where
   pub found_more : (i : ℕ) (x : Found') (old more new : List Line) (block : Option Tree)
-      (before after : List (Option Tree)) (had own have : List MadeName) (counts next : Counts) → IsProgram77 fortran77 p
+      (before after : List (Option Tree)) (had own have : List MadeName) (counts next : Counts) → IsProgram77 (fortran77 width) p
       → i < length items → x ≡ get_or items i x
-      → AreAnswersTo (map found_of (take i items)) (map text_of old) (blocks_of before) (declared_as had) counts
-      → IsAnswerTo counts (found_of x) (map text_of more) (option_map block_of block) (declared_as own) next
+      → AreAnswersTo (map found_of (take i items)) (map line_text old) (blocks_of before) (declared_as had) counts
+      → IsAnswerTo counts (found_of x) (map line_text more) (option_map block_of block) (declared_as own) next
       → new ≡ old ++ more
       → IsPutFor (found_of x) (option_map block_of block) (blocks_of before) (blocks_of after) → have ≡ had ++ own
-      → AreAnswersTo (map found_of (take (i + 1) items)) (map text_of new) (blocks_of after) (declared_as have) next
+      → AreAnswersTo (map found_of (take (i + 1) items)) (map line_text new) (blocks_of after) (declared_as have) next
   found_more i x old more new block before after had own have counts next program within at h answer lines put made =
-      subst (λ (fs : List Found). AreAnswersTo fs (map text_of new) (blocks_of after) (declared_as have) next) (sym one)
-      (answers_more (map found_of (take i items)) (found_of x) (map text_of old) (map text_of more) (map text_of new)
+      subst (λ (fs : List Found). AreAnswersTo fs (map line_text new) (blocks_of after) (declared_as have) next) (sym one)
+      (answers_more (map found_of (take i items)) (found_of x) (map line_text old) (map line_text more) (map line_text new)
       (option_map block_of block) (blocks_of before) (blocks_of after) (declared_as had) (declared_as own)
       (declared_as have) counts next h answer
-      (behind p (map found_of (take i items)) (map found_of (drop (i + 1) items)) (found_of x) program whole)
-      (ap (map text_of) lines ∙ map-append text_of old more) put
+      (behind width p (map found_of (take i items)) (map found_of (drop (i + 1) items)) (found_of x) program whole)
+      (ap (map line_text) lines ∙ map-append line_text old more) put
       (ap (map declaration_of_name) made ∙ map-append declaration_of_name had own))
     where
       one : map found_of (take (i + 1) items) ≡ map found_of (take i items) ++ found_of x ∷ []
@@ -209,13 +210,13 @@ module _ (p : Program) (items : List Found') (is : map found_of items ≡ found_
 
   pub found_all : (i : ℕ) (lines given : List Line) (blocks stand : List (Option Tree)) (made have : List MadeName)
       (counts : Counts) → length items ≤ i
-      → AreAnswersTo (map found_of (take i items)) (map text_of lines) (blocks_of blocks) (declared_as made) counts
+      → AreAnswersTo (map found_of (take i items)) (map line_text lines) (blocks_of blocks) (declared_as made) counts
       → given ≡ lines → stand ≡ blocks → have ≡ made
-      → AreAnswersFor p (map text_of given) (blocks_of stand) (declared_as have)
+      → AreAnswersFor p (map line_text given) (blocks_of stand) (declared_as have)
   found_all i lines given blocks stand made have counts h k l b d =
-      subst (λ (ds : List MadeName). AreAnswersFor p (map text_of given) (blocks_of stand) (declared_as ds)) (sym d)
-      (subst (λ (bs : List (Option Tree)). AreAnswersFor p (map text_of given) (blocks_of bs) (declared_as made)) (sym b)
-      (subst (λ (ls : List Line). AreAnswersFor p (map text_of ls) (blocks_of blocks) (declared_as made)) (sym l) (record {
+      subst (λ (ds : List MadeName). AreAnswersFor p (map line_text given) (blocks_of stand) (declared_as ds)) (sym d)
+      (subst (λ (bs : List (Option Tree)). AreAnswersFor p (map line_text given) (blocks_of bs) (declared_as made)) (sym b)
+      (subst (λ (ls : List Line). AreAnswersFor p (map line_text ls) (blocks_of blocks) (declared_as made)) (sym l) (record {
         answers = k.answers;
         are = record { right = k.right; found = k.found ∙ ap (map found_of) (take_all i items h) ∙ is };
         entries = k.entries;

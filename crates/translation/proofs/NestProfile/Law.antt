@@ -9,16 +9,17 @@ use Rattle.meaning_laws.specs.profiles.Profiles.{AddMadeNames}
 use Rattle.pass_laws.proofs.PreparedRuns.Profile.{prepared_translation_is_of_profile}
 use Rattle.translation.proofs.NestTranslation.Prepared.{passed_nest_is_prepared, same_declarations}
 use Rattle.translation.specs.nest_profile.Laws.{TranslationIsOfProfile}
+use Rattle.tree.specs.declared.width.Width.{Width}
 
 -- ---- the law
 
 room : last_depth + rise ≤ expression_depth90
 room = let e : 844 ≤ 1000 = omega arith in e
 
-pub translation_is_of_profile : TranslationIsOfProfile
-translation_is_of_profile p r n m b w found is among added translated counters made transpose reshape number round source =
+pub translation_is_of_profile : (width : Width) → TranslationIsOfProfile width
+translation_is_of_profile width p r n m b w found is among added translated counters made transpose reshape number round source =
     let prepared =
-    passed_nest_is_prepared p translated.counts n m w found is among translated.passed round source r added counters made in
+    passed_nest_is_prepared width p translated.counts n m w found is among translated.passed round source r added counters made in
     let own = same_declarations p translated.counts n m found translated.passed in
     subst (λ (c : Block). IsBlock r.declarations c w) (sym translated.block)
     (prepared_translation_is_of_profile r.declarations w.variables last_depth m translated.pieces w added.are prepared

@@ -7,6 +7,7 @@ use Rattle.std.specs.Str.{bytes_eq}
 use Rattle.std.proofs.lemmas.Slice.Eq.{bytes_eq-Decides}
 use Rattle.linear_forms.specs.Laws.{HoldsSized}
 use Rattle.meaning.specs.Dialect.{Dialect, fortran77, fortran90}
+use Rattle.tree.specs.declared.width.Width.{Width}
 use Rattle.meaning.specs.Holding.{HoldsProgram, IsStorable}
 use Rattle.meaning.specs.Run.{State}
 use Rattle.meaning.specs.Store.{Agree, Store}
@@ -33,6 +34,7 @@ use Rattle.tree.specs.Names.{IsSourceName}
 use Rattle.tree.specs.Plain.{Declaration, Expression, Extent, Given, Later, Program}
 use Rattle.tree.specs.declared.ops.Kind.{Kind}
 use Rattle.tree.specs.declared.ops.Value.{Value}
+use Rattle.tree.specs.Widths.{bits_of}
 
 -- ---- both dialects hold the same stores
 
@@ -41,16 +43,16 @@ storable_too : (k l : Dialect) (o : Option Declaration) (v : Value) → k.bits �
 storable_too k l None v e h = tt
 storable_too k l (Some d) v e h = record { kind = h.kind; within = subst (λ n. is_in_range n v ≡ true) e h.within }
 
-pub of_77 : (r : Program) (s : Store) → HoldsProgram fortran77 r s → HoldsProgram fortran90 r s
-of_77 r s h = record {
+pub of_77 : (width : Width) (r : Program) (s : Store) → HoldsProgram (fortran77 width) r s → HoldsProgram (fortran90 width) r s
+of_77 width r s h = record {
   bounds = h.bounds;
-  kinds = λ c. storable_too fortran77 fortran90 (declared r.declarations c.name) (s.held c) refl (h.kinds c);
+  kinds = λ c. storable_too (fortran77 width) (fortran90 width) (declared r.declarations c.name) (s.held c) refl (h.kinds c);
 }
 
-pub of_90 : (r : Program) (s : Store) → HoldsProgram fortran90 r s → HoldsProgram fortran77 r s
-of_90 r s h = record {
+pub of_90 : (width : Width) (r : Program) (s : Store) → HoldsProgram (fortran90 width) r s → HoldsProgram (fortran77 width) r s
+of_90 width r s h = record {
   bounds = h.bounds;
-  kinds = λ c. storable_too fortran90 fortran77 (declared r.declarations c.name) (s.held c) refl (h.kinds c);
+  kinds = λ c. storable_too (fortran90 width) (fortran77 width) (declared r.declarations c.name) (s.held c) refl (h.kinds c);
 }
 
 -- ---- the array that has a name
@@ -157,13 +159,13 @@ made_still m v s t same h =
     (all_in (IsThere m v s) m.made h a i)))
 
 -- numbers are of 64 bits again
-pub sized_still : (r : Program) (around : List (List ℕ)) (deepest : ℕ) (m : Nest) (v : ℕ → ℤ) (t : State)
-    → IsPrepared r.declarations around deepest m → HoldsSized t.store → (a : IsAllocated r m v t) → HoldsSized a.state.store
-sized_still r around deepest m v t h before a c z e = by (declared r.declarations c.name) refl (a.program.kinds c)
+pub sized_still : (width : Width) (r : Program) (around : List (List ℕ)) (deepest : ℕ) (m : Nest) (v : ℕ → ℤ) (t : State)
+    → IsPrepared r.declarations around deepest m → HoldsSized t.store → (a : IsAllocated width r m v t) → HoldsSized a.state.store
+sized_still width r around deepest m v t h before a c z e = by (declared r.declarations c.name) refl (a.program.kinds c)
   where
     by : (o : Option Declaration) → declared r.declarations c.name ≡ o
-        → IfSome o (λ (d : Declaration). IsStorable fortran90 d.kind (a.state.store.held c)) → nat_abs z ≤ 2 ^ 63
-    by (Some d) is k = sized z (subst (λ (u : Value). is_in_range 31 u ≡ true) e k.within)
+        → IfSome o (λ (d : Declaration). IsStorable (fortran90 width) d.kind (a.state.store.held c)) → nat_abs z ≤ 2 ^ 63
+    by (Some d) is k = sized width z (subst (λ (u : Value). is_in_range (bits_of width) u ≡ true) e k.within)
     by None is k =
         before c z (sym (a.others.held c (λ i.
         let d = array_declared r around deepest m h c.name i in

@@ -4,6 +4,7 @@ use Rattle.std.proofs.Common.{◌≡◌, refl, sym, ap, ◌∙◌, subst, ◌⊎
 use Rattle.std.proofs.Common.{negsuc, true, Option, Some, None, IfSome, List, Contains, arith}
 use Rattle.std.specs.Prelude.{nat_abs}
 use Rattle.meaning.specs.Dialect.{fortran77, fortran90}
+use Rattle.tree.specs.declared.width.Width.{Width}
 use Rattle.meaning.specs.Holding.{HasBounds, HoldsProgram, IsStorable}
 use Rattle.meaning.specs.Run.{State}
 use Rattle.meaning.specs.Store.{Agree, Cell, Store, cell_in, names_of, nought, nought_like}
@@ -22,6 +23,9 @@ use Rattle.nest_steps.specs.Keeping.{GoOnAlike}
 use Rattle.meaning_laws.proofs.profiles.Programs.{kept_declaration}
 use Rattle.std.specs.Option.{IsSomeAnd}
 use Rattle.translation.specs.placed_loops.Beside.{IsUnallocated}
+use Rattle.tree.specs.Widths.{bits_of}
+use Rattle.meaning.proofs.Widths.{fits_more, widest}
+use Rattle.meaning.proofs.Widths.{in_range_more, narrowest}
 
 -- ---- stores that agree
 
@@ -108,44 +112,44 @@ cleaned_agrees q fs s = same_agree q s (cleaned q.declarations fs s)
 abbrev Bounded : Option (List (ℤ × ℤ)) → Declaration → Type 0
 Bounded b e = HasBounds e.extent b
 
-abbrev Stored : Value → Declaration → Type 0
-Stored v e = IsStorable fortran77 e.kind v
+abbrev Stored : (width : Width) → Value → Declaration → Type 0
+Stored width v e = IsStorable (fortran77 width) e.kind v
 
 opening_bounded : (e : Extent) → HasBounds e (elim e [ Given bs ↦ Some bs | Later n ↦ None ])
 opening_bounded (Given bs) = refl
 opening_bounded (Later n) = tt
 
-opening_stored : (k : Kind) → IsStorable fortran77 k (nought k)
-opening_stored Integer = record { kind = refl; within = refl }
-opening_stored Logical = record { kind = refl; within = refl }
+opening_stored : (width : Width) (k : Kind) → IsStorable (fortran77 width) k (nought k)
+opening_stored width Integer = record { kind = refl; within = in_range_more 31 (bits_of width) (narrowest width) (Int (pos 0)) refl }
+opening_stored width Logical = record { kind = refl; within = refl }
 
 bounded : (o r : Option Declaration) (b : Option (List (ℤ × ℤ))) → ((d : Declaration) → o ≡ Some d → r ≡ Some d) → IfSome o (Bounded b) → IfSome r (Bounded (bounds_or o r b))
 bounded (Some d) r b k h = subst (λ x. IfSome x (Bounded b)) (sym (k d refl)) h
 bounded None (Some e) b k h = opening_bounded e.extent
 bounded None None b k h = tt
 
-stored : (o r : Option Declaration) (v : Value) → ((d : Declaration) → o ≡ Some d → r ≡ Some d) → IfSome o (λ (e : Declaration). IsStorable fortran90 e.kind v) → IfSome r (Stored (value_or o r v))
-stored (Some d) r v k h = subst (λ x. IfSome x (Stored v)) (sym (k d refl)) (record { kind = h.kind; within = h.within })
-stored None (Some e) v k h = opening_stored e.kind
-stored None None v k h = tt
+stored : (width : Width) (o r : Option Declaration) (v : Value) → ((d : Declaration) → o ≡ Some d → r ≡ Some d) → IfSome o (λ (e : Declaration). IsStorable (fortran90 width) e.kind v) → IfSome r (Stored width (value_or o r v))
+stored width (Some d) r v k h = subst (λ x. IfSome x (Stored width v)) (sym (k d refl)) (record { kind = h.kind; within = h.within })
+stored width None (Some e) v k h = opening_stored width e.kind
+stored width None None v k h = tt
 
-pub cleaned_holds : (q r : Program) (s : Store) → AddMadeNames q.declarations r.declarations → HoldsProgram fortran90 q s → HoldsProgram fortran77 r (cleaned q.declarations r.declarations s)
-cleaned_holds q r s a h = record {
+pub cleaned_holds : (width : Width) (q r : Program) (s : Store) → AddMadeNames q.declarations r.declarations → HoldsProgram (fortran90 width) q s → HoldsProgram (fortran77 width) r (cleaned q.declarations r.declarations s)
+cleaned_holds width q r s a h = record {
   bounds = λ x. bounded (declared q.declarations x) (declared r.declarations x) (s.bounds x) (kept_declaration q.declarations r.declarations a x) (h.bounds x);
-  kinds = λ c. stored (declared q.declarations c.name) (declared r.declarations c.name) (s.held c) (kept_declaration q.declarations r.declarations a c.name) (h.kinds c);
+  kinds = λ c. stored width (declared q.declarations c.name) (declared r.declarations c.name) (s.held c) (kept_declaration q.declarations r.declarations a c.name) (h.kinds c);
 }
 
 -- ---- its numbers are of 64 bits
 
-pub sized : (z : ℤ) → is_in_range 31 (Int z) ≡ true → nat_abs z ≤ 2 ^ 63
-sized (pos k) e = small k e
+pub sized : (width : Width) (z : ℤ) → is_in_range (bits_of width) (Int z) ≡ true → nat_abs z ≤ 2 ^ 63
+sized width (pos k) e = small k (fits_more (bits_of width) 63 (widest width) (pos k) e)
   where
-    small : (k : ℕ) → nat_lt k 2147483648 ≡ true → k ≤ 9223372036854775808
-    small k e = let a : k < 2147483648 = grind arith in omega arith
-sized (negsuc k) e = small k e
+    small : (k : ℕ) → nat_lt k 9223372036854775808 ≡ true → k ≤ 9223372036854775808
+    small k e = let a : k < 9223372036854775808 = grind arith in omega arith
+sized width (negsuc k) e = small k (fits_more (bits_of width) 63 (widest width) (negsuc k) e)
   where
-    small : (k : ℕ) → nat_lt k 2147483648 ≡ true → suc k ≤ 9223372036854775808
-    small k e = let a : k < 2147483648 = grind arith in omega arith
+    small : (k : ℕ) → nat_lt k 9223372036854775808 ≡ true → suc k ≤ 9223372036854775808
+    small k e = let a : k < 9223372036854775808 = grind arith in omega arith
 
 zero_sized : (z : ℤ) → ◌≡◌ {A = Value} (Int (pos 0)) (Int z) → nat_abs z ≤ 2 ^ 63
 zero_sized z e = let same : pos 0 ≡ z = cc in subst (λ y. nat_abs y ≤ 2 ^ 63) same (let least : 0 ≤ 9223372036854775808 = omega arith in least)
@@ -154,13 +158,13 @@ nought_sized : (k : Kind) (z : ℤ) → nought k ≡ Int z → nat_abs z ≤ 2 ^
 nought_sized Integer z e = zero_sized z e
 nought_sized Logical z e = let no : ⊥ = cc in absurd no
 
-value_sized : (o r : Option Declaration) (v : Value) (z : ℤ) → IfSome o (λ (e : Declaration). IsStorable fortran90 e.kind v) → value_or o r v ≡ Int z → nat_abs z ≤ 2 ^ 63
-value_sized (Some d) r v z h e = sized z (subst (λ x. is_in_range 31 x ≡ true) e h.within)
-value_sized None (Some d) v z h e = nought_sized d.kind z e
-value_sized None None v z h e = zero_sized z e
+value_sized : (width : Width) (o r : Option Declaration) (v : Value) (z : ℤ) → IfSome o (λ (e : Declaration). IsStorable (fortran90 width) e.kind v) → value_or o r v ≡ Int z → nat_abs z ≤ 2 ^ 63
+value_sized width (Some d) r v z h e = sized width z (subst (λ x. is_in_range (bits_of width) x ≡ true) e h.within)
+value_sized width None (Some d) v z h e = nought_sized d.kind z e
+value_sized width None None v z h e = zero_sized z e
 
-pub cleaned_sized : (q : Program) (fs : List Declaration) (s : Store) → HoldsProgram fortran90 q s → HoldsSized (cleaned q.declarations fs s)
-cleaned_sized q fs s h c z e = value_sized (declared q.declarations c.name) (declared fs c.name) (s.held c) z (h.kinds c) e
+pub cleaned_sized : (width : Width) (q : Program) (fs : List Declaration) (s : Store) → HoldsProgram (fortran90 width) q s → HoldsSized (cleaned q.declarations fs s)
+cleaned_sized width q fs s h c z e = value_sized width (declared q.declarations c.name) (declared fs c.name) (s.held c) z (h.kinds c) e
 
 -- ---- an array that comes later isn't there where it wasn't
 

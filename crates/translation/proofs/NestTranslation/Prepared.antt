@@ -20,6 +20,7 @@ use Rattle.prepared_passes.specs.expansion.Found.{IsFoundInPlaces, expanded_dept
 use Rattle.if_convert.specs.Masks.{mask_name}
 use Rattle.meaning.specs.Blocks.{Surroundings}
 use Rattle.meaning.specs.Dialect.{fortran77}
+use Rattle.tree.specs.declared.width.Width.{Width}
 use Rattle.meaning.specs.Profile77.{IsProgram77, IsStatement}
 use Rattle.meaning.specs.Typed.{declared}
 use Rattle.meaning_laws.proofs.profiles.Lists.{nowhere}
@@ -45,7 +46,7 @@ use Rattle.listing.proofs.programs.Declared.{may_be_split}
 use Rattle.listing.proofs.programs.Sources.{top_made}
 use Rattle.listing.specs.declared.programs.counts.Counts.{Counts}
 use Rattle.listing.specs.programs.Passed.{IsPassedAs}
-use Rattle.listing.specs.programs.Stages.{with_copies}
+use Rattle.listing.specs.programs.Stages.{with_copies_before}
 use Rattle.node_splitting.specs.Split.{made_arrays, with_nodes_split}
 use Rattle.pass_laws.proofs.PreparedNests.Lists.{In-Contains}
 use Rattle.prepared_passes.proofs.ExpandedNests.Sameness.{few_before}
@@ -100,16 +101,16 @@ none_made = record {
   reshape = λ d c. absurd (nowhere d c);
 }
 
-module _ (p : Program) (program : IsProgram77 fortran77 p) where
+module _ (width : Width) (p : Program) (program : IsProgram77 (fortran77 width) p) where
   abbrev bare : List Declaration
   bare = with_declarations p.declarations counter_declarations
 
   with_counters : AreWith p.declarations counter_declarations bare
-  with_counters = with_all made_names p program [] none_made
+  with_counters = with_all width made_names p program [] none_made
 
   hides : (i : ℕ) (d : Declaration) → d.name ≡ mask_name i
       → Contains p.declarations d ⊎ Contains counter_declarations d → ⊥
-  hides i d e (inl c) = mask_long i (subst IsSourceName e (own_source made_names p program [] none_made d c))
+  hides i d e (inl c) = mask_long i (subst IsSourceName e (own_source width made_names p program [] none_made d c))
   hides i d e (inr c) = let n = (of_counter d c).numbered in mask_counter i n.number (sym (n.is ∙ e))
 
   no_masks : (i : ℕ) → declared bare (mask_name i) ≡ None
@@ -123,9 +124,9 @@ module _ (p : Program) (program : IsProgram77 fortran77 p) where
 
   counted : (n m : Nest) → Contains (found_in p) (InNest n) → normalised n ≡ Some m
       → All (λ (l : Loop). IsSomeAnd (declared bare l.variable) IsCounter) (nest_loops m)
-  counted n m is_nest e = λ j d i. declared_counter made_names p program [] none_made _
+  counted n m is_nest e = λ j d i. declared_counter width made_names p program [] none_made _
       (All-from_recursion (λ (l : Loop). IsNumbered l.variable) (nest_loops m)
-      (variables_numbered p bare n m program with_counters.more is_nest e) j d i)
+      (variables_numbered width p bare n m program with_counters.more is_nest e) j d i)
 
 -- ---- nests that passes make have the declarations of the program
 
@@ -164,8 +165,8 @@ same_declarations p counts n m found passed =
 
 -- ---- the nest
 
-module _ (p : Program) (counts : Counts) (n m : Nest) (w : Surroundings) (found : IsFoundNest p n)
-    (program : IsProgram77 fortran77 p) (is_nest : Contains (found_in p) (InNest n)) (passed : IsPassedAs counts n m)
+module _ (width : Width) (p : Program) (counts : Counts) (n m : Nest) (w : Surroundings) (found : IsFoundNest p n)
+    (program : IsProgram77 (fortran77 width) p) (is_nest : Contains (found_in p) (InNest n)) (passed : IsPassedAs counts n m)
     (named : AreSourceNames w.variables) (is : IsStatement p.declarations (as_statement found.loop.loop.loop) w) where
   small : n.number < 2 ^ 32
   small =
@@ -180,9 +181,9 @@ module _ (p : Program) (counts : Counts) (n m : Nest) (w : Surroundings) (found 
       → AreMasksDeclared b counts.masks passed.converted.masks
       → IsBranching passed.normal × IsPrepared b.declarations w.variables normal_depth passed.converted
   passed_nest_is_converted b add counters marks =
-      found_nest_is_converted p n passed.normal passed.converted (bare p program) b.declarations counts.masks w found program
-      is_nest passed.made passed.is_converted (few_converted counts n m passed) (with_counters p program).more
-      (no_masks p program) (counted p program n passed.normal is_nest passed.made) add marks counters small
+      found_nest_is_converted width p n passed.normal passed.converted (bare width p program) b.declarations counts.masks w found program
+      is_nest passed.made passed.is_converted (few_converted counts n m passed) (with_counters width p program).more
+      (no_masks width p program) (counted width p program n passed.normal is_nest passed.made) add marks counters small
       (all_source w.variables named) is
 
   -- where r declares the counters of the nest's loops, and what passes made for it
@@ -190,45 +191,45 @@ module _ (p : Program) (counts : Counts) (n m : Nest) (w : Surroundings) (found 
       (counters : All (λ (l : Loop). IsSomeAnd (declared r.declarations l.variable) IsCounter) (nest_loops passed.normal))
       (made : AreMadeDeclared r m) where
     abbrev with_arrays : Nest
-    with_arrays = with_copies counts.copies (expanded passed.named)
+    with_arrays = with_copies_before counts.copies (expanded passed.named)
 
-    pub passed_nest_is_in_places : IsFoundInPlaces p r passed.normal passed.converted passed.named counts.masks w.variables
+    pub passed_nest_is_in_places : IsFoundInPlaces width p r passed.normal passed.converted passed.named counts.masks w.variables
     passed_nest_is_in_places =
-        found_nest_is_expanded_in_places p r n passed.normal passed.converted passed.named counts.masks w found program
+        found_nest_is_expanded_in_places width p r n passed.normal passed.converted passed.named counts.masks w found program
         is_nest passed.made passed.is_converted (named_so counts n m (made_by counts n m passed))
         (few_so counts n m (made_by counts n m passed)) (few_masks counts n m passed) add counters
         (λ a c. made a (subst (λ (ms : List Made). Contains ms a) (sym (passed_from counts n m passed).made)
         (Contains-append_left (expanded passed.named).made
-        (made_arrays (may_of counts n m passed) (with_copies counts.copies (expanded passed.named))) a c)))
+        (made_arrays (may_of counts n m passed) (with_copies_before counts.copies (expanded passed.named))) a c)))
         small (all_source w.variables named) is
 
     -- reads of it may be copied
-    pub passed_nest_may_be_split : MayBeSplit r.declarations (may_of counts n m passed) (with_copies counts.copies (expanded passed.named))
+    pub passed_nest_may_be_split : MayBeSplit r.declarations (may_of counts n m passed) (with_copies_before counts.copies (expanded passed.named))
     passed_nest_may_be_split =
-        may_be_split p n passed.normal passed.converted passed.named counts.masks counts.copies (may_of counts n m passed)
+        may_be_split width p n passed.normal passed.converted passed.named counts.masks counts.copies (may_of counts n m passed)
         program is_nest passed.made passed.is_converted
         (few_before passed.normal passed.converted passed.named (named_so counts n m (made_by counts n m passed))
         (few_masks counts n m passed))
         (named_so counts n m (made_by counts n m passed)) (few_so counts n m (made_by counts n m passed))
-        (top_made p counts n m program is_nest (made_by counts n m passed)) r.declarations add
+        (top_made width p counts n m program is_nest (made_by counts n m passed)) r.declarations add
         (λ a i. made a (subst (λ (ms : List Made). Contains ms a) (sym (passed_from counts n m passed).made)
         (Contains-append_right (expanded passed.named).made
-        (made_arrays (may_of counts n m passed) (with_copies counts.copies (expanded passed.named))) a
-        (In-Contains a (made_arrays (may_of counts n m passed) (with_copies counts.copies (expanded passed.named))) i))))
+        (made_arrays (may_of counts n m passed) (with_copies_before counts.copies (expanded passed.named))) a
+        (In-Contains a (made_arrays (may_of counts n m passed) (with_copies_before counts.copies (expanded passed.named))) i))))
 
-    pub counted_nest_is_prepared : IsPrepared r.declarations w.variables expanded_depth (with_copies counts.copies (expanded passed.named))
+    pub counted_nest_is_prepared : IsPrepared r.declarations w.variables expanded_depth (with_copies_before counts.copies (expanded passed.named))
     counted_nest_is_prepared =
         prepared_counted r.declarations w.variables expanded_depth (expanded passed.named) counts.copies
         passed_nest_is_in_places.places.behind
 
     pub split_nest_is_prepared_there : IsPrepared r.declarations w.variables (expanded_depth + split_rise)
-        (nodes_split (may_of counts n m passed) (with_copies counts.copies (expanded passed.named)))
+        (nodes_split (may_of counts n m passed) (with_copies_before counts.copies (expanded passed.named)))
     split_nest_is_prepared_there = by (with_nodes_split (may_of counts n m passed) with_arrays) refl
       where
         by : (o : Option Nest)
-            → with_nodes_split (may_of counts n m passed) (with_copies counts.copies (expanded passed.named)) ≡ o
+            → with_nodes_split (may_of counts n m passed) (with_copies_before counts.copies (expanded passed.named)) ≡ o
             → IsPrepared r.declarations w.variables (expanded_depth + split_rise)
-            (unwrap_or o (with_copies counts.copies (expanded passed.named)))
+            (unwrap_or o (with_copies_before counts.copies (expanded passed.named)))
         by None f =
             nothing_deeper r.declarations w.variables expanded_depth split_rise with_arrays counted_nest_is_prepared
         by (Some s) f =

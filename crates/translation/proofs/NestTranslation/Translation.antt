@@ -22,7 +22,7 @@ use Rattle.interchange.specs.Arranged.{arranged, vectors_of}
 use Rattle.linear_forms.specs.Laws.{HoldsSized}
 use Rattle.listing.proofs.programs.Arranging.{arranged_rest, last_depth}
 use Rattle.listing.proofs.programs.Splitting.{split_so}
-use Rattle.listing.specs.programs.Stages.{with_copies}
+use Rattle.listing.specs.programs.Stages.{with_copies_before}
 use Rattle.dependence_graph.specs.declared.graphs.Place.{Place}
 use Rattle.dependence_graph.specs.nest_graph.Graph.{IsGraphOf}
 use Rattle.node_splitting.specs.Split.{made_arrays as arrays_of_copies, with_nodes_split}
@@ -35,6 +35,7 @@ use Rattle.meaning.specs.Agreement.{MomentsAgree}
 use Rattle.meaning.specs.Reads.{names_in_block}
 use Rattle.meaning.specs.Blocks.{Surroundings}
 use Rattle.meaning.specs.Dialect.{fortran77, fortran90}
+use Rattle.tree.specs.declared.width.Width.{Width}
 use Rattle.meaning.specs.Holding.{HoldsProgram}
 use Rattle.meaning.specs.Profile77.{IsDeclaration, IsProgram77}
 use Rattle.meaning.specs.Profile90.{IsBlock}
@@ -53,7 +54,7 @@ use Rattle.nest.specs.Allocations.{allocation_then, allocations_then, block_then
 use Rattle.nest.specs.Bodies.{nest_loops}
 use Rattle.nest.specs.Plain.{Loop, Made, Nest}
 use Rattle.nest_order.specs.runs.Guarded.{variable_cell}
-use Rattle.nest_order.specs.runs.Nests.{is_variable}
+use Rattle.nest_order.specs.runs.Nests.{is_nest_variable}
 use Rattle.nest_order.specs.runs.Touched.{nth_of}
 use Rattle.nest_steps.specs.Keeping.{GoOnAlike}
 use Rattle.pass_laws.proofs.NormalFacts.MadeStatements.{counter_long}
@@ -144,8 +145,8 @@ deallocations_no_label line (a ∷ ms) = by a.extents (deallocations_no_label li
     by [] k = k
     by (e ∷ es) k = (tt, k)
 
-module _ (p q r : Program) (n m : Nest) (b : Block) (w : Surroundings) (found : IsFoundNest p n)
-    (program : IsProgram77 fortran77 p) (is_nest : Contains (found_in p) (InNest n))
+module _ (width : Width) (p q r : Program) (n m : Nest) (b : Block) (w : Surroundings) (found : IsFoundNest p n)
+    (program : IsProgram77 (fortran77 width) p) (is_nest : Contains (found_in p) (InNest n))
     (add : AddMadeNames p.declarations q.declarations) (more : AddMadeNames q.declarations r.declarations)
     (translated : IsTranslatedNest n m b)
     (counters : All (λ (l : Loop). IsSomeAnd (declared r.declarations l.variable) IsCounter)
@@ -160,8 +161,8 @@ module _ (p q r : Program) (n m : Nest) (b : Block) (w : Surroundings) (found : 
   all : AddMadeNames p.declarations r.declarations
   all = add_both p.declarations q.declarations r.declarations add more
 
-  stands : Stands program found.loop
-  stands = loop_stands program found.loop found.stands
+  stands : Stands width program found.loop
+  stands = loop_stands width program found.loop found.stands
 
   abbrev around : List (List ℕ)
   around = stands.round.variables
@@ -173,9 +174,9 @@ module _ (p q r : Program) (n m : Nest) (b : Block) (w : Surroundings) (found : 
   abbrev before : Program
   before = before_expansion r k
 
-  in_places : IsFoundInPlaces p r translated.passed.normal translated.passed.converted k translated.counts.masks around
+  in_places : IsFoundInPlaces width p r translated.passed.normal translated.passed.converted k translated.counts.masks around
   in_places =
-      passed_nest_is_in_places p translated.counts n m stands.round found program is_nest translated.passed stands.named
+      passed_nest_is_in_places width p translated.counts n m stands.round found program is_nest translated.passed stands.named
       stands.is r all counters made
 
   -- and with arrays for these, before its loops are moved
@@ -190,11 +191,11 @@ module _ (p q r : Program) (n m : Nest) (b : Block) (w : Surroundings) (found : 
   may_copy = may_of translated.counts n m translated.passed
 
   abbrev y : Nest
-  y = with_copies translated.counts.copies (expanded translated.passed.named)
+  y = with_copies_before translated.counts.copies (expanded translated.passed.named)
 
   abbrev copying : Nest
   copying = nodes_split (may_of translated.counts n m translated.passed)
-      (with_copies translated.counts.copies (expanded translated.passed.named))
+      (with_copies_before translated.counts.copies (expanded translated.passed.named))
 
   copying_is : translated.passed.split ≡ copying
   copying_is =
@@ -207,22 +208,22 @@ module _ (p q r : Program) (n m : Nest) (b : Block) (w : Surroundings) (found : 
 
   may_be_copied : MayBeSplit r.declarations may_copy y
   may_be_copied =
-      passed_nest_may_be_split p translated.counts n m stands.round found program is_nest translated.passed stands.named
+      passed_nest_may_be_split width p translated.counts n m stands.round found program is_nest translated.passed stands.named
       stands.is r all counters made
 
   prepared_counted : IsPrepared r.declarations around expanded_depth y
   prepared_counted =
-      counted_nest_is_prepared p translated.counts n m stands.round found program is_nest translated.passed stands.named
+      counted_nest_is_prepared width p translated.counts n m stands.round found program is_nest translated.passed stands.named
       stands.is r all counters made
 
   prepared_copying : IsPrepared r.declarations around (expanded_depth + split_rise) copying
   prepared_copying =
-      split_nest_is_prepared_there p translated.counts n m stands.round found program is_nest translated.passed
+      split_nest_is_prepared_there width p translated.counts n m stands.round found program is_nest translated.passed
       stands.named stands.is r all counters made
 
   prepared : IsPrepared r.declarations around last_depth m
   prepared =
-      passed_nest_is_prepared p translated.counts n m stands.round found program is_nest translated.passed stands.named
+      passed_nest_is_prepared width p translated.counts n m stands.round found program is_nest translated.passed stands.named
       stands.is r all counters made
 
   no_label : HasNoLabel b
@@ -238,33 +239,33 @@ module _ (p q r : Program) (n m : Nest) (b : Block) (w : Surroundings) (found : 
       let d = is_declared p.declarations x i in
       let f = declarations.found p.declarations x d.0 d.1 in
       subst IsSourceName f.name
-      (source_name d.0.name (all_at (IsDeclaration fortran77) p.declarations d.0 program.declarations.each f.among).name)
+      (source_name d.0.name (all_at (IsDeclaration (fortran77 width)) p.declarations d.0 program.declarations.each f.among).name)
 
   -- no name of p is that of an array which is made
   of_p : (x : List ℕ) → Contains (names_of p) x → ¬ Contains (made_arrays m) x
   of_p y i = none_of_source r around last_depth m prepared y (own_source y i)
 
-  apart : (d : Cell) → Contains (names_of p) d.name → is_variable (run_nest m) d ≡ false
+  apart : (d : Cell) → Contains (names_of p) d.name → is_nest_variable (run_nest m) d ≡ false
   apart d i =
       no_variable r.declarations around last_depth m prepared d
-      (λ k e. counter_long d.name k (short_name p program d.name i) e)
+      (λ k e. counter_long d.name k (short_name width p program d.name i) e)
 
-  apart_before : (d : Cell) → Contains (names_of p) d.name → is_variable (run_nest copying) d ≡ false
+  apart_before : (d : Cell) → Contains (names_of p) d.name → is_nest_variable (run_nest copying) d ≡ false
   apart_before d i =
       no_variable r.declarations around (expanded_depth + split_rise) copying prepared_copying d
-      (λ k e. counter_long d.name k (short_name p program d.name i) e)
+      (λ k e. counter_long d.name k (short_name width p program d.name i) e)
 
   -- what made the nest m of that one keeps symbols and arrays
-  may_before : (u : State) → MayRun r m u → MayRun r (expanded k) u
+  may_before : (u : State) → MayRun width r m u → MayRun width r (expanded k) u
   may_before u h =
-      of_both (subst (λ (z : Nest). MayRun r z u)
+      of_both (subst (λ (z : Nest). MayRun width r z u)
       (last_is may_copy translated.counts.copies k m (vectors_of translated.passed.graph.edges) last_so) h)
     where
-      of_both : MayRun r (record (expanded k) {
+      of_both : MayRun width r (record (expanded k) {
         body = m.body;
         made = (expanded k).made ++ arrays_of_copies may_copy y;
         copies = copying.copies;
-      }) u → MayRun r (expanded k) u
+      }) u → MayRun width r (expanded k) u
       of_both i = record {
         going = i.going;
         holds = i.holds;
@@ -280,17 +281,17 @@ module _ (p q r : Program) (n m : Nest) (b : Block) (w : Surroundings) (found : 
       }
 
   -- moving loops alone keeps all but the body
-  may_copying : (u : State) → MayRun r m u → MayRun r copying u
-  may_copying u h = of_body (subst (λ (z : Nest). MayRun r z u) same h)
+  may_copying : (u : State) → MayRun width r m u → MayRun width r copying u
+  may_copying u h = of_body (subst (λ (z : Nest). MayRun width r z u) same h)
     where
       same : m ≡ record copying { body = (arranged copying (vectors_of translated.passed.graph.edges)).body }
       same = last_so ∙ arranged_rest copying (vectors_of translated.passed.graph.edges)
 
-      of_body : MayRun r (record copying { body = (arranged copying (vectors_of translated.passed.graph.edges)).body }) u
-          → MayRun r copying u
+      of_body : MayRun width r (record copying { body = (arranged copying (vectors_of translated.passed.graph.edges)).body }) u
+          → MayRun width r copying u
       of_body i = record { going = i.going; holds = i.holds; values = i.values; valued = i.valued; made = i.made }
 
-  module _ (s t : State) (going : s.way ≡ Going) (beside : AreBeside p q s t) (sound : IsSound (does fortran77 None c s).way) where
+  module _ (s t : State) (going : s.way ≡ Going) (beside : AreBeside width p q s t) (sound : IsSound (does (fortran77 width) None c s).way) where
     -- ---- the store from which the nest's run starts: names that q hasn't are as at the opening of a run
 
     abbrev store : Store
@@ -299,11 +300,11 @@ module _ (p q r : Program) (n m : Nest) (b : Block) (w : Surroundings) (found : 
     abbrev t0 : State
     t0 = record t { store = store }
 
-    holds : HoldsProgram fortran77 r store
-    holds = cleaned_holds q r t.store more beside.holds_beside
+    holds : HoldsProgram (fortran77 width) r store
+    holds = cleaned_holds width q r t.store more beside.holds_beside
 
     sized : HoldsSized store
-    sized = cleaned_sized q r.declarations t.store beside.holds_beside
+    sized = cleaned_sized width q r.declarations t.store beside.holds_beside
 
     number : (k : ℕ) (x : List ℕ) → nth_of m.symbols k ≡ Some x → IsNumber r.declarations x
     number k x e =
@@ -314,23 +315,23 @@ module _ (p q r : Program) (n m : Nest) (b : Block) (w : Surroundings) (found : 
     v = values_in m.symbols store
 
     valued : HoldSymbols m.symbols v store
-    valued k x e = (value_there m.symbols store k x e (holds_number fortran77 r store x holds (number k x e))).held
+    valued k x e = (value_there m.symbols store k x e (holds_number (fortran77 width) r store x holds (number k x e))).held
 
     wide : AreOf64Bits v
     wide = values_sized m.symbols store sized
 
     -- ---- the arrays come to be
 
-    allocated : IsAllocated r m v t0
+    allocated : IsAllocated width r m v t0
     allocated =
-        arrays_are_allocated r around last_depth m v t0 all.are prepared wide (of_77 r store holds) valued
+        arrays_are_allocated width r around last_depth m v t0 all.are prepared wide (of_77 width r store holds) valued
         (arrays_free q r around last_depth m t.store more prepared beside.free) (sym beside.way ∙ going)
 
     abbrev u : State
     u = allocated.state
 
-    u_holds : HoldsProgram fortran77 r u.store
-    u_holds = of_90 r u.store allocated.program
+    u_holds : HoldsProgram (fortran77 width) r u.store
+    u_holds = of_90 width r u.store allocated.program
 
     agrees : Agree p s.store u.store
     agrees =
@@ -351,7 +352,7 @@ module _ (p q r : Program) (n m : Nest) (b : Block) (w : Surroundings) (found : 
           (ap (λ (x : State). x.way) allocated.rest ∙ sym beside.way);
     }
 
-    may : MayRun r m u
+    may : MayRun width r m u
     may = record {
       going = allocated.going;
       holds = u_holds;
@@ -361,24 +362,24 @@ module _ (p q r : Program) (n m : Nest) (b : Block) (w : Surroundings) (found : 
     }
 
     u_sized : HoldsSized u.store
-    u_sized = sized_still r around last_depth m v t0 prepared sized allocated
+    u_sized = sized_still width r around last_depth m v t0 prepared sized allocated
 
-    may_there : MayRun r (expanded k) u
+    may_there : MayRun width r (expanded k) u
     may_there = may_before u may
 
     -- ---- from the loop to the nest before private scalars become arrays
 
-    begun : IsBegunBefore p before k u
+    begun : IsBegunBefore width p before k u
     begun =
-        expanded_nest_is_begun_before p before r around unexpanded_depth expanded_depth k u in_places.places
+        expanded_nest_is_begun_before width p before r around unexpanded_depth expanded_depth k u in_places.places
         may_there u_sized
 
     abbrev earlier : State
-    earlier = does_all fortran77 None (loops_then_after k) begun.state
+    earlier = does_all (fortran77 width) None (loops_then_after k) begun.state
 
-    from_loop : GoOnAlike p (does fortran77 None c s) earlier
+    from_loop : GoOnAlike p (does (fortran77 width) None c s) earlier
     from_loop =
-        unexpanded_nest_goes_on_as_loop p before translated.counts n m found s begun.state program is_nest translated.passed
+        unexpanded_nest_goes_on_as_loop width p before translated.counts n m found s begun.state program is_nest translated.passed
         in_places.places.places.before in_places.counters in_places.masks in_places.goes_on begun.holds begun.sized
         (alike_beside p s begun.state u start begun.alike) sound
 
@@ -388,7 +389,7 @@ module _ (p q r : Program) (n m : Nest) (b : Block) (w : Surroundings) (found : 
     -- ---- to the nest with arrays for these
 
     abbrev with_arrays : State
-    with_arrays = does_all fortran77 None (loops_then_after (expanded k)) u
+    with_arrays = does_all (fortran77 width) None (loops_then_after (expanded k)) u
 
     to_arrays : GoOnAlike p earlier with_arrays
     to_arrays = begun.leads (subst IsSound (sym earlier_goes) tt)
@@ -399,7 +400,7 @@ module _ (p q r : Program) (n m : Nest) (b : Block) (w : Surroundings) (found : 
     -- ---- to the nest in which reads are copied
 
     abbrev with_reads : State
-    with_reads = does_all fortran77 None (loops_then_after copying) u
+    with_reads = does_all (fortran77 width) None (loops_then_after copying) u
 
     -- no name of p is that of a copy
     no_copy : (x : List ℕ) → Contains (names_of p) x → ¬ IsCopyName may_copy y x
@@ -408,19 +409,19 @@ module _ (p q r : Program) (n m : Nest) (b : Block) (w : Surroundings) (found : 
     to_reads : GoOnAlike p with_arrays with_reads
     to_reads = by (with_nodes_split may_copy y) refl (may_copying u may)
       where
-        by : (o : Option Nest) → with_nodes_split may_copy y ≡ o → MayRun r (unwrap_or o y) u
-            → GoOnAlike p with_arrays (does_all fortran77 None (loops_then_after (unwrap_or o y)) u)
+        by : (o : Option Nest) → with_nodes_split may_copy y ≡ o → MayRun width r (unwrap_or o y) u
+            → GoOnAlike p with_arrays (does_all (fortran77 width) None (loops_then_after (unwrap_or o y)) u)
         by None e run = record {
           going = arrays_go;
           agree = same_agree p with_arrays.store with_arrays.store (λ x i. refl) (λ d i. refl);
           rest = with_rest with_arrays with_arrays refl refl refl refl;
         }
         by (Some z) e run =
-            let h = split_nest_goes_on_as_nest r around expanded_depth may_copy y z u prepared_counted may_be_copied e run
+            let h = split_nest_goes_on_as_nest width r around expanded_depth may_copy y z u prepared_counted may_be_copied e run
             u_sized (subst IsSound (sym arrays_go) tt) in
             record {
               going = h.going;
-              agree = same_agree p with_arrays.store (does_all fortran77 None (loops_then_after z) u).store
+              agree = same_agree p with_arrays.store (does_all (fortran77 width) None (loops_then_after z) u).store
                   (λ x i. sym (h.bounds x)) (λ d i. sym (h.held d (no_copy d.name i)));
               rest = h.rest;
             }
@@ -431,13 +432,13 @@ module _ (p q r : Program) (n m : Nest) (b : Block) (w : Surroundings) (found : 
     -- ---- to the last nest that the passes make, whose loops are moved
 
     abbrev second : State
-    second = does_all fortran77 None (loops_then_after m) u
+    second = does_all (fortran77 width) None (loops_then_after m) u
 
     together : GoOnTogether copying u with_reads second
     together =
-        subst (λ (z : Nest). GoOnTogether copying u with_reads (does_all fortran77 None (loops_then_after z) u))
+        subst (λ (z : Nest). GoOnTogether copying u with_reads (does_all (fortran77 width) None (loops_then_after z) u))
         (sym last_so)
-        (arranged_nest_goes_on_as_nest r around (expanded_depth + split_rise) copying translated.passed.graph u all.are
+        (arranged_nest_goes_on_as_nest width r around (expanded_depth + split_rise) copying translated.passed.graph u all.are
         prepared_copying
         (subst (λ (z : Nest). IsGraphOf z translated.passed.graph) copying_is translated.passed.is_split.graph)
         (may_copying u may) u_sized (subst IsSound (sym reads_go) tt))
@@ -456,9 +457,9 @@ module _ (p q r : Program) (n m : Nest) (b : Block) (w : Surroundings) (found : 
           (together.lines_beside.had_value ∙ sym together.lines.had_value) (together.beside.way ∙ sym together.going);
     }
 
-    one : GoOnAlike p (does fortran77 None c s) second
+    one : GoOnAlike p (does (fortran77 width) None c s) second
     one =
-        alike_then p (does fortran77 None c s) earlier second from_loop
+        alike_then p (does (fortran77 width) None c s) earlier second from_loop
         (alike_then p earlier with_arrays second to_arrays (alike_then p with_arrays with_reads second to_reads to_last))
 
     second_goes : second.way ≡ Going
@@ -467,18 +468,18 @@ module _ (p q r : Program) (n m : Nest) (b : Block) (w : Surroundings) (found : 
     -- ---- from the nest to what is emitted
 
     abbrev third : State
-    third = does_all fortran90 None (pieces_then_after m ps) u
+    third = does_all (fortran90 width) None (pieces_then_after m ps) u
 
-    guarded : HaveGuardedNames m (setting_at may)
+    guarded : HaveGuardedNames m (setting_at width may)
     guarded =
-        subst (λ (z : Nest). (h : MayRun r z u) → HaveGuardedNames z (setting_at h)) (sym translated.passed.is_arranged)
-        (λ h. arranged_nest_has_guarded_names p before r around unexpanded_depth expanded_depth translated.counts.copies k
+        subst (λ (z : Nest). (h : MayRun width r z u) → HaveGuardedNames z (setting_at width h)) (sym translated.passed.is_arranged)
+        (λ h. arranged_nest_has_guarded_names width p before r around unexpanded_depth expanded_depth translated.counts.copies k
         translated.passed.split may_copy (vectors_of translated.passed.graph.edges) u in_places.places (omega arith)
         may_be_copied copying_is h u_sized) may
 
     two : GoOnTogether m u second third
     two =
-        pieces_go_on_as_nest r around last_depth m ps u all.are prepared translated.are may guarded
+        pieces_go_on_as_nest width r around last_depth m ps u all.are prepared translated.are may guarded
         (subst IsSound (sym second_goes) tt)
 
     near : Agree p second.store third.store
@@ -491,15 +492,15 @@ module _ (p q r : Program) (n m : Nest) (b : Block) (w : Surroundings) (found : 
     -- ---- the arrays go
 
     third_bounds : (x : List ℕ) → third.store.bounds x ≡ u.store.bounds x
-    third_bounds x = sym (two.beside.near.bounds x) ∙ sequential_keeps_bounds (loops_then_after m) u x
+    third_bounds x = sym (two.beside.near.bounds x) ∙ sequential_keeps_bounds width (loops_then_after m) u x
 
-    went : IsDeallocated m third
+    went : IsDeallocated width m third
     went =
-        arrays_are_deallocated r around last_depth m v third prepared wide
+        arrays_are_deallocated width r around last_depth m v third prepared wide
         (made_still m v u.store third.store third_bounds allocated.made) two.beside.way
 
     abbrev fourth : State
-    fourth = does_all fortran90 None (deallocations m.line m.made) third
+    fourth = does_all (fortran90 width) None (deallocations m.line m.made) third
 
     gone : Agree p third.store fourth.store
     gone =
@@ -511,16 +512,16 @@ module _ (p q r : Program) (n m : Nest) (b : Block) (w : Surroundings) (found : 
     abbrev behind : Block
     behind = block_then m.after (deallocations m.line m.made)
 
-    whole : does_all fortran90 None b t0 ≡ fourth
+    whole : does_all (fortran90 width) None b t0 ≡ fourth
     whole =
-        ap (λ (d : Block). does_all fortran90 None d t0) translated.block
+        ap (λ (d : Block). does_all (fortran90 width) None d t0) translated.block
         ∙ (allocated.runs (block_then (block_of_pieces m 1 ps) behind)
-        ∙ (does_then fortran90 None (block_of_pieces m 1 ps) behind u
-        ∙ (does_then fortran90 None m.after (deallocations m.line m.made) (does_all fortran90 None (block_of_pieces m 1 ps) u)
-        ∙ ap (does_all fortran90 None (deallocations m.line m.made)) (sym (does_then fortran90 None (block_of_pieces m 1 ps) m.after u)))))
+        ∙ (does_then (fortran90 width) None (block_of_pieces m 1 ps) behind u
+        ∙ (does_then (fortran90 width) None m.after (deallocations m.line m.made) (does_all (fortran90 width) None (block_of_pieces m 1 ps) u)
+        ∙ ap (does_all (fortran90 width) None (deallocations m.line m.made)) (sym (does_then (fortran90 width) None (block_of_pieces m 1 ps) m.after u)))))
 
-    moved : MomentsAgree q (does_all fortran90 None b t0) (does_all fortran90 None b t)
-    moved = statements_keep_agreement fortran90 None q b t0 t names
+    moved : MomentsAgree q (does_all (fortran90 width) None b t0) (does_all (fortran90 width) None b t)
+    moved = statements_keep_agreement (fortran90 width) None q b t0 t names
         (record {
           store = agree_back q t.store store (cleaned_agrees q r.declarations t.store);
           written = refl;
@@ -530,49 +531,49 @@ module _ (p q r : Program) (n m : Nest) (b : Block) (w : Surroundings) (found : 
           way = refl;
         })
 
-    block_goes : (does_all fortran90 None b t).way ≡ Going
+    block_goes : (does_all (fortran90 width) None b t).way ≡ Going
     block_goes = sym moved.way ∙ (ap (λ (x : State). x.way) whole ∙ went.going)
 
-    from_fourth : Agree q fourth.store (does_all fortran90 None b t).store
-    from_fourth = subst (λ (x : State). Agree q x.store (does_all fortran90 None b t).store) whole moved.store
+    from_fourth : Agree q fourth.store (does_all (fortran90 width) None b t).store
+    from_fourth = subst (λ (x : State). Agree q x.store (does_all (fortran90 width) None b t).store) whole moved.store
 
-    to_block : Agree p (does fortran77 None c s).store (does_all fortran90 None b t).store
+    to_block : Agree p (does (fortran77 width) None c s).store (does_all (fortran90 width) None b t).store
     to_block =
-        agree_on p (does fortran77 None c s).store second.store (does_all fortran90 None b t).store one.agree
-        (agree_on p second.store third.store (does_all fortran90 None b t).store near
-        (agree_on p third.store fourth.store (does_all fortran90 None b t).store gone
-        (agree_fewer p q fourth.store (does_all fortran90 None b t).store (more_names p q add) from_fourth)))
+        agree_on p (does (fortran77 width) None c s).store second.store (does_all (fortran90 width) None b t).store one.agree
+        (agree_on p second.store third.store (does_all (fortran90 width) None b t).store near
+        (agree_on p third.store fourth.store (does_all (fortran90 width) None b t).store gone
+        (agree_fewer p q fourth.store (does_all (fortran90 width) None b t).store (more_names p q add) from_fourth)))
 
-    written : (does fortran77 None c s).written ≡ (does_all fortran90 None b t).written
+    written : (does (fortran77 width) None c s).written ≡ (does_all (fortran90 width) None b t).written
     written =
         sym (ap (λ (x : State). x.written) one.rest)
         ∙ (two.lines.written
         ∙ (sym two.lines_beside.written
         ∙ (sym (ap (λ (x : State). x.written) went.rest) ∙ (sym (ap (λ (x : State). x.written) whole) ∙ moved.written))))
 
-    input : (does fortran77 None c s).input ≡ (does_all fortran90 None b t).input
+    input : (does (fortran77 width) None c s).input ≡ (does_all (fortran90 width) None b t).input
     input =
         sym (ap (λ (x : State). x.input) one.rest)
         ∙ (two.lines.input
         ∙ (sym two.lines_beside.input
         ∙ (sym (ap (λ (x : State). x.input) went.rest) ∙ (sym (ap (λ (x : State). x.input) whole) ∙ moved.input))))
 
-    had_value : (does fortran77 None c s).had_value ≡ (does_all fortran90 None b t).had_value
+    had_value : (does (fortran77 width) None c s).had_value ≡ (does_all (fortran90 width) None b t).had_value
     had_value =
         sym (ap (λ (x : State). x.had_value) one.rest)
         ∙ (two.lines.had_value
         ∙ (sym two.lines_beside.had_value
         ∙ (sym (ap (λ (x : State). x.had_value) went.rest) ∙ (sym (ap (λ (x : State). x.had_value) whole) ∙ moved.had_value))))
 
-    ends : AreBeside p q (does fortran77 None c s) (does_all fortran90 None b t)
+    ends : AreBeside width p q (does (fortran77 width) None c s) (does_all (fortran90 width) None b t)
     ends = record {
       store = to_block;
-      holds = statements_keep_stores fortran77 None p (statement c no_statements) stands.round s
-          (block_is p.declarations p.declarations (as_it_stands fortran77 p program) (statement c no_statements) stands.round
+      holds = statements_keep_stores (fortran77 width) None p (statement c no_statements) stands.round s
+          (block_is p.declarations p.declarations (as_it_stands (fortran77 width) p program) (statement c no_statements) stands.round
           (stands.is, tt)) beside.holds;
-      holds_beside = statements_keep_stores fortran90 None q b w t block beside.holds_beside;
+      holds_beside = statements_keep_stores (fortran90 width) None q b w t block beside.holds_beside;
       free =
-          free_again q r m t.store u.store third.store fourth.store (does_all fortran90 None b t).store beside.free
+          free_again q r m t.store u.store third.store fourth.store (does_all (fortran90 width) None b t).store beside.free
           allocated.others third_bounds went.others went.free from_fourth;
       written = written;
       input = input;
@@ -580,9 +581,9 @@ module _ (p q r : Program) (n m : Nest) (b : Block) (w : Surroundings) (found : 
       way = one.going ∙ sym block_goes;
     }
 
-pub translation_does_as_loop : TranslationDoesAsLoop
-translation_does_as_loop p q r n m b w found program is_nest add more translated counters made names block = (
+pub translation_does_as_loop : (width : Width) → TranslationDoesAsLoop width
+translation_does_as_loop width p q r n m b w found program is_nest add more translated counters made names block = (
   (λ s t going beside sound.
-      ends p q r n m b w found program is_nest add more translated counters made names block s t going beside sound),
-  no_label p q r n m b w found program is_nest add more translated counters made names block,
+      ends width p q r n m b w found program is_nest add more translated counters made names block s t going beside sound),
+  no_label width p q r n m b w found program is_nest add more translated counters made names block,
 )

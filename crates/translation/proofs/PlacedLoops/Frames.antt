@@ -4,6 +4,7 @@ use Rattle.std.proofs.Common.{Option, Some, None, IfSome, Result, Ok, Err}
 use Rattle.std.specs.Str.{bytes_eq}
 use Rattle.meaning.specs.Blocks.{Surroundings}
 use Rattle.meaning.specs.Dialect.{fortran90}
+use Rattle.tree.specs.declared.width.Width.{Width}
 use Rattle.meaning.specs.Profile77.{AreArms, IsBlock, IsStatement}
 use Rattle.meaning.specs.Run.{Act, Cut, Failed, Going, Jumping, State, Stopped, Way, answered, array_assigns, arrives}
 use Rattle.meaning.specs.Run.{assigns, begins_line, checks_range, chooses, counts_step, does, does_all, either, evaluates}
@@ -23,6 +24,7 @@ use Rattle.tree.specs.declared.ops.Fault.{Fault}
 use Rattle.tree.specs.declared.ops.Fault.TheVariants.{InputEnd, Overflow}
 use Rattle.tree.specs.declared.ops.Value.{Value}
 use Rattle.tree.specs.declared.ops.Value.TheVariants.{Int}
+use Rattle.tree.specs.Widths.{bits_of}
 
 -- ---- acts
 
@@ -63,9 +65,9 @@ evaluates_keeps : {A : Type 0} (line : ℕ) (f : Store → Result A Fault) (k : 
 unfolding evaluates
 evaluates_keeps line f k h = while_keeps _ (record { at = λ s x. (answered_keeps line (f s.store) k h).at s x })
 
-counts_keeps : (k : Act) → KeepsBounds k → KeepsBounds (counts_step fortran90 None k)
+counts_keeps : (width : Width) (k : Act) → KeepsBounds k → KeepsBounds (counts_step (fortran90 width) None k)
 unfolding counts_step
-counts_keeps k h = while_keeps _ (record { at = λ s x. h.at (record s { steps = s.steps + 1 }) x })
+counts_keeps width k h = while_keeps _ (record { at = λ s x. h.at (record s { steps = s.steps + 1 }) x })
 
 stores_keeps : (c : Cell) (v : Value) → KeepsBounds (stores c v)
 unfolding stores
@@ -98,9 +100,9 @@ skips_keeps : KeepsBounds skips_line
 unfolding skips_line
 skips_keeps = while_keeps _ (record { at = λ s x. refl })
 
-checks_keeps : (line : ℕ) (v : Value) (k : Act) → KeepsBounds k → KeepsBounds (checks_range fortran90 None line v k)
+checks_keeps : (width : Width) (line : ℕ) (v : Value) (k : Act) → KeepsBounds k → KeepsBounds (checks_range (fortran90 width) None line v k)
 unfolding checks_range
-checks_keeps line v k h = while_keeps _ (either_keeps (is_in_range 31 v) k (goes (Failed Overflow line)) h (goes_keeps (Failed Overflow line)))
+checks_keeps width line v k h = while_keeps _ (either_keeps (is_in_range (bits_of width) v) k (goes (Failed Overflow line)) h (goes_keeps (Failed Overflow line)))
 
 repeated_keeps : (n : ℕ) (f : Act) → KeepsBounds f → KeepsBounds (repeated n f)
 repeated_keeps zero f h = nothing_keeps
@@ -112,93 +114,93 @@ each_keeps (a ∷ xs) f h = record { at = λ s x. (each_keeps xs f h).at (f a s)
 
 -- ---- parts of statements
 
-assigns_keeps : (line : ℕ) (left : Reference) (right : Expression) → KeepsBounds (assigns fortran90 None line left right)
-assigns_keeps line left right =
-    evaluates_keeps line _ _ (λ v. evaluates_keeps line _ _ (λ c. checks_keeps line v _ (counts_keeps _ (stores_keeps c v))))
+assigns_keeps : (width : Width) (line : ℕ) (left : Reference) (right : Expression) → KeepsBounds (assigns (fortran90 width) None line left right)
+assigns_keeps width line left right =
+    evaluates_keeps line _ _ (λ v. evaluates_keeps line _ _ (λ c. checks_keeps width line v _ (counts_keeps width _ (stores_keeps c v))))
 
-arrays_keep : (line : ℕ) (mask : Expression) (left : Reference) (right : Expression)
-    → KeepsBounds (array_assigns fortran90 None line mask left right)
-arrays_keep line mask left right =
-    evaluates_keeps line _ _ (λ ws. each_keeps ws (stores_element fortran90 None) (λ w. counts_keeps _ (stores_keeps w.0 w.1)))
+arrays_keep : (width : Width) (line : ℕ) (mask : Expression) (left : Reference) (right : Expression)
+    → KeepsBounds (array_assigns (fortran90 width) None line mask left right)
+arrays_keep width line mask left right =
+    evaluates_keeps line _ _ (λ ws. each_keeps ws (stores_element (fortran90 width) None) (λ w. counts_keeps width _ (stores_keeps w.0 w.1)))
 
-sets_keeps : (line : ℕ) (x : List ℕ) (z : ℤ) → KeepsBounds (sets_variable fortran90 None line x z)
-sets_keeps line x z = evaluates_keeps line _ _ (λ c. checks_keeps line (Int z) _ (stores_keeps c (Int z)))
+sets_keeps : (width : Width) (line : ℕ) (x : List ℕ) (z : ℤ) → KeepsBounds (sets_variable (fortran90 width) None line x z)
+sets_keeps width line x z = evaluates_keeps line _ _ (λ c. checks_keeps width line (Int z) _ (stores_keeps c (Int z)))
 
-increases_keeps : (line : ℕ) (x : List ℕ) (m3 : ℤ) → KeepsBounds (increases fortran90 None line x m3)
-increases_keeps line x m3 = evaluates_keeps line _ _ (λ c. evaluates_keeps line _ _ (λ z. sets_keeps line x z))
+increases_keeps : (width : Width) (line : ℕ) (x : List ℕ) (m3 : ℤ) → KeepsBounds (increases (fortran90 width) None line x m3)
+increases_keeps width line x m3 = evaluates_keeps line _ _ (λ c. evaluates_keeps line _ _ (λ z. sets_keeps width line x z))
 
-loops_keep : (line : ℕ) (x : List ℕ) (a b c : Expression) (f : Act) → KeepsBounds f → KeepsBounds (loops fortran90 None line x a b c f)
-loops_keep line x a b c f h =
+loops_keep : (width : Width) (line : ℕ) (x : List ℕ) (a b c : Expression) (f : Act) → KeepsBounds f → KeepsBounds (loops (fortran90 width) None line x a b c f)
+loops_keep width line x a b c f h =
     evaluates_keeps line _ _ (λ m1. evaluates_keeps line _ _ (λ m2. evaluates_keeps line _ _ (λ m3.
-    then_keeps (sets_variable fortran90 None line x m1) _ (sets_keeps line x m1)
-    (evaluates_keeps line _ _ (λ n. repeated_keeps n (turn fortran90 None line x m3 f)
-    (counts_keeps _ (then_keeps f (increases fortran90 None line x m3) h (increases_keeps line x m3))))))))
+    then_keeps (sets_variable (fortran90 width) None line x m1) _ (sets_keeps width line x m1)
+    (evaluates_keeps line _ _ (λ n. repeated_keeps n (turn (fortran90 width) None line x m3 f)
+    (counts_keeps width _ (then_keeps f (increases (fortran90 width) None line x m3) h (increases_keeps width line x m3))))))))
 
-reads_keep : (line : ℕ) (c : Cell) → KeepsBounds (reads_into fortran90 None line c)
-reads_keep line c =
-    takes_keeps line _ (λ w. evaluates_keeps line _ _ (λ v. checks_keeps line v _ (counts_keeps _ (stores_keeps c v))))
-
-mutual
-  reads_item_keeps : (i : Item) (line : ℕ) → KeepsBounds (reads_item fortran90 None i line)
-  reads_item_keeps (Single (Named x ps)) line = evaluates_keeps line _ _ (λ cs. each_keeps cs (reads_into fortran90 None line) (reads_keep line))
-  reads_item_keeps (ImpliedDo is x a b c) line = loops_keep line x a b c _ (reads_items_keep is line)
-  reads_item_keeps _ line = nothing_keeps
-
-  reads_items_keep : (is : Items) (line : ℕ) → KeepsBounds (reads_items fortran90 None is line)
-  reads_items_keep no_items line = nothing_keeps
-  reads_items_keep (item i is) line = then_keeps _ _ (reads_item_keeps i line) (reads_items_keep is line)
+reads_keep : (width : Width) (line : ℕ) (c : Cell) → KeepsBounds (reads_into (fortran90 width) None line c)
+reads_keep width line c =
+    takes_keeps line _ (λ w. evaluates_keeps line _ _ (λ v. checks_keeps width line v _ (counts_keeps width _ (stores_keeps c v))))
 
 mutual
-  prints_item_keeps : (i : Item) (line : ℕ) → KeepsBounds (prints_item fortran90 None i line)
-  prints_item_keeps (Single e) line = evaluates_keeps line _ _ (λ vs. writes_keeps (output_text vs))
-  prints_item_keeps (Constant t) line = writes_keeps t
-  prints_item_keeps (ImpliedDo is x a b c) line = loops_keep line x a b c _ (prints_items_keep is line)
+  reads_item_keeps : (width : Width) (i : Item) (line : ℕ) → KeepsBounds (reads_item (fortran90 width) None i line)
+  reads_item_keeps width (Single (Named x ps)) line = evaluates_keeps line _ _ (λ cs. each_keeps cs (reads_into (fortran90 width) None line) (reads_keep width line))
+  reads_item_keeps width (ImpliedDo is x a b c) line = loops_keep width line x a b c _ (reads_items_keep width is line)
+  reads_item_keeps width _ line = nothing_keeps
 
-  prints_items_keep : (is : Items) (line : ℕ) → KeepsBounds (prints_items fortran90 None is line)
-  prints_items_keep no_items line = nothing_keeps
-  prints_items_keep (item i is) line = then_keeps _ _ (prints_item_keeps i line) (prints_items_keep is line)
+  reads_items_keep : (width : Width) (is : Items) (line : ℕ) → KeepsBounds (reads_items (fortran90 width) None is line)
+  reads_items_keep width no_items line = nothing_keeps
+  reads_items_keep width (item i is) line = then_keeps _ _ (reads_item_keeps width i line) (reads_items_keep width is line)
+
+mutual
+  prints_item_keeps : (width : Width) (i : Item) (line : ℕ) → KeepsBounds (prints_item (fortran90 width) None i line)
+  prints_item_keeps width (Single e) line = evaluates_keeps line _ _ (λ vs. writes_keeps (output_text vs))
+  prints_item_keeps width (Constant t) line = writes_keeps t
+  prints_item_keeps width (ImpliedDo is x a b c) line = loops_keep width line x a b c _ (prints_items_keep width is line)
+
+  prints_items_keep : (width : Width) (is : Items) (line : ℕ) → KeepsBounds (prints_items (fortran90 width) None is line)
+  prints_items_keep width no_items line = nothing_keeps
+  prints_items_keep width (item i is) line = then_keeps _ _ (prints_item_keeps width i line) (prints_items_keep width is line)
 
 -- ---- statements of FORTRAN 77
 
-module _ (ds : List Declaration) where
+module _ (width : Width) (ds : List Declaration) where
   mutual
-    statement_keeps : (c : Statement) (w : Surroundings) → IsStatement ds c w → KeepsBounds (does fortran90 None c)
+    statement_keeps : (c : Statement) (w : Surroundings) → IsStatement ds c w → KeepsBounds (does (fortran90 width) None c)
     statement_keeps (Assignment line mark left right) w h =
-        counts_keeps _ (record {
+        counts_keeps width _ (record {
           at = λ s x.
-              (either_keeps (is_array fortran90 (named left) s.store) (array_assigns fortran90 None line (Logic true) left right)
-              (assigns fortran90 None line left right) (arrays_keep line (Logic true) left right) (assigns_keeps line left right)).at s x;
+              (either_keeps (is_array (fortran90 width) (named left) s.store) (array_assigns (fortran90 width) None line (Logic true) left right)
+              (assigns (fortran90 width) None line left right) (arrays_keep width line (Logic true) left right) (assigns_keeps width line left right)).at s x;
         })
-    statement_keeps (If line arms other) w h = arms_keep line arms w (does_all fortran90 None other) h.2 (block_keeps other w h.3)
-    statement_keeps (Do line x a b c body) w h = loops_keep line x a b c _ (block_keeps body _ h.5)
+    statement_keeps (If line arms other) w h = arms_keep line arms w (does_all (fortran90 width) None other) h.2 (block_keeps other w h.3)
+    statement_keeps (Do line x a b c body) w h = loops_keep width line x a b c _ (block_keeps body _ h.5)
     statement_keeps (Label n) w h =
         record { at = λ s x. (either_keeps (arrives n s.way) (goes Going) nothing (goes_keeps Going) nothing_keeps).at s x }
-    statement_keeps (GoTo line n) w h = counts_keeps _ (goes_keeps (Jumping n))
-    statement_keeps (Stop line) w h = counts_keeps _ (goes_keeps Stopped)
+    statement_keeps (GoTo line n) w h = counts_keeps width _ (goes_keeps (Jumping n))
+    statement_keeps (Stop line) w h = counts_keeps width _ (goes_keeps Stopped)
     statement_keeps (Read line is) w h =
-        counts_keeps _ (then_keeps _ _ (begins_keeps line) (then_keeps _ _ (reads_items_keep is line) skips_keeps))
+        counts_keeps width _ (then_keeps _ _ (begins_keeps line) (then_keeps _ _ (reads_items_keep width is line) skips_keeps))
     statement_keeps (Print line is) w h =
-        counts_keeps _ (then_keeps _ _ (writes_keeps (first_blank is)) (then_keeps _ _ (prints_items_keep is line) (writes_keeps (10 ∷ []))))
+        counts_keeps width _ (then_keeps _ _ (writes_keeps (first_blank is)) (then_keeps _ _ (prints_items_keep width is line) (writes_keeps (10 ∷ []))))
     statement_keeps (Where line mark mask left right) w h = absurd h
     statement_keeps (Allocate line x es) w h = absurd h
     statement_keeps (Deallocate line x) w h = absurd h
 
     arms_keep : (line : ℕ) (arms : Arms) (w : Surroundings) (f : Act) → AreArms ds arms w → KeepsBounds f
-        → KeepsBounds (chooses fortran90 None line arms f)
+        → KeepsBounds (chooses (fortran90 width) None line arms f)
     arms_keep line no_arms w f h k = k
     arms_keep line (arm test body more) w f h k =
-        counts_keeps _ (evaluates_keeps line _ _ (λ b. either_keeps b (does_all fortran90 None body) (chooses fortran90 None line more f)
+        counts_keeps width _ (evaluates_keeps line _ _ (λ b. either_keeps b (does_all (fortran90 width) None body) (chooses (fortran90 width) None line more f)
         (block_keeps body w h.1) (arms_keep line more w f h.2 k)))
 
-    block_keeps : (b : Block) (w : Surroundings) → IsBlock ds b w → KeepsBounds (does_all fortran90 None b)
+    block_keeps : (b : Block) (w : Surroundings) → IsBlock ds b w → KeepsBounds (does_all (fortran90 width) None b)
     block_keeps no_statements w h = nothing_keeps
-    block_keeps (statement c cs) w h = then_keeps (does fortran90 None c) (does_all fortran90 None cs) (statement_keeps c _ h.0) (block_keeps cs w h.1)
+    block_keeps (statement c cs) w h = then_keeps (does (fortran90 width) None c) (does_all (fortran90 width) None cs) (statement_keeps c _ h.0) (block_keeps cs w h.1)
 
-pub source_keeps_free : (p q : Program) (c : Statement) (w : Surroundings) → IsBlock p.declarations (one c) w → (t : State)
-    → AreUnallocated q t.store → AreUnallocated q (does fortran90 None c t).store
-source_keeps_free p q c w h t free x =
+pub source_keeps_free : (width : Width) (p q : Program) (c : Statement) (w : Surroundings) → IsBlock p.declarations (one c) w → (t : State)
+    → AreUnallocated q t.store → AreUnallocated q (does (fortran90 width) None c t).store
+source_keeps_free width p q c w h t free x =
     subst (λ (b : Option (List (ℤ × ℤ))). IfSome (declared q.declarations x) (λ (d : Declaration). IsUnallocated d.extent b))
-    (sym ((block_keeps p.declarations (one c) w h).at t x)) (free x)
+    (sym ((block_keeps width p.declarations (one c) w h).at t x)) (free x)
 
 -- ---- the opening store
 

@@ -9,17 +9,18 @@ use Rattle.tree.specs.Plain.{Statement, Assignment, Where, If, Do, Label, GoTo, 
 use Rattle.tree.specs.Plain.{Deallocate, Arms, no_arms, arm, Block, no_statements, statement, block, Program}
 use Rattle.meaning.specs.Blocks.{label_of, labels_of}
 use Rattle.meaning.specs.Dialect.{fortran77}
+use Rattle.tree.specs.declared.width.Width.{Width}
 use Rattle.meaning.specs.Labels.{IsWithoutRepeats, all_labels_of, all_labels_in, all_labels_in_arms}
 use Rattle.meaning.specs.Labels.{targets_of, targets_in, targets_in_arms}
 use Rattle.meaning.specs.Profile77.{IsProgram77}
-use Rattle.find_nests.specs.Loops.{Placed, SourceLoop, loops_in, loops_in_arms, loops_in_block}
-use Rattle.translation.specs.loop_placing.Placing.{block_at, instead, placed, placed_arms, placed_in, statements_in}
-use Rattle.find_nests.specs.nest_parts.Numbers.{after, after_arms, after_block, next}
+use Rattle.find_nests.specs.Loops.{SurroundedLoop, SourceLoop, loops_in, loops_in_arms, loops_in_block}
+use Rattle.translation.specs.loop_placing.Placing.{block_at, instead, placed_statement, placed_arms, placed_in, statements_of_block}
+use Rattle.find_nests.specs.nest_parts.Numbers.{number_after, after_arms, after_block, next_loop_number}
 use Rattle.translation.specs.placed_profile.Laws.{SuitsLoop}
 
 -- ---- blocks and lists
 
-pub block_of_statements : (b : Block) → block (statements_in b) ≡ b
+pub block_of_statements : (b : Block) → block (statements_of_block b) ≡ b
 block_of_statements no_statements = refl
 block_of_statements (statement c cs) = ap (statement c) (block_of_statements cs)
 
@@ -176,29 +177,29 @@ each_named : (ns ms : List ℕ) → ((n : ℕ) → Contains ns n → Contains ms
 each_named [] ms h = tt
 each_named (n ∷ ns) ms h = (h n (here n ns), each_named ns ms (λ m c. h m (there n ns m c)))
 
-module _ (p q : Program) (blocks : List (Option Block)) where
+module _ (width : Width) (p q : Program) (blocks : List (Option Block)) where
   -- each block suits the one of these loops that has its number
-  abbrev pub Suit : List Placed → Type 0
-  Suit ls = (l : Placed) (b : Block) → Contains ls l → block_at blocks (next l.loop.before) ≡ Some b → SuitsLoop p q l b
+  abbrev pub Suit : List SurroundedLoop → Type 0
+  Suit ls = (l : SurroundedLoop) (b : Block) → Contains ls l → block_at blocks (next_loop_number l.loop.before) ≡ Some b → SuitsLoop p q l b
 
   -- ---- the labels of a block itself
 
-  loop_top : (l : Placed) (inside : Block) (o : Option Block) → block_at blocks (next l.loop.before) ≡ o
-      → ((b : Block) → block_at blocks (next l.loop.before) ≡ Some b → SuitsLoop p q l b)
+  loop_top : (l : SurroundedLoop) (inside : Block) (o : Option Block) → block_at blocks (next_loop_number l.loop.before) ≡ o
+      → ((b : Block) → block_at blocks (next_loop_number l.loop.before) ≡ Some b → SuitsLoop p q l b)
       → labels_of (block (instead blocks o (Do l.loop.loop.line l.loop.loop.variable l.loop.loop.first l.loop.loop.last l.loop.loop.step inside))) ≡ []
   loop_top l inside None e h = refl
   loop_top l inside (Some b) e h = ap labels_of (block_of_statements b) ∙ labels_are_none b (h b e).block.labels
 
   statement_top : (k : ℕ) (around : List SourceLoop) (c : Statement) → Suit (loops_in k around c)
-      → labels_of (block (placed blocks k c)) ≡ label_of c
+      → labels_of (block (placed_statement blocks k c)) ≡ label_of c
   statement_top k around (Assignment line mark left right) h = refl
   statement_top k around (Where line mark mask left right) h = refl
   statement_top k around (If line arms other) h = refl
   statement_top k around (Do line x first last step body) h =
       let own : SourceLoop = record { line = line; variable = x; first = first; last = last; step = step; body = body } in
-      loop_top (record { around = around; loop = record { before = k; loop = own } }) (block (placed_in blocks (next k) body))
-      (block_at blocks (next k)) refl
-      (λ b e. h (record { around = around; loop = record { before = k; loop = own } }) b (here _ (loops_in_block (next k) (around ++ own ∷ []) body)) e)
+      loop_top (record { around = around; loop = record { before = k; loop = own } }) (block (placed_in blocks (next_loop_number k) body))
+      (block_at blocks (next_loop_number k)) refl
+      (λ b e. h (record { around = around; loop = record { before = k; loop = own } }) b (here _ (loops_in_block (next_loop_number k) (around ++ own ∷ []) body)) e)
   statement_top k around (Label n) h = refl
   statement_top k around (GoTo line n) h = refl
   statement_top k around (Stop line) h = refl
@@ -211,16 +212,16 @@ module _ (p q : Program) (blocks : List (Option Block)) where
       → labels_of (block (placed_in blocks k b)) ≡ labels_of b
   block_top k around no_statements h = refl
   block_top k around (statement c cs) h =
-      labels-append (placed blocks k c) (placed_in blocks (after k c) cs)
+      labels-append (placed_statement blocks k c) (placed_in blocks (number_after k c) cs)
       ∙ both _ _ _ _
-      (statement_top k around c (λ l b i e. h l b (Contains-append_left (loops_in k around c) (loops_in_block (after k c) around cs) l i) e))
-      (block_top (after k c) around cs (λ l b i e. h l b (Contains-append_right (loops_in k around c) (loops_in_block (after k c) around cs) l i) e))
+      (statement_top k around c (λ l b i e. h l b (Contains-append_left (loops_in k around c) (loops_in_block (number_after k c) around cs) l i) e))
+      (block_top (number_after k c) around cs (λ l b i e. h l b (Contains-append_right (loops_in k around c) (loops_in_block (number_after k c) around cs) l i) e))
 
   -- ---- all labels
 
   -- a loop with a block for it, or with what its body becomes
-  loop_keeps : (l : Placed) (inside : Block) (o : Option Block) → block_at blocks (next l.loop.before) ≡ o
-      → ((b : Block) → block_at blocks (next l.loop.before) ≡ Some b → SuitsLoop p q l b)
+  loop_keeps : (l : SurroundedLoop) (inside : Block) (o : Option Block) → block_at blocks (next_loop_number l.loop.before) ≡ o
+      → ((b : Block) → block_at blocks (next_loop_number l.loop.before) ≡ Some b → SuitsLoop p q l b)
       → KeepIn (all_labels_in l.loop.loop.body) (targets_in l.loop.loop.body) inside
       → KeepIn (all_labels_in l.loop.loop.body) (targets_in l.loop.loop.body)
       (block (instead blocks o (Do l.loop.loop.line l.loop.loop.variable l.loop.loop.first l.loop.loop.last l.loop.loop.step inside)))
@@ -241,7 +242,7 @@ module _ (p q : Program) (blocks : List (Option Block)) where
 
   mutual
     statement_keeps : (k : ℕ) (around : List SourceLoop) (c : Statement) → Suit (loops_in k around c) → IsWithoutRepeats (all_labels_of c)
-        → KeepIn (all_labels_of c) (targets_of c) (block (placed blocks k c))
+        → KeepIn (all_labels_of c) (targets_of c) (block (placed_statement blocks k c))
     statement_keeps k around (Assignment line mark left right) h o = keep_same [] [] o
     statement_keeps k around (Where line mark mask left right) h o = keep_same [] [] o
     statement_keeps k around (If line arms other) h o =
@@ -254,10 +255,10 @@ module _ (p q : Program) (blocks : List (Option Block)) where
         (keep_both (all_labels_in_arms arms) (all_labels_in other) (targets_in_arms arms) (targets_in other) _ _ _ _ o m n)
     statement_keeps k around (Do line x first last step body) h o =
         let own : SourceLoop = record { line = line; variable = x; first = first; last = last; step = step; body = body } in
-        loop_keeps (record { around = around; loop = record { before = k; loop = own } }) (block (placed_in blocks (next k) body))
-        (block_at blocks (next k)) refl
-        (λ b e. h (record { around = around; loop = record { before = k; loop = own } }) b (here _ (loops_in_block (next k) (around ++ own ∷ []) body)) e)
-        (block_keeps (next k) (around ++ own ∷ []) body (λ l b i e. h l b (there _ (loops_in_block (next k) (around ++ own ∷ []) body) l i) e) o)
+        loop_keeps (record { around = around; loop = record { before = k; loop = own } }) (block (placed_in blocks (next_loop_number k) body))
+        (block_at blocks (next_loop_number k)) refl
+        (λ b e. h (record { around = around; loop = record { before = k; loop = own } }) b (here _ (loops_in_block (next_loop_number k) (around ++ own ∷ []) body)) e)
+        (block_keeps (next_loop_number k) (around ++ own ∷ []) body (λ l b i e. h l b (there _ (loops_in_block (next_loop_number k) (around ++ own ∷ []) body) l i) e) o)
     statement_keeps k around (Label n) h o = keep_same (n ∷ []) [] o
     statement_keeps k around (GoTo line n) h o = keep_same [] (n ∷ []) o
     statement_keeps k around (Stop line) h o = keep_same [] [] o
@@ -280,19 +281,19 @@ module _ (p q : Program) (blocks : List (Option Block)) where
         → KeepIn (all_labels_in b) (targets_in b) (block (placed_in blocks k b))
     block_keeps k around no_statements h o = keep_same [] [] o
     block_keeps k around (statement c cs) h o =
-        let a = statement_keeps k around c (λ l b i e. h l b (Contains-append_left (loops_in k around c) (loops_in_block (after k c) around cs) l i) e)
+        let a = statement_keeps k around c (λ l b i e. h l b (Contains-append_left (loops_in k around c) (loops_in_block (number_after k c) around cs) l i) e)
         (front_once (all_labels_of c) (all_labels_in cs) o) in
-        let b = block_keeps (after k c) around cs (λ l b i e. h l b (Contains-append_right (loops_in k around c) (loops_in_block (after k c) around cs) l i) e)
+        let b = block_keeps (number_after k c) around cs (λ l b i e. h l b (Contains-append_right (loops_in k around c) (loops_in_block (number_after k c) around cs) l i) e)
         (rest_once (all_labels_of c) (all_labels_in cs) o) in
-        let xs = placed blocks k c in
-        let ys = placed_in blocks (after k c) cs in
+        let xs = placed_statement blocks k c in
+        let ys = placed_in blocks (number_after k c) cs in
         subst (λ (ns : List ℕ). Keep (all_labels_of c ++ all_labels_in cs) (targets_of c ++ targets_in cs) ns (targets_in (block (xs ++ ys)))) (sym (all_labels-append xs ys))
         (subst (λ (ns : List ℕ). Keep (all_labels_of c ++ all_labels_in cs) (targets_of c ++ targets_in cs) (all_labels_in (block xs) ++ all_labels_in (block ys)) ns) (sym (targets-append xs ys))
         (keep_both (all_labels_of c) (all_labels_in cs) (targets_of c) (targets_in cs) _ _ _ _ o a b))
 
   -- ---- programs
 
-  pub labels_suit : IsProgram77 fortran77 p → Suit (loops_in_block 0 [] p.body) → LabelsSuit (block (placed_in blocks 0 p.body))
+  pub labels_suit : IsProgram77 (fortran77 width) p → Suit (loops_in_block 0 [] p.body) → LabelsSuit (block (placed_in blocks 0 p.body))
   labels_suit is suit =
       let k = block_keeps 0 [] p.body suit is.labels in
       let d = block (placed_in blocks 0 p.body) in

@@ -15,15 +15,16 @@ use Rattle.meaning.specs.Blocks.{Surroundings, before_labels, labels_of, outermo
 use Rattle.meaning.specs.Labels.{has_arm}
 use Rattle.meaning.specs.Blocks.{within_loop}
 use Rattle.meaning.specs.Dialect.{fortran77}
+use Rattle.tree.specs.declared.width.Width.{Width}
 use Rattle.meaning.specs.SymbolicNames.{IsLongName}
 use Rattle.meaning.specs.Profile77 as source
 use Rattle.meaning.specs.Profile90 as target
 use Rattle.meaning.specs.Profile90.{IsProgram90}
 use Rattle.meaning.specs.Typed.{declared, dimensions, number_of_subscripts}
 use Rattle.meaning.specs.Typed77.{IsDoVariable}
-use Rattle.find_nests.specs.Loops.{Placed, SourceLoop, as_statement, loops_in, loops_in_arms, loops_in_block}
-use Rattle.translation.specs.loop_placing.Placing.{block_at, instead, placed, placed_arms, placed_in}
-use Rattle.find_nests.specs.nest_parts.Numbers.{after, after_arms, after_block, next}
+use Rattle.find_nests.specs.Loops.{SurroundedLoop, SourceLoop, as_statement, loops_in, loops_in_arms, loops_in_block}
+use Rattle.translation.specs.loop_placing.Placing.{block_at, instead, placed_statement, placed_arms, placed_in}
+use Rattle.find_nests.specs.nest_parts.Numbers.{number_after, after_arms, after_block, next_loop_number}
 use Rattle.translation.proofs.PlacedProfile.Labels.{LabelsSuit, Suit, block_of_statements, block_top, labels-append}
 use Rattle.translation.proofs.PlacedProfile.Labels.{labels_suit}
 use Rattle.translation.proofs.PlacedProfile.SourceNames.{source_name}
@@ -47,16 +48,16 @@ blocks_together ds (x ∷ xs) ys w h g = (
 
 -- ---- variables of loops
 
-pub variable_name : {p : Program} → source.IsProgram77 fortran77 p → (x : List ℕ) (around : List (List ℕ))
+pub variable_name : (width : Width) {p : Program} → source.IsProgram77 (fortran77 width) p → (x : List ℕ) (around : List (List ℕ))
     → IsDoVariable p.declarations x around → IsSourceName x
-variable_name {p} is x around h = by (declared p.declarations x) refl h.integer.0
+variable_name width {p} is x around h = by (declared p.declarations x) refl h.integer.0
   where
     by : (o : Option Declaration) → declared p.declarations x ≡ o
         → IsSomeAnd o (λ d. (Integer ≡ d.kind) × (number_of_subscripts no_subscripts ≡ length (dimensions d.extent))) → IsSourceName x
     by None e k = absurd k
     by (Some d) e k =
         let f = found p.declarations x d e in
-        subst IsSourceName f.name (source_name d.name (all_at (source.IsDeclaration fortran77) p.declarations d is.declarations.each f.among).name)
+        subst IsSourceName f.name (source_name d.name (all_at (source.IsDeclaration (fortran77 width)) p.declarations d is.declarations.each f.among).name)
 
 pub one_more : (x : List ℕ) (xs : List (List ℕ)) → IsSourceName x → AreSourceNames xs → AreSourceNames (x ∷ xs)
 one_more x xs h v y c = by (cases_of x xs y c)
@@ -67,14 +68,14 @@ one_more x xs h v y c = by (cases_of x xs y c)
 
 -- ---- the walk
 
-module _ (p q : Program) (is : source.IsProgram77 fortran77 p) (blocks : List (Option Block)) where
+module _ (width : Width) (p q : Program) (is : source.IsProgram77 (fortran77 width) p) (blocks : List (Option Block)) where
   some_arm : (k : ℕ) (ms : Arms) → IsTrue (has_arm ms) → IsTrue (has_arm (placed_arms blocks k ms))
   some_arm k no_arms h = h
   some_arm k (arm test body ms) h = h
 
   -- a loop with a block for it, or with what its body becomes
-  loop_is : (l : Placed) (inside : Block) (w : Surroundings) (o : Option Block) → block_at blocks (next l.loop.before) ≡ o
-      → ((b : Block) → block_at blocks (next l.loop.before) ≡ Some b → SuitsLoop p q l b)
+  loop_is : (l : SurroundedLoop) (inside : Block) (w : Surroundings) (o : Option Block) → block_at blocks (next_loop_number l.loop.before) ≡ o
+      → ((b : Block) → block_at blocks (next_loop_number l.loop.before) ≡ Some b → SuitsLoop p q l b)
       → AreSourceNames w.variables → source.IsStatement p.declarations (as_statement l.loop.loop) w → target.IsStatement q.declarations (as_statement l.loop.loop) w
       → target.IsBlock q.declarations inside (within_loop l.loop.loop.variable w)
       → target.IsBlock q.declarations
@@ -84,8 +85,8 @@ module _ (p q : Program) (is : source.IsProgram77 fortran77 p) (blocks : List (O
       subst (λ d. target.IsBlock q.declarations d w) (sym (block_of_statements b)) ((h b e).profile w v s)
 
   mutual
-    statement_is : (k : ℕ) (around : List SourceLoop) (c : Statement) (w : Surroundings) → Suit p q blocks (loops_in k around c) → AreSourceNames w.variables
-        → source.IsStatement p.declarations c w → target.IsStatement q.declarations c w → target.IsBlock q.declarations (block (placed blocks k c)) w
+    statement_is : (k : ℕ) (around : List SourceLoop) (c : Statement) (w : Surroundings) → Suit width p q blocks (loops_in k around c) → AreSourceNames w.variables
+        → source.IsStatement p.declarations c w → target.IsStatement q.declarations c w → target.IsBlock q.declarations (block (placed_statement blocks k c)) w
     statement_is k around (Assignment line mark left right) w h v s t = alone q.declarations (Assignment line mark left right) w t
     statement_is k around (Where line mark mask left right) w h v s t = alone q.declarations (Where line mark mask left right) w t
     statement_is k around (If line arms other) w h v s t = (
@@ -99,11 +100,11 @@ module _ (p q : Program) (is : source.IsProgram77 fortran77 p) (blocks : List (O
     )
     statement_is k around (Do line x first last step body) w h v s t =
         let own : SourceLoop = record { line = line; variable = x; first = first; last = last; step = step; body = body } in
-        loop_is (record { around = around; loop = record { before = k; loop = own } }) (block (placed_in blocks (next k) body)) w
-        (block_at blocks (next k)) refl
-        (λ b e. h (record { around = around; loop = record { before = k; loop = own } }) b (here _ (loops_in_block (next k) (around ++ own ∷ []) body)) e)
+        loop_is (record { around = around; loop = record { before = k; loop = own } }) (block (placed_in blocks (next_loop_number k) body)) w
+        (block_at blocks (next_loop_number k)) refl
+        (λ b e. h (record { around = around; loop = record { before = k; loop = own } }) b (here _ (loops_in_block (next_loop_number k) (around ++ own ∷ []) body)) e)
         v s t
-        (block_is (next k) (around ++ own ∷ []) body (within_loop x w) (λ l b i e. h l b (there _ (loops_in_block (next k) (around ++ own ∷ []) body) l i) e) (one_more x w.variables (variable_name is x w.variables s.1) v) s.5 t.5)
+        (block_is (next_loop_number k) (around ++ own ∷ []) body (within_loop x w) (λ l b i e. h l b (there _ (loops_in_block (next_loop_number k) (around ++ own ∷ []) body) l i) e) (one_more x w.variables (variable_name width is x w.variables s.1) v) s.5 t.5)
     statement_is k around (Label n) w h v s t = alone q.declarations (Label n) w t
     statement_is k around (GoTo line n) w h v s t = alone q.declarations (GoTo line n) w t
     statement_is k around (Stop line) w h v s t = alone q.declarations (Stop line) w t
@@ -112,7 +113,7 @@ module _ (p q : Program) (is : source.IsProgram77 fortran77 p) (blocks : List (O
     statement_is k around (Allocate line x es) w h v s t = alone q.declarations (Allocate line x es) w t
     statement_is k around (Deallocate line x) w h v s t = alone q.declarations (Deallocate line x) w t
 
-    arms_are : (k : ℕ) (around : List SourceLoop) (ms : Arms) (w : Surroundings) → Suit p q blocks (loops_in_arms k around ms) → AreSourceNames w.variables
+    arms_are : (k : ℕ) (around : List SourceLoop) (ms : Arms) (w : Surroundings) → Suit width p q blocks (loops_in_arms k around ms) → AreSourceNames w.variables
         → source.AreArms p.declarations ms w → target.AreArms q.declarations ms w → target.AreArms q.declarations (placed_arms blocks k ms) w
     arms_are k around no_arms w h v s t = tt
     arms_are k around (arm test body ms) w h v s t = (
@@ -121,26 +122,26 @@ module _ (p q : Program) (is : source.IsProgram77 fortran77 p) (blocks : List (O
       arms_are (after_block k body) around ms w (λ l b i e. h l b (Contains-append_right (loops_in_block k around body) (loops_in_arms (after_block k body) around ms) l i) e) v s.2 t.2,
     )
 
-    block_is : (k : ℕ) (around : List SourceLoop) (b : Block) (w : Surroundings) → Suit p q blocks (loops_in_block k around b) → AreSourceNames w.variables
+    block_is : (k : ℕ) (around : List SourceLoop) (b : Block) (w : Surroundings) → Suit width p q blocks (loops_in_block k around b) → AreSourceNames w.variables
         → source.IsBlock p.declarations b w → target.IsBlock q.declarations b w → target.IsBlock q.declarations (block (placed_in blocks k b)) w
     block_is k around no_statements w h v s t = tt
     block_is k around (statement c cs) w h v s t =
-        let later : Suit p q blocks (loops_in_block (after k c) around cs) = λ l b i e. h l b (Contains-append_right (loops_in k around c) (loops_in_block (after k c) around cs) l i) e in
-        blocks_together q.declarations (placed blocks k c) (placed_in blocks (after k c) cs) w
-        (subst (λ ns. target.IsBlock q.declarations (block (placed blocks k c)) (before_labels ns w)) (sym (block_top p q blocks (after k c) around cs later))
-        (statement_is k around c (before_labels (labels_of cs) w) (λ l b i e. h l b (Contains-append_left (loops_in k around c) (loops_in_block (after k c) around cs) l i) e) v s.0 t.0))
-        (block_is (after k c) around cs w later v s.1 t.1)
+        let later : Suit width p q blocks (loops_in_block (number_after k c) around cs) = λ l b i e. h l b (Contains-append_right (loops_in k around c) (loops_in_block (number_after k c) around cs) l i) e in
+        blocks_together q.declarations (placed_statement blocks k c) (placed_in blocks (number_after k c) cs) w
+        (subst (λ ns. target.IsBlock q.declarations (block (placed_statement blocks k c)) (before_labels ns w)) (sym (block_top width p q blocks (number_after k c) around cs later))
+        (statement_is k around c (before_labels (labels_of cs) w) (λ l b i e. h l b (Contains-append_left (loops_in k around c) (loops_in_block (number_after k c) around cs) l i) e) v s.0 t.0))
+        (block_is (number_after k c) around cs w later v s.1 t.1)
 
 -- ---- programs
 
-pub placed_program_is_program : PlacedProgramIsProgram
-placed_program_is_program p q blocks is add name same suit few =
-    let whole = source_with_made_names fortran77 p q.declarations is add in
-    let labels : LabelsSuit q.body = subst LabelsSuit (sym same) (labels_suit p q blocks is suit) in
+pub placed_program_is_program : (width : Width) → PlacedProgramIsProgram width
+placed_program_is_program width p q blocks is add name same suit few =
+    let whole = source_with_made_names (fortran77 width) p q.declarations is add in
+    let labels : LabelsSuit q.body = subst LabelsSuit (sym same) (labels_suit width p q blocks is suit) in
     record {
       name = subst (λ o. IfSome o IsLongName) (sym name) whole.name;
       declarations = add.are;
-      statements = subst (λ b. target.IsBlock q.declarations b outermost) (sym same) (block_is p q is blocks 0 [] p.body outermost suit (λ x c. absurd (nowhere x c)) is.statements whole.statements);
+      statements = subst (λ b. target.IsBlock q.declarations b outermost) (sym same) (block_is width p q is blocks 0 [] p.body outermost suit (λ x c. absurd (nowhere x c)) is.statements whole.statements);
       blocks = few.deep;
       labels = labels.once;
       named = labels.named;

@@ -4,12 +4,12 @@ use Rattle.std.proofs.Common.{List, [], ◌∷◌, ◌++◌, append_assoc, lengt
 use Rattle.emission.specs.emission_marks.Marks.{Marked, Round, Under, marked, marked_in}
 use Rattle.tree.specs.Plain.{Block, Expression, Statement, block, no_statements, statement}
 use Rattle.last_values.specs.Behind.{stands_behind}
-use Rattle.last_values.specs.ValuesBehind.{left_behind, or_none, values_behind}
-use Rattle.last_values.specs.Endings.{Texts, after_statements, ending, last_texts, only_where, where_all_hold}
+use Rattle.last_values.specs.ValuesBehind.{left_behind, statements_or_none, values_behind}
+use Rattle.last_values.specs.Endings.{Texts, after_statements, loop_ending, last_texts, only_where, where_all_hold}
 use Rattle.last_values.specs.Endings.{all_hold, assigned, with_last_forms}
 use Rattle.last_values.specs.declared.behind.NestedLoop.{NestedLoop}
 use Rattle.inductions.specs.Ends as inductions
-use Rattle.inductions.specs.Found.{inductions_by, outermost}
+use Rattle.inductions.specs.Found.{inductions_by, outermost_trip}
 use Rattle.inductions.specs.Nests.{endings, inductions_substituted, substituted_by, with_inductions}
 use Rattle.inductions.specs.declared.found.Induction.{Induction}
 use Rattle.nest.specs.Allocations.{block_then}
@@ -39,7 +39,7 @@ joined_all : {A : Type 0} (f : A → List Statement) → ((x : A) → AreUnmarke
 joined_all f h [] round = refl
 joined_all f h (x ∷ xs) round = joined (f x) (flat_map f xs) (h x) (joined_all f h xs) round
 
-ending_is : (line : ℕ) (v : List ℕ) (trip : Trip) (t : Texts) → AreUnmarked (ending line v trip t)
+ending_is : (line : ℕ) (v : List ℕ) (trip : Trip) (t : Texts) → AreUnmarked (loop_ending line v trip t)
 ending_is line v trip t round = by (is_positive trip) (is_known trip)
   where
     by : (b c : Bool)
@@ -57,22 +57,22 @@ where_is line (t ∷ ts) cs h round =
     ap (λ (xs : List Marked). ((xs ++ []) ++ []) ++ []) (h (round ++ Under (all_hold t ts) ∷ []))
 
 behind_is : (symbols : List (List ℕ)) (line : ℕ) (round : List NormalLoop) (r : NormalLoop)
-    → AreUnmarked (or_none (after_statements symbols line round r))
+    → AreUnmarked (statements_or_none (after_statements symbols line round r))
 unfolding after_statements
 behind_is symbols line round r = by (have_plain_trips round) (last_forms (length symbols) round r)
   where
     by : (b : Bool) (o : Option LastForms)
-        → AreUnmarked (or_none (cond b (with_last_forms symbols line round r o) None))
+        → AreUnmarked (statements_or_none (cond b (with_last_forms symbols line round r o) None))
     by true None around = refl
     by true (Some f) around =
-        where_is line (tests_of symbols round) (ending line r.variable f.trip (last_texts symbols round f))
+        where_is line (tests_of symbols round) (loop_ending line r.variable f.trip (last_texts symbols round f))
         (ending_is line r.variable f.trip (last_texts symbols round f)) around
     by false o around = refl
 
 left_is : (n : Nest) (l : NestedLoop) → AreUnmarked (left_behind n.symbols n.line (loops_in n) n.body l)
 left_is n l = by (stands_behind (length n.symbols) (loops_in n) n.body l.turns.variable)
   where
-    by : (b : Bool) → AreUnmarked (cond b (or_none (after_statements n.symbols n.line l.round l.turns)) [])
+    by : (b : Bool) → AreUnmarked (cond b (statements_or_none (after_statements n.symbols n.line l.round l.turns)) [])
     by true around = behind_is n.symbols n.line l.round l.turns around
     by false around = refl
 
@@ -106,21 +106,21 @@ marked_then (statement c cs) b =
 -- ---- of inductions
 
 induction_is : (symbols : List (List ℕ)) (line : ℕ) (t : Trip) (d : Induction)
-    → AreUnmarked (inductions.ending symbols line t d ∷ [])
+    → AreUnmarked (inductions.induction_ending symbols line t d ∷ [])
 induction_is symbols line t d round = by (is_positive t)
   where
     by : (b : Bool)
-        → marked_in round (block (cond b (assigned line d.name (inductions.end_text symbols t d))
-        (only_where line (at_least_one (trip_text [] symbols [] t)) (assigned line d.name (inductions.end_text symbols t d) ∷ [])) ∷ []))
+        → marked_in round (block (cond b (assigned line d.name (inductions.induction_end_text symbols t d))
+        (only_where line (at_least_one (trip_text [] symbols [] t)) (assigned line d.name (inductions.induction_end_text symbols t d) ∷ [])) ∷ []))
         ≡ []
     by true = refl
     by false = refl
 
 inductions_are : (symbols : List (List ℕ)) (line : ℕ) (t : Trip) (ds : List Induction)
-    → AreUnmarked (map (inductions.ending symbols line t) ds)
+    → AreUnmarked (map (inductions.induction_ending symbols line t) ds)
 inductions_are symbols line t [] round = refl
 inductions_are symbols line t (d ∷ ds) round =
-    joined (inductions.ending symbols line t d ∷ []) (map (inductions.ending symbols line t) ds)
+    joined (inductions.induction_ending symbols line t d ∷ []) (map (inductions.induction_ending symbols line t) ds)
     (induction_is symbols line t d) (inductions_are symbols line t ds) round
 
 -- behind what isn't marked
@@ -133,7 +133,7 @@ with_unmarked n o (d ∷ ds) h =
 
 pub substituted_unmarked : (n : Nest) → marked_in [] n.after ≡ [] → marked_in [] (inductions_substituted n).after ≡ []
 unfolding inductions_substituted
-substituted_unmarked n h = by (outermost n.body)
+substituted_unmarked n h = by (outermost_trip n.body)
   where
     by : (o : Option (List ℕ × Trip)) → marked_in [] (substituted_by n o).after ≡ []
     by None = h

@@ -4,7 +4,7 @@ use Rattle.std.proofs.Common.{Option, None, Some, Bool, List, [], map, length, C
 use Rattle.std.specs.Prelude.{is_some}
 use Rattle.meaning_laws.proofs.arrays.Members.{in_map}
 use Rattle.components.proofs.ListLaws.{Each-from}
-use Rattle.components.specs.Lists.{Distinct, In}
+use Rattle.components.specs.Lists.{Distinct, IsMember}
 use Rattle.dependence_graph.specs.declared.graphs.Graph.{Graph}
 use Rattle.emission.proofs.EmissionMarks.Pieces.{emission_is_marked}
 use Rattle.emission.proofs.EmissionMarks.Together.{emission_keeps_together}
@@ -12,10 +12,11 @@ use Rattle.emission.specs.emission_marks.Marks.{Marked, Round, marked_at, marked
 use Rattle.emission.specs.emission_pieces.Pieces.{Pieces, translation}
 use Rattle.find_nests.proofs.FoundLaws.{found_nest_is_loop}
 use Rattle.find_nests.specs.Found.{Found, InNest, found_in}
-use Rattle.find_nests.specs.Loops.{Placed, loops_in_block}
+use Rattle.find_nests.specs.Loops.{SurroundedLoop, loops_in_block}
 use Rattle.find_nests.specs.declared.reasons.Reason.{Reason}
 use Rattle.meaning.specs.Blocks.{outermost}
 use Rattle.meaning.specs.Dialect.{fortran77}
+use Rattle.tree.specs.declared.width.Width.{Width}
 use Rattle.meaning.specs.Profile77.{IsProgram77}
 use Rattle.tree.specs.Plain.{Block, Declaration, Program, block}
 use Rattle.translation.proofs.LoopNumbers.Behind.{next_from_one}
@@ -24,16 +25,16 @@ use Rattle.translation.specs.loop_numbers.Numbers.{loop_number, nests_among}
 use Rattle.translation.specs.loop_placing.Placing.{block_at, placed_in}
 use Rattle.translation.proofs.NestBlocks.Blocks.{each_right}
 use Rattle.translation.specs.nest_blocks.Answers.{AreAnswers, ArePlaced, Puts, nests_by}
-use Rattle.find_nests.specs.nest_parts.Numbers.{next}
+use Rattle.find_nests.specs.nest_parts.Numbers.{next_loop_number}
 use Rattle.nest.specs.Bodies.{nest_statements}
 use Rattle.nest.specs.Plain.{Nest}
 use Rattle.listing.specs.programs.Listing.{ListedNest, no_counts}
 use Rattle.meaning_laws.proofs.profiles.Lists.{nowhere}
-use Rattle.translation.specs.nest_blocks.LoopAnswers.{Answer, Kept, Translated, found_by}
+use Rattle.translation.specs.nest_blocks.LoopAnswers.{LoopAnswer, Kept, Translated, found_by}
 use Rattle.translation.specs.program_translation.Translated.{IsPlacedBy}
 use Rattle.translation.specs.program_marks.Laws.{TranslationIsMarked}
 use Rattle.translation.specs.program_marks.Marks.{AreBlocksOf, AreOfNests, HasBlock, IsMarkedAsListed, IsMarkedByGraph}
-use Rattle.translation.specs.program_marks.Marks.{IsNumbered, IsOfNests, StandsMarked, numbers_of, within, without_line}
+use Rattle.translation.specs.program_marks.Marks.{IsNumbered, IsOfNests, StandsMarked, mark_numbers_of, within, without_line}
 use Rattle.translation.proofs.ProgramMarks.Answers.{among_listed, by_answer}
 use Rattle.translation.proofs.ProgramMarks.Found.{among_nests, among_numbers, numbers_are, of_found, same_nest}
 use Rattle.translation.proofs.ProgramMarks.Members.{IsOfBlock, keys_are, one_of, stands_in}
@@ -41,7 +42,7 @@ use Rattle.translation.proofs.ProgramMarks.Nests.{marked_by_graph}
 use Rattle.translation.proofs.ProgramMarks.Once.{AreKeysOf, HasOwnKeys, keys_of_nest, keys_once}
 use Rattle.translation.proofs.ProgramMarks.Placed.{AreNests, AreOfBlocks, block_marks, is_nest, marks_of}
 
-module _ (p : Program) (answers : List Answer) (blocks : List (Option Block)) (program : IsProgram77 fortran77 p)
+module _ (width : Width) (p : Program) (answers : List LoopAnswer) (blocks : List (Option Block)) (program : IsProgram77 (fortran77 width) p)
     (are : AreAnswers p answers) (placed : ArePlaced answers blocks) where
   -- ---- one nest
 
@@ -54,7 +55,7 @@ module _ (p : Program) (answers : List Answer) (blocks : List (Option Block)) (p
       → IsMarkedByGraph (record { found = n; normal = m; graph = g }) (translation m ps)
   marked_nest n m g ps c =
       let right = each_right no_counts answers (Translated n m g ps) are.right c in
-      marked_by_graph p right.0 n m g ps program (found n m g ps c) right.1 emission_is_marked emission_keeps_together
+      marked_by_graph width p right.0 n m g ps program (found n m g ps c) right.1 emission_is_marked emission_keeps_together
 
   -- what stands in the place of the loop with this number
   record HasNest (k : ℕ) (t : Block) : Type 0 where
@@ -69,7 +70,7 @@ module _ (p : Program) (answers : List Answer) (blocks : List (Option Block)) (p
   nest_at : (k : ℕ) (t : Block) → 1 ≤ k → block_at blocks k ≡ Some t → HasNest k t
   nest_at k t from e = let w = placed.only k t from e in by w.0 w.1 w.2
     where
-      by : (a : Answer) → Contains answers a → Puts a k t → HasNest k t
+      by : (a : LoopAnswer) → Contains answers a → Puts a k t → HasNest k t
       by (Translated n m g ps) c puts = record {
         nest = n;
         normal = m;
@@ -88,7 +89,7 @@ module _ (p : Program) (answers : List Answer) (blocks : List (Option Block)) (p
 
   -- ---- all of them
 
-  abbrev loops : List Placed
+  abbrev loops : List SurroundedLoop
   loops = loops_in_block 0 [] p.body
 
   abbrev nests : List Nest
@@ -96,11 +97,11 @@ module _ (p : Program) (answers : List Answer) (blocks : List (Option Block)) (p
 
   are_nests : AreNests blocks p.declarations loops
   are_nests z t c e =
-      let w = nest_at (next z.loop.before) t (next_from_one z.loop.before) e in
+      let w = nest_at (next_loop_number z.loop.before) t (next_from_one z.loop.before) e in
       let f = found_nest_is_loop p w.nest (found w.nest w.normal w.graph w.pieces w.among) in
       let same : f.loop ≡ z =
-      loops_are_numbered p f.loop z program f.stands c (sym (ap loop_number f.is) ∙ w.number) in
-      subst (λ (y : Placed). is_nest p.declarations y ≡ true) same
+      loops_are_numbered width p f.loop z program f.stands c (sym (ap loop_number f.is) ∙ w.number) in
+      subst (λ (y : SurroundedLoop). is_nest p.declarations y ≡ true) same
       (ap₂ (λ (b : Bool) (o : Option Reason). b && not (is_some o)) f.outermost f.no_reason)
 
   abbrev body : Block
@@ -216,7 +217,7 @@ module _ (p : Program) (answers : List Answer) (blocks : List (Option Block)) (p
 
   -- ---- no mark stands twice
 
-  own_keys : (n : Nest) → In n nests → HasOwnKeys blocks n
+  own_keys : (n : Nest) → IsMember n nests → HasOwnKeys blocks n
   own_keys n i = by (block_at blocks (loop_number n)) refl
     where
       from : 1 ≤ loop_number n
@@ -224,25 +225,25 @@ module _ (p : Program) (answers : List Answer) (blocks : List (Option Block)) (p
           let f = found_nest_is_loop p n (of_found (found_in p) n i) in
           subst (λ k. 1 ≤ k) (sym (ap loop_number f.is)) (next_from_one f.loop.loop.before)
 
-      of_block : (t : Block) → HasNest (loop_number n) t → AreKeysOf n.number (map numbers_of (marked_in [] t))
+      of_block : (t : Block) → HasNest (loop_number n) t → AreKeysOf n.number (map mark_numbers_of (marked_in [] t))
       of_block t w =
           let among = among_nests (found_in p) w.nest (found w.nest w.normal w.graph w.pieces w.among) in
-          let same = same_nest nests (nests_are_numbered p program) w.nest n among i w.number in
+          let same = same_nest nests (nests_are_numbered width p program) w.nest n among i w.number in
           let is = marked_nest w.nest w.normal w.graph w.pieces w.among in
-          subst (λ k. AreKeysOf k (map numbers_of (marked_in [] t))) (is.number ∙ ap (λ (m : Nest). m.number) same)
-          (subst (λ b. AreKeysOf w.normal.number (map numbers_of (marked_in [] b))) (sym w.is)
+          subst (λ k. AreKeysOf k (map mark_numbers_of (marked_in [] t))) (is.number ∙ ap (λ (m : Nest). m.number) same)
+          (subst (λ b. AreKeysOf w.normal.number (map mark_numbers_of (marked_in [] b))) (sym w.is)
           (keys_of_nest w.normal w.graph.edges _ (marked_in [] (translation w.normal w.pieces)) is.marked))
 
       by : (o : Option Block) → block_at blocks (loop_number n) ≡ o → HasOwnKeys blocks n
-      by None e = subst (λ o. AreKeysOf n.number (map numbers_of (marks_of o))) (sym e) (record { once = tt; own = tt })
+      by None e = subst (λ o. AreKeysOf n.number (map mark_numbers_of (marks_of o))) (sym e) (record { once = tt; own = tt })
       by (Some t) e =
-          subst (λ o. AreKeysOf n.number (map numbers_of (marks_of o))) (sym e)
+          subst (λ o. AreKeysOf n.number (map mark_numbers_of (marks_of o))) (sym e)
           (of_block t (nest_at (loop_number n) t from e))
 
-  once : Distinct (map numbers_of (marked_in [] body))
+  once : Distinct (map mark_numbers_of (marked_in [] body))
   once =
       subst Distinct (sym (keys_are blocks (marked_in [] body) (map loop_number nests) all_marks))
-      (keys_once blocks nests (nests_are_numbered p program) (Each-from (HasOwnKeys blocks) nests own_keys))
+      (keys_once blocks nests (nests_are_numbered width p program) (Each-from (HasOwnKeys blocks) nests own_keys))
 
   marks : AreOfNests (nests_by answers) body
   marks = record { only = only; each = each; once = once }
@@ -254,6 +255,6 @@ module _ (p : Program) (answers : List Answer) (blocks : List (Option Block)) (p
     marks = subst (AreOfNests (nests_by answers)) (sym t.body) marks;
   }
 
-pub translation_is_marked : TranslationIsMarked
-translation_is_marked p q answers blocks made program are placed t =
-    marked_as_listed p answers blocks program are placed q made t
+pub translation_is_marked : (width : Width) → TranslationIsMarked width
+translation_is_marked width p q answers blocks made program are placed t =
+    marked_as_listed width p answers blocks program are placed q made t

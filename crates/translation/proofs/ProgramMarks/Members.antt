@@ -7,7 +7,7 @@ use Rattle.meaning_laws.proofs.arrays.Members.{in_map, of_map}
 use Rattle.emission.specs.emission_marks.Marks.{Marked, Round}
 use Rattle.tree.specs.Plain.{Block}
 use Rattle.meaning_laws.proofs.profiles.Lists.{cases_of, nowhere}
-use Rattle.translation.specs.program_marks.Marks.{numbers_of, within}
+use Rattle.translation.specs.program_marks.Marks.{mark_numbers_of, within}
 use Rattle.translation.proofs.ProgramMarks.Placed.{AreOfBlocks, marks_at}
 
 module _ (blocks : List (Option Block)) where
@@ -55,15 +55,15 @@ module _ (blocks : List (Option Block)) where
           let r = more d in (r.0, back (within r.0 own) (Contains-append_right first h.1 (within r.0 own) r.1))
 
   abbrev pub keys_at : ℕ → List (ℕ × ℕ)
-  keys_at k = map numbers_of (marks_at blocks k)
+  keys_at k = map mark_numbers_of (marks_at blocks k)
 
-  same_keys : (outer : List Round) (ys : List Marked) → map numbers_of (map (within outer) ys) ≡ map numbers_of ys
+  same_keys : (outer : List Round) (ys : List Marked) → map mark_numbers_of (map (within outer) ys) ≡ map mark_numbers_of ys
   same_keys outer [] = refl
-  same_keys outer (y ∷ ys) = ap (λ ks. numbers_of y ∷ ks) (same_keys outer ys)
+  same_keys outer (y ∷ ys) = ap (λ ks. mark_numbers_of y ∷ ks) (same_keys outer ys)
 
-  pub keys_are : (xs : List Marked) (ks : List ℕ) → AreOfBlocks blocks xs ks → map numbers_of xs ≡ flat_map keys_at ks
-  keys_are xs [] h = ap (map numbers_of) h
+  pub keys_are : (xs : List Marked) (ks : List ℕ) → AreOfBlocks blocks xs ks → map mark_numbers_of xs ≡ flat_map keys_at ks
+  keys_are xs [] h = ap (map mark_numbers_of) h
   keys_are xs (k ∷ ks) h =
-      ap (map numbers_of) h.2
-      ∙ (map-append numbers_of (map (within h.0) (marks_at blocks k)) h.1
+      ap (map mark_numbers_of) h.2
+      ∙ (map-append mark_numbers_of (map (within h.0) (marks_at blocks k)) h.1
       ∙ ap₂ (λ (us vs : List (ℕ × ℕ)). us ++ vs) (same_keys h.0 (marks_at blocks k)) (keys_are h.1 ks h.3))

@@ -11,6 +11,7 @@ use Rattle.emission.specs.emission_pieces.Pieces.{Pieces, block_of_pieces, trans
 use Rattle.find_nests.proofs.FoundLaws.{found_nest_is_loop}
 use Rattle.find_nests.specs.Found.{InNest, found_in}
 use Rattle.meaning.specs.Dialect.{fortran77}
+use Rattle.tree.specs.declared.width.Width.{Width}
 use Rattle.meaning.specs.Profile77.{IsProgram77}
 use Rattle.tree.specs.Plain.{Block, Program}
 use Rattle.emission.proofs.GraphEdges.Leading.{edges_lead}
@@ -77,7 +78,7 @@ module _ (n m : Nest) where
       by true g = of_loops (nested_loops n.symbols [] n.body) g
       by false g = let no : ⊥ = cc in absurd no
 
-module _ (p : Program) (counts : Counts) (n m : Nest) (g : Graph) (ps : Pieces) (program : IsProgram77 fortran77 p)
+module _ (width : Width) (p : Program) (counts : Counts) (n m : Nest) (g : Graph) (ps : Pieces) (program : IsProgram77 (fortran77 width) p)
     (found : Contains (found_in p) (InNest n)) (translated : IsTranslation counts n m g ps) where
   abbrev passed : IsPassedAs counts n m
   passed = translated.passed
@@ -98,7 +99,7 @@ module _ (p : Program) (counts : Counts) (n m : Nest) (g : Graph) (ps : Pieces) 
   last_so = passed_from counts n m passed
 
   ready : IsReady m
-  ready = sources.ready counts n m (record { program = p; profile = program; among = found }) (made_by counts n m passed)
+  ready = sources.ready width counts n m (record { program = p; profile = program; among = found }) (made_by counts n m passed)
 
   after_is : passed.anew.after ≡ behind n
   after_is =
@@ -106,7 +107,7 @@ module _ (p : Program) (counts : Counts) (n m : Nest) (g : Graph) (ps : Pieces) 
       ∙ ap (λ (z : Nest). block_then z.after (behind n)) (found_nest_is_loop p n found).is
 
   plain : IsPlain m.body
-  plain = (sources.prepared_for p counts n m program found (made_by counts n m passed)).plain
+  plain = (sources.prepared_for width p counts n m program found (made_by counts n m passed)).plain
 
   may_be : MayBeMarked m g.edges
   may_be = record {

@@ -5,7 +5,7 @@ use Rattle.std.specs.Prelude.{nat_le}
 use Rattle.array_form.specs.forms.Statements.{loops_assigned, stand_in_guard}
 use Rattle.array_form.specs.holds.Surroundings.{surroundings_of}
 use Rattle.components.proofs.ListLaws.{Each-append, Each-In, Pairwise-append}
-use Rattle.components.specs.Lists.{Distinct, Each, In, Pairwise}
+use Rattle.components.specs.Lists.{Distinct, Each, IsMember, Pairwise}
 use Rattle.dependence_graph.specs.declared.graphs.Edge.{Edge}
 use Rattle.dependence_graph.specs.declared.graphs.Hold.{Hold}
 use Rattle.emission.specs.emission_marks.ByGraph.{AreMarked}
@@ -15,17 +15,17 @@ use Rattle.tree.specs.Plain.{Block}
 use Rattle.translation.specs.loop_numbers.Numbers.{ComesBefore, loop_number}
 use Rattle.nest.specs.Plain.{Nest}
 use Rattle.meaning_laws.proofs.profiles.Lists.{here, there}
-use Rattle.translation.specs.program_marks.Marks.{numbers_of}
+use Rattle.translation.specs.program_marks.Marks.{mark_numbers_of}
 use Rattle.translation.proofs.ProgramMarks.Members.{keys_at}
 
 -- ---- within a nest
 
-by_statement : (xs : List Marked) → Distinct (map (λ (x : Marked). x.mark.stmt) xs) → Distinct (map numbers_of xs)
+by_statement : (xs : List Marked) → Distinct (map (λ (x : Marked). x.mark.stmt) xs) → Distinct (map mark_numbers_of xs)
 by_statement [] h = tt
 by_statement (x ∷ xs) h = (each xs h.0, by_statement xs h.1)
   where
     each : (ys : List Marked) → Each (λ k. ¬ (x.mark.stmt ≡ k)) (map (λ (y : Marked). y.mark.stmt) ys)
-        → Each (λ k. ¬ (numbers_of x ≡ k)) (map numbers_of ys)
+        → Each (λ k. ¬ (mark_numbers_of x ≡ k)) (map mark_numbers_of ys)
     each [] g = tt
     each (y ∷ ys) g = ((λ e. g.0 (ap (λ (k : ℕ × ℕ). k.1) e)), each ys g.1)
 
@@ -44,7 +44,7 @@ abbrev IsOf : ℕ → ℕ × ℕ → Type 0
 IsOf number k = k.0 ≡ number
 
 all_of : (number : ℕ) (xs : List Marked) → ((x : Marked) → Contains xs x → x.mark.nest ≡ number)
-    → Each (IsOf number) (map numbers_of xs)
+    → Each (IsOf number) (map mark_numbers_of xs)
 all_of number [] h = tt
 all_of number (x ∷ xs) h = (h x (here x xs), all_of number xs (λ y c. h y (there x xs y c)))
 
@@ -54,7 +54,7 @@ pub record AreKeysOf (number : ℕ) (ks : List (ℕ × ℕ)) : Type 0 where
   pub own : Each (IsOf number) ks
 
 pub keys_of_nest : (m : Nest) (edges : List Edge) (holds : List Hold) (xs : List Marked) → AreMarked m edges holds xs
-    → AreKeysOf m.number (map numbers_of xs)
+    → AreKeysOf m.number (map mark_numbers_of xs)
 keys_of_nest m edges holds xs h = record {
   once = by_statement xs h.once;
   own = all_of m.number xs of_nest;
@@ -89,7 +89,7 @@ module _ (blocks : List (Option Block)) where
       Pairwise-append (λ (x y : ℕ × ℕ). ¬ (x ≡ y)) (keys_at blocks (loop_number n)) (keys_of ns) g.0.once
       (keys_once ns h.1 g.1) apart
     where
-      apart : (x y : ℕ × ℕ) → In x (keys_at blocks (loop_number n)) → In y (keys_of ns) → ¬ (x ≡ y)
+      apart : (x y : ℕ × ℕ) → IsMember x (keys_at blocks (loop_number n)) → IsMember y (keys_of ns) → ¬ (x ≡ y)
       apart x y i j e =
           let own = Each-In (IsOf n.number) (keys_at blocks (loop_number n)) g.0.own x i in
           let less = Each-In (λ (k : ℕ × ℕ). n.number < k.0) (keys_of ns) (later n ns h.0 g.1) y j in

@@ -9,12 +9,12 @@ use Rattle.tree.specs.Plain.{Statement, Assignment, Where, If, Do, Label, GoTo, 
 use Rattle.tree.specs.Plain.{Deallocate, Arms, no_arms, arm, Block, no_statements, statement, block, Declaration}
 use Rattle.tree.specs.declared.stmts.Mark.{Mark}
 use Rattle.emission.specs.emission_marks.Marks.{Marked, Otherwise, Round, Turning, Under, marked_in, marked_under, with_mark}
-use Rattle.find_nests.specs.Loops.{Placed, SourceLoop, loops_in, loops_in_arms, loops_in_block}
+use Rattle.find_nests.specs.Loops.{SurroundedLoop, SourceLoop, loops_in, loops_in_arms, loops_in_block}
 use Rattle.find_nests.specs.LookedAt.{is_in_no_nest, is_kept}
 use Rattle.meaning.specs.Blocks.{Surroundings, before_labels, labels_of, within_loop}
 use Rattle.meaning.specs.Profile77.{AreArms, IsBlock, IsStatement}
-use Rattle.translation.specs.loop_placing.Placing.{block_at, instead, placed, placed_arms, placed_in, statements_in}
-use Rattle.find_nests.specs.nest_parts.Numbers.{after, after_arms, after_block, next}
+use Rattle.translation.specs.loop_placing.Placing.{block_at, instead, placed_statement, placed_arms, placed_in, statements_of_block}
+use Rattle.find_nests.specs.nest_parts.Numbers.{number_after, after_arms, after_block, next_loop_number}
 use Rattle.meaning_laws.proofs.profiles.Lists.{here, there}
 use Rattle.translation.specs.program_marks.Marks.{within}
 use Rattle.translation.proofs.ProgramMarks.Rounds.{all_within, marked_after}
@@ -36,27 +36,27 @@ no_other false b h = let no : ⊥ = cc in absurd no
 
 -- ---- loops that are nests
 
-abbrev pub number_of : Placed → ℕ
-number_of z = next z.loop.before
+abbrev pub number_of : SurroundedLoop → ℕ
+number_of z = next_loop_number z.loop.before
 
 module _ (ds : List Declaration) where
   -- a loop without a reason that stands in no nest
-  abbrev pub is_nest : Placed → Bool
+  abbrev pub is_nest : SurroundedLoop → Bool
   is_nest z = is_in_no_nest ds z && not (is_kept ds z.loop.loop)
 
-  abbrev pub nest_numbers : List Placed → List ℕ
+  abbrev pub nest_numbers : List SurroundedLoop → List ℕ
   nest_numbers zs = map number_of (filter is_nest zs)
 
-  nest_numbers-append : (zs ys : List Placed) → nest_numbers (zs ++ ys) ≡ nest_numbers zs ++ nest_numbers ys
+  nest_numbers-append : (zs ys : List SurroundedLoop) → nest_numbers (zs ++ ys) ≡ nest_numbers zs ++ nest_numbers ys
   nest_numbers-append zs ys =
       ap (map number_of) (filter-append is_nest zs ys) ∙ map-append number_of (filter is_nest zs) (filter is_nest ys)
 
-  with_first : (z : Placed) (zs : List Placed) (b : Bool) → is_nest z ≡ b
+  with_first : (z : SurroundedLoop) (zs : List SurroundedLoop) (b : Bool) → is_nest z ≡ b
       → nest_numbers (z ∷ zs) ≡ cond b (number_of z ∷ nest_numbers zs) (nest_numbers zs)
   with_first z zs true e = ap (λ c. map number_of (cond c (z ∷ filter is_nest zs) (filter is_nest zs))) e
   with_first z zs false e = ap (λ c. map number_of (cond c (z ∷ filter is_nest zs) (filter is_nest zs))) e
 
-  none_of_both : (zs ys : List Placed) → nest_numbers zs ≡ [] → nest_numbers ys ≡ [] → nest_numbers (zs ++ ys) ≡ []
+  none_of_both : (zs ys : List SurroundedLoop) → nest_numbers zs ≡ [] → nest_numbers ys ≡ [] → nest_numbers (zs ++ ys) ≡ []
   none_of_both zs ys e f = nest_numbers-append zs ys ∙ ap₂ (λ (ks js : List ℕ). ks ++ js) e f
 
   -- no loop in a nest is one
@@ -70,10 +70,10 @@ module _ (ds : List Declaration) where
         (none_in_arms arms k around h) (none_in_block other (after_arms k arms) around h)
     none_in (Do line x a b c body) k around h =
         let l : SourceLoop = record { line = line; variable = x; first = a; last = b; step = c; body = body } in
-        let z : Placed = record { around = around; loop = record { before = k; loop = l } } in
-        with_first z (loops_in_block (next k) (around ++ l ∷ []) body) false
+        let z : SurroundedLoop = record { around = around; loop = record { before = k; loop = l } } in
+        with_first z (loops_in_block (next_loop_number k) (around ++ l ∷ []) body) false
         (no_first (list_all (is_kept ds) around) (not (is_kept ds l)) h)
-        ∙ none_in_block body (next k) (around ++ l ∷ [])
+        ∙ none_in_block body (next_loop_number k) (around ++ l ∷ [])
         (list_all-append (is_kept ds) around (l ∷ [])
         ∙ no_first (list_all (is_kept ds) around) (list_all (is_kept ds) (l ∷ [])) h)
     none_in (Label n) k around h = refl
@@ -95,8 +95,8 @@ module _ (ds : List Declaration) where
         → nest_numbers (loops_in_block k around b) ≡ []
     none_in_block no_statements k around h = refl
     none_in_block (statement c cs) k around h =
-        none_of_both (loops_in k around c) (loops_in_block (after k c) around cs) (none_in c k around h)
-        (none_in_block cs (after k c) around h)
+        none_of_both (loops_in k around c) (loops_in_block (number_after k c) around cs) (none_in c k around h)
+        (none_in_block cs (number_after k c) around h)
 
 -- ---- the marks of blocks
 
@@ -126,36 +126,36 @@ module _ (blocks : List (Option Block)) where
 
   module _ (ds : List Declaration) where
     -- each of these loops with a block is a nest
-    abbrev pub AreNests : List Placed → Type 0
-    AreNests zs = (z : Placed) (t : Block) → Contains zs z → block_at blocks (next z.loop.before) ≡ Some t
+    abbrev pub AreNests : List SurroundedLoop → Type 0
+    AreNests zs = (z : SurroundedLoop) (t : Block) → Contains zs z → block_at blocks (next_loop_number z.loop.before) ≡ Some t
         → is_nest ds z ≡ true
 
-    abbrev Of : List Marked → List Placed → Type 0
+    abbrev Of : List Marked → List SurroundedLoop → Type 0
     Of xs zs = AreOfBlocks xs (nest_numbers ds zs)
 
-    both : (xs ys : List Marked) (zs ws : List Placed) → Of xs zs → Of ys ws → Of (xs ++ ys) (zs ++ ws)
+    both : (xs ys : List Marked) (zs ws : List SurroundedLoop) → Of xs zs → Of ys ws → Of (xs ++ ys) (zs ++ ws)
     both xs ys zs ws h g =
         subst (AreOfBlocks (xs ++ ys)) (sym (nest_numbers-append ds zs ws))
         (joined xs ys (nest_numbers ds zs) (nest_numbers ds ws) h g)
 
-    nothing_behind : (xs : List Marked) (zs : List Placed) → Of xs zs → Of (xs ++ []) zs
+    nothing_behind : (xs : List Marked) (zs : List SurroundedLoop) → Of xs zs → Of (xs ++ []) zs
     nothing_behind xs zs h = subst (λ ys. Of ys zs) (sym (append-nil xs)) h
 
-    block_of_statements : (b : Block) → block (statements_in b) ≡ b
+    block_of_statements : (b : Block) → block (statements_of_block b) ≡ b
     block_of_statements no_statements = refl
     block_of_statements (statement c cs) = ap (statement c) (block_of_statements cs)
 
-    abbrev turning : Placed → Round
+    abbrev turning : SurroundedLoop → Round
     turning z = (let l = z.loop.loop in Turning l.variable l.first l.last l.step)
 
     -- with another body
-    abbrev do_with : Placed → Block → Statement
+    abbrev do_with : SurroundedLoop → Block → Statement
     do_with z inside = (let l = z.loop.loop in Do l.line l.variable l.first l.last l.step inside)
 
     -- a loop with a block for it, or with what its body becomes
-    loop_marks : (z : Placed) (zs : List Placed) (round : List Round) (inside : Block) (o : Option Block)
-        → block_at blocks (next z.loop.before) ≡ o
-        → ((t : Block) → block_at blocks (next z.loop.before) ≡ Some t → is_nest ds z ≡ true)
+    loop_marks : (z : SurroundedLoop) (zs : List SurroundedLoop) (round : List Round) (inside : Block) (o : Option Block)
+        → block_at blocks (next_loop_number z.loop.before) ≡ o
+        → ((t : Block) → block_at blocks (next_loop_number z.loop.before) ≡ Some t → is_nest ds z ≡ true)
         → (is_kept ds z.loop.loop ≡ false → nest_numbers ds zs ≡ [])
         → Of (marked_in (round ++ turning z ∷ []) inside) zs
         → Of (marked_in round (block (instead blocks o (do_with z inside)))) (z ∷ zs)
@@ -171,13 +171,13 @@ module _ (blocks : List (Option Block)) where
         by false f = subst (AreOfBlocks xs) (sym (with_first ds z zs false f)) h
     loop_marks z zs round inside (Some t) e nest none h =
         let is = nest t e in
-        subst (AreOfBlocks (marked_in round (block (statements_in t)))) (sym (with_first ds z zs true is)) (
+        subst (AreOfBlocks (marked_in round (block (statements_of_block t)))) (sym (with_first ds z zs true is)) (
           round,
           [],
           ap (marked_in round) (block_of_statements t)
               ∙ (all_within round t
               ∙ (ap (λ p. map (within round) (marks_of p)) (sym e)
-              ∙ sym (append-nil (map (within round) (marks_at (next z.loop.before)))))),
+              ∙ sym (append-nil (map (within round) (marks_at (next_loop_number z.loop.before)))))),
           subst (AreOfBlocks []) (sym (none (no_other (is_in_no_nest ds z) (is_kept ds z.loop.loop) is))) refl,
         )
 
@@ -186,7 +186,7 @@ module _ (blocks : List (Option Block)) where
     mutual
       statement_marks : (c : Statement) (k : ℕ) (around : List SourceLoop) (w : Surroundings) (round : List Round)
           → IsStatement ds c w → AreNests (loops_in k around c)
-          → Of (marked_in round (block (placed blocks k c))) (loops_in k around c)
+          → Of (marked_in round (block (placed_statement blocks k c))) (loops_in k around c)
       statement_marks (Assignment line mark left right) k around w round is h =
           ap (λ (m : Option Mark). with_mark round m (Assignment line m left right) ++ []) is.1
       statement_marks (Where line mark mask left right) k around w round is h = absurd is
@@ -202,14 +202,14 @@ module _ (blocks : List (Option Block)) where
           (λ z t i. h z t (Contains-append_right ls ms z i))))
       statement_marks (Do line x a b c body) k around w round is h =
           let l : SourceLoop = record { line = line; variable = x; first = a; last = b; step = c; body = body } in
-          let z : Placed = record { around = around; loop = record { before = k; loop = l } } in
-          let zs = loops_in_block (next k) (around ++ l ∷ []) body in
-          loop_marks z zs round (block (placed_in blocks (next k) body)) (block_at blocks (next k)) refl
+          let z : SurroundedLoop = record { around = around; loop = record { before = k; loop = l } } in
+          let zs = loops_in_block (next_loop_number k) (around ++ l ∷ []) body in
+          loop_marks z zs round (block (placed_in blocks (next_loop_number k) body)) (block_at blocks (next_loop_number k)) refl
           (λ t. h z t (here z zs))
-          (λ e. none_in_block ds body (next k) (around ++ l ∷ [])
+          (λ e. none_in_block ds body (next_loop_number k) (around ++ l ∷ [])
           (list_all-append (is_kept ds) around (l ∷ [])
           ∙ no_second (list_all (is_kept ds) around) (is_kept ds l) e))
-          (block_marks body (next k) (around ++ l ∷ []) (within_loop x w) (round ++ Turning x a b c ∷ []) is.5
+          (block_marks body (next_loop_number k) (around ++ l ∷ []) (within_loop x w) (round ++ Turning x a b c ∷ []) is.5
           (λ y t i. h y t (there z zs y i)))
       statement_marks (Label n) k around w round is h = refl
       statement_marks (GoTo line n) k around w round is h = refl
@@ -239,11 +239,11 @@ module _ (blocks : List (Option Block)) where
       block_marks no_statements k around w round is h = refl
       block_marks (statement c cs) k around w round is h =
           let ls = loops_in k around c in
-          let ms = loops_in_block (after k c) around cs in
+          let ms = loops_in_block (number_after k c) around cs in
           subst (λ xs. Of xs (ls ++ ms))
-          (sym (marked_after round (placed blocks k c) (placed_in blocks (after k c) cs)))
-          (both (marked_in round (block (placed blocks k c)))
-          (marked_in round (block (placed_in blocks (after k c) cs))) ls ms
+          (sym (marked_after round (placed_statement blocks k c) (placed_in blocks (number_after k c) cs)))
+          (both (marked_in round (block (placed_statement blocks k c)))
+          (marked_in round (block (placed_in blocks (number_after k c) cs))) ls ms
           (statement_marks c k around (before_labels (labels_of cs) w) round is.0
           (λ z t i. h z t (Contains-append_left ls ms z i)))
-          (block_marks cs (after k c) around w round is.1 (λ z t i. h z t (Contains-append_right ls ms z i))))
+          (block_marks cs (number_after k c) around w round is.1 (λ z t i. h z t (Contains-append_right ls ms z i))))

@@ -7,7 +7,7 @@ use Rattle.listing.specs.programs.Listing.{ListedNest}
 use Rattle.nest.specs.Bodies.{nest_statements}
 use Rattle.tree.specs.Plain.{Block}
 use Rattle.translation.specs.program_marks.Marks.{AreOfNests, IsAtLevel, IsMarkedAsListed, IsOfNests, StandsMarked}
-use Rattle.translation.specs.program_marks.Marks.{numbers_of, without_line}
+use Rattle.translation.specs.program_marks.Marks.{mark_numbers_of, without_line}
 
 -- the same statement on another line
 record HasLike (xs : List Marked) (x : Marked) : Type 0 where
@@ -27,9 +27,9 @@ at_level : (t : ListedNest) (s : ℕ) (x y : Marked) → without_line x ≡ with
     → IsAtLevel t s y
 at_level t s x y e h = record { level = h.level; is_level = h.is_level; outer = h.outer; is = sym e ∙ h.is }
 
-same_keys : (xs : List Marked) → map numbers_of (map without_line xs) ≡ map numbers_of xs
+same_keys : (xs : List Marked) → map mark_numbers_of (map without_line xs) ≡ map mark_numbers_of xs
 same_keys [] = refl
-same_keys (x ∷ xs) = ap (λ ks. numbers_of x ∷ ks) (same_keys xs)
+same_keys (x ∷ xs) = ap (λ ks. mark_numbers_of x ∷ ks) (same_keys xs)
 
 module _ (ts : List ListedNest) (b c : Block) (same : map without_line (marked_in [] b) ≡ map without_line (marked_in [] c))
     (h : AreOfNests ts b) where
@@ -51,10 +51,10 @@ module _ (ts : List ListedNest) (b c : Block) (same : map without_line (marked_i
       let w = has_like (marked_in [] c) (marked_in [] b) (sym same) e.it e.stands in
       record { it = w.it; stands = w.among; at = at_level t s e.it w.it (sym w.like) e.at }
 
-  once : Distinct (map numbers_of (marked_in [] c))
+  once : Distinct (map mark_numbers_of (marked_in [] c))
   once =
       subst Distinct
-      (sym (same_keys (marked_in [] b)) ∙ ap (map numbers_of) same ∙ same_keys (marked_in [] c)) h.once
+      (sym (same_keys (marked_in [] b)) ∙ ap (map mark_numbers_of) same ∙ same_keys (marked_in [] c)) h.once
 
   on_other_lines : AreOfNests ts c
   on_other_lines = record { only = only; each = each; once = once }

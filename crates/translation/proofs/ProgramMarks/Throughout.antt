@@ -1,7 +1,7 @@
 -- What is emitted for a nest has nothing but marked statements.
 use Rattle.std.proofs.Common.{ℕ, suc, Some, List, [], ◌∷◌}
-use Rattle.array_form.specs.forms.Loops.{Surroundings, names_of}
-use Rattle.array_form.specs.forms.Statements.{guarded_by, guarded_form, loops_from, tests_of}
+use Rattle.array_form.specs.forms.Loops.{FormSurroundings, form_names_of}
+use Rattle.array_form.specs.forms.Statements.{guarded_by, guarded_form, loops_from, form_tests_of}
 use Rattle.array_form.specs.holds.Surroundings.{surroundings_of}
 use Rattle.emission.specs.emission_pieces.Nests.{loops_at, standing_at}
 use Rattle.emission.specs.emission_pieces.Pieces.{Formed, Kept, Piece, Pieces, Turning, block_of_piece, block_of_pieces}
@@ -23,7 +23,7 @@ under line [] c h = (h, tt)
 under line (e ∷ es) c h = ((((h, tt), tt), tt), tt)
 
 module _ (n : Nest) where
-  abbrev around : ℕ → Surroundings
+  abbrev around : ℕ → FormSurroundings
   around s = surroundings_of n (loops_at n s)
 
   abbrev own : ℕ → Guarded
@@ -36,7 +36,7 @@ module _ (n : Nest) where
       tt,
     )
     one k (Formed s) =
-        under (own s).line (tests_of (names_of (around s)) (loops_from (around s) k))
+        under (own s).line (form_tests_of (form_names_of (around s)) (loops_from (around s) k))
         (guarded_form (around s) k (own s).line (Some (mark_of n s k)) (own s).guard (own s).left (own s).right)
         (of_form IsMarkedThroughout (around s) k (own s).line (Some (mark_of n s k)) (own s).guard (own s).left
         (own s).right tt (λ e. tt) (λ e. (((tt, tt), tt), tt)))

@@ -9,6 +9,7 @@ use Rattle.std.proofs.lemmas.List.Folds.{list_all-append}
 use Rattle.find_nests.specs.Found.{InNest, found_in}
 use Rattle.pass_laws.proofs.FoundSources.Counters.{no_counter}
 use Rattle.meaning.specs.Dialect.{fortran77}
+use Rattle.tree.specs.declared.width.Width.{Width}
 use Rattle.meaning.specs.SymbolicNames.{IsLongName, is_digit, is_letter}
 use Rattle.meaning.specs.Profile77.{IsProgram77}
 use Rattle.tree.specs.Names.{IsSourceName}
@@ -164,11 +165,11 @@ weaker : (ls : List Loop) → AllByRecursion IsCounted ls → AllByRecursion (λ
 weaker [] h = tt
 weaker (l ∷ ls) h = (record { number = l.number; small = h.0.small; is = sym h.0.is }, weaker ls h.1)
 
-pub variables_numbered : (p : Program) (es : List Declaration) (n m : Nest)
-    → IsProgram77 fortran77 p → AddMadeNames p.declarations es → Contains (found_in p) (InNest n) → normalised n ≡ Some m
+pub variables_numbered : (width : Width) (p : Program) (es : List Declaration) (n m : Nest)
+    → IsProgram77 (fortran77 width) p → AddMadeNames p.declarations es → Contains (found_in p) (InNest n) → normalised n ≡ Some m
     → AllByRecursion (λ (l : Loop). IsNumbered l.variable) (nest_loops m)
-variables_numbered p es n m is more h e =
-    weaker (nest_loops m) (counted es n.symbols [] m.body (made_loops es n (found_body fortran77 p es is more n h) m (made_of n m e)))
+variables_numbered width p es n m is more h e =
+    weaker (nest_loops m) (counted es n.symbols [] m.body (made_loops es n (found_body (fortran77 width) p es is more n h) m (made_of n m e)))
 
 -- ---- their declarations
 

@@ -5,6 +5,7 @@ use Rattle.std.specs.Prelude.{codes}
 use Rattle.std.specs.Option.{IsSomeAnd}
 use Rattle.std.proofs.lemmas.List.Elements.{Contains-append_cases, Contains-append_left, Contains-append_right}
 use Rattle.meaning.specs.Dialect.{fortran77}
+use Rattle.tree.specs.declared.width.Width.{Width}
 use Rattle.meaning.specs.Profile77.{IsDeclaration, IsProgram77}
 use Rattle.meaning.specs.Profile90.{AreDeclarations}
 use Rattle.meaning.specs.Typed.{declared}
@@ -20,8 +21,9 @@ use Rattle.tree.specs.Plain.{Declaration, Program}
 use Rattle.translation.proofs.PlacedProfile.SourceNames.{source_name}
 use Rattle.translation.proofs.ProgramTranslation.Counted.{IsCounterDeclared, IsNumbered, counter_declarations, counter_declared}
 use Rattle.translation.proofs.ProgramTranslation.Counted.{each_of, numbered_is_made, of_counter}
-use Rattle.translation.specs.made_declarations.Declaring.{declaration_by, integer_scalar, or_integer, with_declarations}
+use Rattle.translation.specs.made_declarations.Declaring.{declaration_by, integer_scalar, or_integer_scalar, with_declarations}
 use Rattle.translation.specs.made_declarations.Laws.{AgreeOnNames, AreWith, IsMadeDeclaration, WithMadeNames}
+use Rattle.meaning.proofs.Widths.{widest}
 
 -- declarations of names that passes made: each of a name of its own, which counts no loop and hides no function
 pub record AreMade (made : List Declaration) : Type 0 where
@@ -45,7 +47,7 @@ names_of_made made = map (λ (d : Declaration). d.name) made
 abbrev pub IsMadeHere : List Declaration → List ℕ → Type 0
 IsMadeHere made x = Contains (names_of_made made) x ⊎ IsNumbered x
 
-module _ (within : WithMadeNames) (p : Program) (program : IsProgram77 fortran77 p) (made : List Declaration) (given : AreMade made) where
+module _ (width : Width) (within : WithMadeNames) (p : Program) (program : IsProgram77 (fortran77 width) p) (made : List Declaration) (given : AreMade made) where
   abbrev pub all : List Declaration
   all = made ++ counter_declarations
 
@@ -53,10 +55,10 @@ module _ (within : WithMadeNames) (p : Program) (program : IsProgram77 fortran77
   rs = with_declarations p.declarations all
 
   pub own_are : AreDeclarations p.declarations
-  own_are = (source_is_target fortran77 p (omega arith) program).declarations
+  own_are = (source_is_target (fortran77 width) p (widest width) program).declarations
 
   pub own_source : (e : Declaration) → Contains p.declarations e → IsSourceName e.name
-  own_source e c = source_name e.name (all_at (IsDeclaration fortran77) p.declarations e program.declarations.each c).name
+  own_source e c = source_name e.name (all_at (IsDeclaration (fortran77 width)) p.declarations e program.declarations.each c).name
 
   -- ---- each of them
 
@@ -98,7 +100,7 @@ module _ (within : WithMadeNames) (p : Program) (program : IsProgram77 fortran77
   not_source x (inr n) source = (numbered_is_made x n).made source
 
   one_declared : (x : List ℕ) (o : Option Declaration) → declared made x ≡ o → IsMadeHere made x
-      → Contains all (or_integer x o) × ((or_integer x o).name ≡ x)
+      → Contains all (or_integer_scalar x o) × ((or_integer_scalar x o).name ≡ x)
   one_declared x (Some d) e h =
       let f = found made x d e in (Contains-append_left made counter_declarations d f.among, f.name)
   one_declared x None e (inl c) =

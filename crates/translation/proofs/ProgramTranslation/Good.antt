@@ -10,12 +10,13 @@ use Rattle.meaning_laws.proofs.dialects.NamesIn.{among}
 use Rattle.translation.proofs.FewerNames.FewerStatements.{block_with_fewer_names}
 use Rattle.find_nests.proofs.FoundLaws.{found_nest_is_loop}
 use Rattle.find_nests.specs.Laws.{IsFoundNest}
-use Rattle.find_nests.specs.Loops.{Placed, as_statement, loops_in_block}
+use Rattle.find_nests.specs.Loops.{SurroundedLoop, as_statement, loops_in_block}
 use Rattle.find_nests.specs.LookedAt.{looked_at}
 use Rattle.listing.proofs.programs.Arranging.{last_depth}
 use Rattle.meaning.specs.Reads.{names_in_block}
 use Rattle.meaning.specs.Blocks.{Surroundings}
 use Rattle.meaning.specs.Dialect.{fortran77}
+use Rattle.tree.specs.declared.width.Width.{Width}
 use Rattle.meaning.specs.Profile77.{IsProgram77, IsStatement}
 use Rattle.meaning.specs.Profile90.{IsBlock}
 use Rattle.meaning.specs.Store.{names_of}
@@ -31,7 +32,7 @@ use Rattle.translation.proofs.MadeDeclarations.Made.{made_names}
 use Rattle.translation.specs.made_declarations.Declaring.{declaration_by, declaration_of_made, with_declarations}
 use Rattle.translation.specs.made_declarations.Laws.{AreWith, IsMadeDeclaration, WithMadeNames}
 use Rattle.translation.specs.nest_blocks.Blocks.{AreNestBlocks, IsBlockOfLoop}
-use Rattle.find_nests.specs.nest_parts.Numbers.{next}
+use Rattle.find_nests.specs.nest_parts.Numbers.{next_loop_number}
 use Rattle.translation.proofs.NestProfile.Law.{translation_is_of_profile}
 use Rattle.translation.specs.nest_profile.Laws.{TranslationIsOfProfile}
 use Rattle.translation.specs.nest_translation.Laws.{AreMadeDeclared}
@@ -86,8 +87,8 @@ other_transpose = other_letter (codes "TRANSPOSE") (λ e. omega (arith, e))
 other_reshape : IsNumbered (codes "RESHAPE") → ⊥
 other_reshape = other_letter (codes "RESHAPE") (λ e. omega (arith, e))
 
-module _ (within : WithMadeNames) (profile : TranslationIsOfProfile) (p q : Program) (blocks : List (Option Block))
-    (made : List Declaration) (program : IsProgram77 fortran77 p) (are : AreNestBlocks p blocks made)
+module _ (width : Width) (within : WithMadeNames) (profile : TranslationIsOfProfile width) (p q : Program) (blocks : List (Option Block))
+    (made : List Declaration) (program : IsProgram77 (fortran77 width) p) (are : AreNestBlocks p blocks made)
     (t : IsPlacedBy p blocks made q) (given : AreMade made) where
   -- ---- all counters, and all that passes made, besides the names of the program
 
@@ -101,7 +102,7 @@ module _ (within : WithMadeNames) (profile : TranslationIsOfProfile) (p q : Prog
   r = record p { declarations = rs }
 
   with_others : AreWith p.declarations all rs
-  with_others = with_all within p program made given
+  with_others = with_all width within p program made given
 
   long_transpose : 6 < length (codes "TRANSPOSE")
   long_transpose = omega arith
@@ -118,19 +119,19 @@ module _ (within : WithMadeNames) (profile : TranslationIsOfProfile) (p q : Prog
     found_nest : IsFoundNest p is_block.nest
     found_nest = found_nest_is_loop p is_block.nest is_block.among
 
-    abbrev loop : Placed
+    abbrev loop : SurroundedLoop
     loop = found_nest.loop
 
-    stands : Stands program loop
-    stands = loop_stands program loop found_nest.stands
+    stands : Stands width program loop
+    stands = loop_stands width program loop found_nest.stands
 
     abbrev one : Nest
     one = is_block.translated.passed.normal
 
     counters : All (λ (l : Loop). IsSomeAnd (declared rs l.variable) IsCounter) (nest_loops one)
-    counters = λ j d i. declared_counter within p program made given _
+    counters = λ j d i. declared_counter width within p program made given _
         (All-from_recursion (λ (l : Loop). IsNumbered l.variable) (nest_loops one)
-        (variables_numbered p rs is_block.nest one program with_others.more is_block.among is_block.translated.passed.made) j d i)
+        (variables_numbered width p rs is_block.nest one program with_others.more is_block.among is_block.translated.passed.made) j d i)
 
     made_declared : AreMadeDeclared r is_block.normal
     unfolding is_block
@@ -146,8 +147,8 @@ module _ (within : WithMadeNames) (profile : TranslationIsOfProfile) (p q : Prog
     of_profile : (w : Surroundings) → AreSourceNames w.variables → IsStatement p.declarations (as_statement loop.loop.loop) w → IsBlock rs b w
     of_profile w v s =
         profile p r is_block.nest is_block.normal b w found_nest program is_block.among with_others.more is_block.translated
-        counters made_declared (unhidden within p program made given (codes "TRANSPOSE") long_transpose other_transpose given.transpose)
-        (unhidden within p program made given (codes "RESHAPE") long_reshape other_reshape given.reshape) small v s
+        counters made_declared (unhidden width within p program made given (codes "TRANSPOSE") long_transpose other_transpose given.transpose)
+        (unhidden width within p program made given (codes "RESHAPE") long_reshape other_reshape given.reshape) small v s
 
     known : AllByRecursion (Contains (names_of r)) (names_in_block b)
     known = block_known rs b stands.round (of_profile stands.round stands.named stands.is)
@@ -167,11 +168,11 @@ module _ (within : WithMadeNames) (profile : TranslationIsOfProfile) (p q : Prog
         by : (d : Declaration) → d.name ≡ x → Contains p.declarations d ⊎ Contains all d
             → Contains (names_of p) x ⊎ IsMadeHere made x
         by d n (inl i) = inl (subst (Contains (names_of p)) n (name_among p.declarations d i))
-        by d n (inr i) = inr (here_made d n (either within p program made given d i))
+        by d n (inr i) = inr (here_made d n (either width within p program made given d i))
 
     prepared : IsPrepared rs (stands.round.variables) last_depth is_block.normal
     prepared =
-        passed_nest_is_prepared p is_block.translated.counts is_block.nest is_block.normal stands.round found_nest program
+        passed_nest_is_prepared width p is_block.translated.counts is_block.nest is_block.normal stands.round found_nest program
         is_block.among is_block.translated.passed stands.named stands.is r with_others.more counters made_declared
 
     block_unlabelled : IsWithoutLabels b
@@ -180,9 +181,9 @@ module _ (within : WithMadeNames) (profile : TranslationIsOfProfile) (p q : Prog
         (endings_unlabelled is_block.normal.after prepared.parts.after.endings))
 
     -- the loop with the number is the nest's
-    is_loop : (l : Placed) → Contains (loops_in_block 0 [] p.body) l → next l.loop.before ≡ k → loop ≡ l
+    is_loop : (l : SurroundedLoop) → Contains (loops_in_block 0 [] p.body) l → next_loop_number l.loop.before ≡ k → loop ≡ l
     is_loop l c n =
-        let own : next loop.loop.before ≡ k = sym (ap loop_number found_nest.is) ∙ is_block.number in
+        let own : next_loop_number loop.loop.before ≡ k = sym (ap loop_number found_nest.is) ∙ is_block.number in
         same_loop p.body program.few loop l found_nest.stands c (own ∙ sym n)
 
   -- ---- the made names
@@ -200,7 +201,7 @@ module _ (within : WithMadeNames) (profile : TranslationIsOfProfile) (p q : Prog
       by (inl c) =
           let d = is_declared p.declarations x c in
           let f = found p.declarations x d.0 d.1 in
-          absurd (h.made (subst IsSourceName f.name (own_source within p program made given d.0 f.among)))
+          absurd (h.made (subst IsSourceName f.name (own_source width within p program made given d.0 f.among)))
       by (inr n) = n
 
   abbrev new : List Declaration
@@ -212,14 +213,14 @@ module _ (within : WithMadeNames) (profile : TranslationIsOfProfile) (p q : Prog
   new_in : (e : Declaration) → Contains new e → Contains all e
   new_in e c =
       let o = of_map (declaration_by made) t.names e c in
-      subst (Contains all) o.2 (declared_here within p program made given o.0 (stands_made o.0 ((t.names_are o.0).0 o.1))).0
+      subst (Contains all) o.2 (declared_here width within p program made given o.0 (stands_made o.0 ((t.names_are o.0).0 o.1))).0
 
   with_names : AreWith p.declarations new qs
   with_names =
-      within p.declarations new (own_are within p program made given)
-      (each_member IsMadeDeclaration new (λ e c. each_made within p program made given e (new_in e c)))
-      (λ d e c k same. agree within p program made given d e (new_in d c) (new_in e k) same)
-      (λ d e c k same. apart within p program made given d e c (new_in e k) same)
+      within p.declarations new (own_are width within p program made given)
+      (each_member IsMadeDeclaration new (λ e c. each_made width within p program made given e (new_in e c)))
+      (λ d e c k same. agree width within p program made given d e (new_in d c) (new_in e k) same)
+      (λ d e c k same. apart width within p program made given d e c (new_in e k) same)
 
   -- each declaration of q is one of r
   some : (e : Declaration) → Contains qs e → Contains rs e
@@ -252,9 +253,9 @@ module _ (within : WithMadeNames) (profile : TranslationIsOfProfile) (p q : Prog
           let m : Contains t.names x
           = (t.names_are x).1 (record {
             stands = record { number = k; block = b; is = e; among = c };
-            made = not_source within p program made given x n;
+            made = not_source width within p program made given x n;
           }) in
-          let name = (declared_here within p program made given x n).1 in
+          let name = (declared_here width within p program made given x n).1 in
           name_of_declared qs (declaration_by made x) x
           (subst (λ z. declared qs z ≡ Some (declaration_by made x)) name
           (with_names.declared (declaration_by made x) (in_map (declaration_by made) t.names x m)))
@@ -281,7 +282,7 @@ module _ (within : WithMadeNames) (profile : TranslationIsOfProfile) (p q : Prog
 
   translations : AreTranslations p q r blocks
   translations l b i e =
-      let k = next l.loop.before in
+      let k = next_loop_number l.loop.before in
       let from = next_from_one l.loop.before in
       let one = is_block k b from e in
       record {
@@ -300,26 +301,26 @@ module _ (within : WithMadeNames) (profile : TranslationIsOfProfile) (p q : Prog
 
   suits : SuitLoops p q blocks
   suits l b i e =
-      let k = next l.loop.before in
+      let k = next_loop_number l.loop.before in
       let from = next_from_one l.loop.before in
       let same = is_loop k b from e l i refl in
       record {
-        profile = λ w v s. block_is k b w e (of_profile k b from e w v (subst (λ (m : Placed). IsStatement p.declarations (as_statement m.loop.loop) w) (sym same) s));
-        loop = subst (λ (m : Placed). KeepsJumps m.loop.loop.body) same (nest_keeps_jumps p (is_block k b from e).nest (found_nest k b from e));
+        profile = λ w v s. block_is k b w e (of_profile k b from e w v (subst (λ (m : SurroundedLoop). IsStatement p.declarations (as_statement m.loop.loop) w) (sym same) s));
+        loop = subst (λ (m : SurroundedLoop). KeepsJumps m.loop.loop.body) same (nest_keeps_jumps p (is_block k b from e).nest (found_nest k b from e));
         block = block_unlabelled k b from e;
       }
 
-  good : PlacedProgramIsProgram → IsWithinLimits q.body → IsGoodTranslation p q
+  good : PlacedProgramIsProgram width → IsWithinLimits q.body → IsGoodTranslation width p q
   good placed limits =
       let target = placed p q blocks program own_more t.name t.body suits limits in
       record {
         program = target;
-        keeps = λ input. translation_keeps translation_does_as_loop p q r blocks input program target own_more counters_more translations t.body;
+        keeps = λ input. translation_keeps width (translation_does_as_loop width) p q r blocks input program target own_more counters_more translations t.body;
       }
 
 -- ---- the law
 
-pub translation_is_good : TranslationIsGood
-translation_is_good p q blocks made program are placed limits =
-    good made_names translation_is_of_profile p q blocks made program are placed
-    (names_are_made p blocks made program are) placed_program_is_program limits
+pub translation_is_good : (width : Width) → TranslationIsGood width
+translation_is_good width p q blocks made program are placed limits =
+    good width made_names (translation_is_of_profile width) p q blocks made program are placed
+    (names_are_made width p blocks made program are) (placed_program_is_program width) limits

@@ -13,7 +13,7 @@ use Rattle.find_nests.proofs.ReasonWalks.{finds_is}
 use Rattle.find_nests.specs.Laws.{IsFoundNest}
 use Rattle.find_nests.specs.Loops.{as_statement}
 use Rattle.find_nests.specs.declared.reasons.Reason.TheVariants as reasons
-use Rattle.nest_reasons.specs.Flaws.{arrives, exits, leaves}
+use Rattle.nest_reasons.specs.Flaws.{is_arrival, exits, leaves_loop}
 use Rattle.nest_reasons.specs.Loops.{has_flaw}
 use Rattle.nest_reasons.specs.Marks.{marks_in_arms, marks_in_block, own_marks}
 use Rattle.nest_reasons.specs.Symbols.{symbols_of}
@@ -44,7 +44,7 @@ no_jump labels n c = absurd (nowhere n c)
 
 -- Of a loop's body with all these marks and labels: a label that is marked is one of them
 record IsBody (all : List Mark) (labels : List ℕ) : Type 0 where
-  there : (k : ℕ) → list_any (arrives k) all ≡ true → Contains labels k
+  there : (k : ℕ) → list_any (is_arrival k) all ≡ true → Contains labels k
 
 own_body : (body : Block) → IsBody (marks_in_block false body) (all_labels_in body)
 own_body body = record { there = label_in_block false body }
@@ -52,12 +52,12 @@ own_body body = record { there = label_in_block false body }
 module _ (symbols : List (List ℕ)) where
   mutual
     stays : (all : List Mark) (labels : List ℕ) (b : Bool) (around : List (List ℕ)) (c : Statement) → IsBody all labels
-        → list_any (leaves all) (own_marks b c) ≡ false → any_loop (has_flaw Exit symbols) around c ≡ false
+        → list_any (leaves_loop all) (own_marks b c) ≡ false → any_loop (has_flaw Exit symbols) around c ≡ false
         → Stay labels (all_labels_of c) → Stay labels (targets_of c)
     stays all labels b around (Assignment l mark left right) h e f own = no_jump labels
     stays all labels b around (Where l mark mask left right) h e f own = no_jump labels
     stays all labels b around (If l arms other) h e f own =
-        let es = any_parts (leaves all) (marks_in_arms arms) (marks_in_block true other) e in
+        let es = any_parts (leaves_loop all) (marks_in_arms arms) (marks_in_block true other) e in
         let fs = either_false (any_in_arms (has_flaw Exit symbols) around arms) (any_in_block (has_flaw Exit symbols) around other) f in
         stay_both labels (targets_in_arms arms) (targets_in other)
         (arms_stay all labels around arms h es.0 fs.0 (λ n c. own n (Contains-append_left (all_labels_in_arms arms) (all_labels_in other) n c)))
@@ -69,8 +69,8 @@ module _ (symbols : List (List ℕ)) where
     stays all labels b around (Label k) h e f own = no_jump labels
     stays all labels b around (GoTo l k) h e f own = λ n c. by n (cases_of k [] n c)
       where
-        inside : list_any (arrives k) all ≡ true
-        inside = is_true (list_any (arrives k) all) (either_false (not (list_any (arrives k) all)) false e).0
+        inside : list_any (is_arrival k) all ≡ true
+        inside = is_true (list_any (is_arrival k) all) (either_false (not (list_any (is_arrival k) all)) false e).0
 
         by : (n : ℕ) → (k ≡ n) ⊎ Contains [] n → Contains labels n
         by n (inl s) = subst (Contains labels) s (h.there k inside)
@@ -82,22 +82,22 @@ module _ (symbols : List (List ℕ)) where
     stays all labels b around (Deallocate l x) h e f own = no_jump labels
 
     arms_stay : (all : List Mark) (labels : List ℕ) (around : List (List ℕ)) (arms : Arms) → IsBody all labels
-        → list_any (leaves all) (marks_in_arms arms) ≡ false → any_in_arms (has_flaw Exit symbols) around arms ≡ false
+        → list_any (leaves_loop all) (marks_in_arms arms) ≡ false → any_in_arms (has_flaw Exit symbols) around arms ≡ false
         → Stay labels (all_labels_in_arms arms) → Stay labels (targets_in_arms arms)
     arms_stay all labels around no_arms h e f own = no_jump labels
     arms_stay all labels around (arm test body arms) h e f own =
-        let es = any_parts (leaves all) (marks_in_block true body) (marks_in_arms arms) e in
+        let es = any_parts (leaves_loop all) (marks_in_block true body) (marks_in_arms arms) e in
         let fs = either_false (any_in_block (has_flaw Exit symbols) around body) (any_in_arms (has_flaw Exit symbols) around arms) f in
         stay_both labels (targets_in body) (targets_in_arms arms)
         (block_stays all labels true around body h es.0 fs.0 (λ n c. own n (Contains-append_left (all_labels_in body) (all_labels_in_arms arms) n c)))
         (arms_stay all labels around arms h es.1 fs.1 (λ n c. own n (Contains-append_right (all_labels_in body) (all_labels_in_arms arms) n c)))
 
     block_stays : (all : List Mark) (labels : List ℕ) (b : Bool) (around : List (List ℕ)) (cs : Block) → IsBody all labels
-        → list_any (leaves all) (marks_in_block b cs) ≡ false → any_in_block (has_flaw Exit symbols) around cs ≡ false
+        → list_any (leaves_loop all) (marks_in_block b cs) ≡ false → any_in_block (has_flaw Exit symbols) around cs ≡ false
         → Stay labels (all_labels_in cs) → Stay labels (targets_in cs)
     block_stays all labels b around no_statements h e f own = no_jump labels
     block_stays all labels b around (statement c cs) h e f own =
-        let es = any_parts (leaves all) (own_marks b c) (marks_in_block b cs) e in
+        let es = any_parts (leaves_loop all) (own_marks b c) (marks_in_block b cs) e in
         let fs = either_false (any_loop (has_flaw Exit symbols) around c) (any_in_block (has_flaw Exit symbols) around cs) f in
         stay_both labels (targets_of c) (targets_in cs)
         (stays all labels b around c h es.0 fs.0 (λ n i. own n (Contains-append_left (all_labels_of c) (all_labels_in cs) n i)))

@@ -26,8 +26,9 @@ use Rattle.listing.proofs.programs.Sources.{declared_for, prepared_for, top_made
 use Rattle.listing.proofs.programs.Stages.{few_so, made_by, named_so}
 use Rattle.listing.specs.declared.programs.counts.Counts.{Counts}
 use Rattle.listing.specs.programs.Passed.{IsPassedAs}
-use Rattle.listing.specs.programs.Stages.{with_copies}
+use Rattle.listing.specs.programs.Stages.{with_copies_before}
 use Rattle.meaning.specs.Dialect.{fortran77}
+use Rattle.tree.specs.declared.width.Width.{Width}
 use Rattle.meaning.specs.Profile77.{IsProgram77}
 use Rattle.meaning.specs.Profile90.{IsDeclaration, IsExtent}
 use Rattle.meaning.specs.SymbolicNames.{IsLongName}
@@ -119,7 +120,7 @@ copy_fourth counts m a h = ap fourth h.name
 other_letters : (x y : List ℕ) (c d : ℕ) → fourth x ≡ c → fourth y ≡ d → (c ≡ d → ⊥) → x ≡ y → ⊥
 other_letters x y c d f g other e = other (sym f ∙ ap fourth e ∙ g)
 
-module _ (p : Program) (program : IsProgram77 fortran77 p) where
+module _ (width : Width) (p : Program) (program : IsProgram77 (fortran77 width) p) where
   -- ---- what passes made for one nest
 
   module _ (counts : Counts) (n m : Nest) (among : Contains (found_in p) (InNest n)) (passed : IsPassedAs counts n m) where
@@ -134,18 +135,18 @@ module _ (p : Program) (program : IsProgram77 fortran77 p) where
 
     -- there are declarations by which the nest is prepared
     abbrev has : HasCopiesDeclared (made_by counts n m passed).may counts.copies k
-    has = declared_for p counts n m program among (made_by counts n m passed)
+    has = declared_for width p counts n m program among (made_by counts n m passed)
 
     prepared : IsPrepared has.declarations has.around last_depth m
-    prepared = prepared_for p counts n m program among (made_by counts n m passed)
+    prepared = prepared_for width p counts n m program among (made_by counts n m passed)
 
     abbrev copies : List Made
-    copies = made_arrays (may_of counts n m passed) (with_copies counts.copies (expanded k))
+    copies = made_arrays (may_of counts n m passed) (with_copies_before counts.copies (expanded k))
 
-    numbers : AreCopies (may_of counts n m passed) (with_copies counts.copies (expanded passed.named))
+    numbers : AreCopies (may_of counts n m passed) (with_copies_before counts.copies (expanded passed.named))
     numbers =
-        split_nest_has_copies (may_of counts n m passed) (with_copies counts.copies (expanded k))
-        (top_made p counts n m program among (made_by counts n m passed))
+        split_nest_has_copies (may_of counts n m passed) (with_copies_before counts.copies (expanded k))
+        (top_made width p counts n m program among (made_by counts n m passed))
 
     named : (a : Made) → Contains m.made a → IsNamedFor n k m counts a
     named a c =
@@ -159,16 +160,16 @@ module _ (p : Program) (program : IsProgram77 fortran77 p) where
         of_nest (inr (inr h)) = inr (inr (inl h))
 
         by : Contains (expanded passed.named).made a
-            ⊎ Contains (made_arrays (may_of counts n m passed) (with_copies counts.copies (expanded passed.named))) a
+            ⊎ Contains (made_arrays (may_of counts n m passed) (with_copies_before counts.copies (expanded passed.named))) a
             → IsNamedFor n passed.named m counts a
         by (inl i) =
-            of_nest (found_nest_has_made_names p n passed.normal passed.converted k counts.masks program among passed.made
+            of_nest (found_nest_has_made_names width p n passed.normal passed.converted k counts.masks program among passed.made
             passed.is_converted (named_so counts n m (made_by counts n m passed))
             (few_so counts n m (made_by counts n m passed)) (few_masks counts n m passed) a i)
         by (inr i) =
             let o = numbers.numbered a (Contains-In a copies i) in
             let below : o.0 < counts.copies + length (made_arrays (may_of counts n m passed)
-            (with_copies counts.copies (expanded passed.named))) = o.2 in
+            (with_copies_before counts.copies (expanded passed.named))) = o.2 in
             let last = (passed_from counts n m passed).copies in
             inr (inr (inr (record { number = o.0; from = o.1; below = omega (arith, below, last); name = o.3 })))
 
@@ -380,20 +381,20 @@ module _ (p : Program) (program : IsProgram77 fortran77 p) where
           other (subst (λ (x : List ℕ). get_or x 0 0 ≡ 70) (bears_name ∙ e)
           (letter_of h.nest h.passed.named h.last (before h.nest.number) h.array (named_for d h)))
 
-pub names_are_made : (p : Program) (blocks : List (Option Block)) (made : List Declaration) → IsProgram77 fortran77 p
+pub names_are_made : (width : Width) (p : Program) (blocks : List (Option Block)) (made : List Declaration) → IsProgram77 (fortran77 width) p
     → AreNestBlocks p blocks made → AreMade made
-names_are_made p blocks made program are = record {
-  each = λ d c. declared_made p program are.before are.last_of are.numbered d (are.made_are d c);
+names_are_made width p blocks made program are = record {
+  each = λ d c. declared_made width p program are.before are.last_of are.numbered d (are.made_are d c);
   one = λ d e c k same.
-      declared_same p program are.before are.last_of are.numbered d e (are.made_are d c) (are.made_are e k) same;
+      declared_same width p program are.before are.last_of are.numbered d e (are.made_are d c) (are.made_are e k) same;
   counts = λ d c n.
       let h = are.made_are d c in
-      (made_is p program (are.before h.nest.number) h.nest h.last h.among h.passed h.array h.made).counter n.number
+      (made_is width p program (are.before h.nest.number) h.nest h.last h.among h.passed h.array h.made).counter n.number
       (ap (λ (z : Declaration). z.name) h.is ∙ sym n.is);
   transpose = λ d c.
-      other_letter p program are.before are.last_of are.numbered d (are.made_are d c) (codes "TRANSPOSE")
+      other_letter width p program are.before are.last_of are.numbered d (are.made_are d c) (codes "TRANSPOSE")
       (λ e. omega (arith, e));
   reshape = λ d c.
-      other_letter p program are.before are.last_of are.numbered d (are.made_are d c) (codes "RESHAPE")
+      other_letter width p program are.before are.last_of are.numbered d (are.made_are d c) (codes "RESHAPE")
       (λ e. omega (arith, e));
 }

@@ -6,23 +6,24 @@ use Rattle.tree.specs.Plain.{Statement, Assignment, Where, If, Do, Label, GoTo, 
 use Rattle.tree.specs.Plain.{Deallocate, Arms, no_arms, arm, Block, no_statements, statement, Declaration, Program}
 use Rattle.meaning.specs.Blocks.{Surroundings, before_labels, labels_of, outermost, within_loop}
 use Rattle.meaning.specs.Dialect.{fortran77}
+use Rattle.tree.specs.declared.width.Width.{Width}
 use Rattle.meaning.specs.Profile77.{IsStatement, AreArms, IsBlock, IsProgram77}
 use Rattle.translation.proofs.PlacedProfile.Placing.{one_more, variable_name}
 use Rattle.translation.specs.placed_profile.Laws.{AreSourceNames}
 use Rattle.meaning_laws.proofs.profiles.Lists.{nowhere}
-use Rattle.find_nests.specs.nest_parts.Numbers.{next, after, after_arms, after_block}
-use Rattle.find_nests.specs.Loops.{SourceLoop, Placed, as_statement, loops_in, loops_in_arms, loops_in_block}
+use Rattle.find_nests.specs.nest_parts.Numbers.{next_loop_number, number_after, after_arms, after_block}
+use Rattle.find_nests.specs.Loops.{SourceLoop, SurroundedLoop, as_statement, loops_in, loops_in_arms, loops_in_block}
 
-module _ {p : Program} (program : IsProgram77 fortran77 p) where
+module _ (width : Width) {p : Program} (program : IsProgram77 (fortran77 width) p) where
   abbrev ds : List Declaration
   ds = p.declarations
 
-  pub record Stands (l : Placed) : Type 0 where
+  pub record Stands (l : SurroundedLoop) : Type 0 where
     pub round : Surroundings
     pub named : AreSourceNames round.variables
     pub is : IsStatement ds (as_statement l.loop.loop) round
 
-  abbrev AllStand : List Placed → Type 0
+  abbrev AllStand : List SurroundedLoop → Type 0
   AllStand ls = All Stands ls
 
   mutual
@@ -33,10 +34,10 @@ module _ {p : Program} (program : IsProgram77 fortran77 p) where
         All-append Stands (loops_in_arms k around arms) (loops_in_block (after_arms k arms) around other) (in_arms arms k around w v h.2) (in_block other (after_arms k arms) around w v h.3)
     in_statement (Do line x a b c body) k around w v h =
         let l : SourceLoop = record { line = line; variable = x; first = a; last = b; step = c; body = body } in
-        All-cons Stands (record { around = around; loop = record { before = k; loop = l } }) (loops_in_block (next k) (around ++ l ∷ []) body)
+        All-cons Stands (record { around = around; loop = record { before = k; loop = l } }) (loops_in_block (next_loop_number k) (around ++ l ∷ []) body)
         (record { round = w; named = v; is = h })
-        (in_block body (next k) (around ++ l ∷ []) (within_loop x w)
-        (one_more x w.variables (variable_name program x w.variables h.1) v) h.5)
+        (in_block body (next_loop_number k) (around ++ l ∷ []) (within_loop x w)
+        (one_more x w.variables (variable_name width program x w.variables h.1) v) h.5)
     in_statement (Label n) k around w v h = All-nil Stands
     in_statement (GoTo line n) k around w v h = All-nil Stands
     in_statement (Stop line) k around w v h = All-nil Stands
@@ -53,9 +54,9 @@ module _ {p : Program} (program : IsProgram77 fortran77 p) where
     in_block : (b : Block) (k : ℕ) (around : List SourceLoop) (w : Surroundings) → AreSourceNames w.variables → IsBlock ds b w → AllStand (loops_in_block k around b)
     in_block no_statements k around w v h = All-nil Stands
     in_block (statement c cs) k around w v h =
-        All-append Stands (loops_in k around c) (loops_in_block (after k c) around cs) (in_statement c k around (before_labels (labels_of cs) w) v h.0) (in_block cs (after k c) around w v h.1)
+        All-append Stands (loops_in k around c) (loops_in_block (number_after k c) around cs) (in_statement c k around (before_labels (labels_of cs) w) v h.0) (in_block cs (number_after k c) around w v h.1)
 
-  pub loop_stands : (l : Placed) → Contains (loops_in_block 0 [] p.body) l → Stands l
+  pub loop_stands : (l : SurroundedLoop) → Contains (loops_in_block 0 [] p.body) l → Stands l
   loop_stands l c =
       All-contains Stands (loops_in_block 0 [] p.body) l
       (in_block p.body 0 [] outermost (λ x i. absurd (nowhere x i)) program.statements) c

@@ -1,7 +1,7 @@
 -- No label and no jump stands in what is emitted for a nest.
 use Rattle.std.proofs.Common.{◌≡◌, refl, ap, ap₂, ℕ, suc, List, [], ◌∷◌, ◌++◌, Some}
-use Rattle.array_form.specs.forms.Loops.{Surroundings, names_of}
-use Rattle.array_form.specs.forms.Statements.{and_all, guarded_by, guarded_form, loops_from, tests_of}
+use Rattle.array_form.specs.forms.Loops.{FormSurroundings, form_names_of}
+use Rattle.array_form.specs.forms.Statements.{and_all, guarded_by, guarded_form, loops_from, form_tests_of}
 use Rattle.emission.specs.emission_pieces.Nests.{loops_at, standing_at}
 use Rattle.emission.specs.emission_pieces.Pieces.{Formed, Kept, Piece, Pieces, Turning, block_of_piece, block_of_pieces, mark_of}
 use Rattle.emission.specs.emission_pieces.Pieces.{kept_assignment, kept_statement, no_pieces, piece, translation}
@@ -83,7 +83,7 @@ conditions_unlabelled line (e ∷ es) c h =
     (record { labels = ap (λ (xs : List ℕ). ((xs ++ []) ++ []) ++ []) h.labels; targets = ap (λ (xs : List ℕ). ((xs ++ []) ++ []) ++ []) h.targets })
 
 module _ (n : Nest) where
-  abbrev around : ℕ → Surroundings
+  abbrev around : ℕ → FormSurroundings
   around s = surroundings_of n (loops_at n s)
 
   abbrev own : ℕ → Guarded
@@ -95,7 +95,7 @@ module _ (n : Nest) where
         one (kept_statement n s)
         (of_kept IsUnlabelled (own s).line (own s).guard (kept_assignment n s) (record { labels = refl; targets = refl }) (λ e. record { labels = refl; targets = refl }))
     piece_unlabelled k (Formed s) =
-        conditions_unlabelled (own s).line (tests_of (names_of (around s)) (loops_from (around s) k)) (guarded_form (around s) k (own s).line (Some (mark_of n s k)) (own s).guard (own s).left (own s).right)
+        conditions_unlabelled (own s).line (form_tests_of (form_names_of (around s)) (loops_from (around s) k)) (guarded_form (around s) k (own s).line (Some (mark_of n s k)) (own s).guard (own s).left (own s).right)
         (of_form IsUnlabelled (around s) k (own s).line (Some (mark_of n s k)) (own s).guard (own s).left (own s).right
         (record { labels = refl; targets = refl }) (λ e. record { labels = refl; targets = refl }) (λ e. record { labels = refl; targets = refl }))
     piece_unlabelled k (Turning l ps) =

@@ -5,11 +5,11 @@ use Rattle.tree.specs.Plain.{Statement, Assignment, Where, If, Do, Label, GoTo, 
 use Rattle.tree.specs.Plain.{Deallocate, Arms, no_arms, arm, Block, no_statements, statement, block}
 use Rattle.tree.specs.View.{Tested, block_of}
 use Rattle.tree.specs.declared.stmts.Block.{Block as Tree}
-use Rattle.find_nests.specs.nest_parts.Numbers.{after, after_arms, after_block, next}
+use Rattle.find_nests.specs.nest_parts.Numbers.{number_after, after_arms, after_block, next_loop_number}
 
-abbrev pub statements_in : Block → List Statement
-statements_in no_statements = []
-statements_in (statement c cs) = c ∷ statements_in cs
+abbrev pub statements_of_block : Block → List Statement
+statements_of_block no_statements = []
+statements_of_block (statement c cs) = c ∷ statements_of_block cs
 
 -- a block for some of the loops, in their order
 abbrev pub blocks_of : List (Option Tree) → List (Option Block)
@@ -22,24 +22,25 @@ module _ (blocks : List (Option Block)) where
 
   abbrev pub instead : Option Block → Statement → List Statement
   instead None c = c ∷ []
-  instead (Some b) c = statements_in b
+  instead (Some b) c = statements_of_block b
 
   -- k loops stand before the statement
   abbrev mutual
-    pub placed : ℕ → Statement → List Statement
-    placed k (Assignment line mark left right) = Assignment line mark left right ∷ []
-    placed k (Where line mark mask left right) = Where line mark mask left right ∷ []
-    placed k (If line arms other) =
+    pub placed_statement : ℕ → Statement → List Statement
+    placed_statement k (Assignment line mark left right) = Assignment line mark left right ∷ []
+    placed_statement k (Where line mark mask left right) = Where line mark mask left right ∷ []
+    placed_statement k (If line arms other) =
         If line (placed_arms k arms) (block (placed_in (after_arms k arms) other)) ∷ []
-    placed k (Do line x first last step body) =
-        instead (block_at (next k)) (Do line x first last step (block (placed_in (next k) body)))
-    placed k (Label n) = Label n ∷ []
-    placed k (GoTo line n) = GoTo line n ∷ []
-    placed k (Stop line) = Stop line ∷ []
-    placed k (Read line is) = Read line is ∷ []
-    placed k (Print line is) = Print line is ∷ []
-    placed k (Allocate line x es) = Allocate line x es ∷ []
-    placed k (Deallocate line x) = Deallocate line x ∷ []
+    placed_statement k (Do line x first last step body) =
+        instead (block_at (next_loop_number k))
+        (Do line x first last step (block (placed_in (next_loop_number k) body)))
+    placed_statement k (Label n) = Label n ∷ []
+    placed_statement k (GoTo line n) = GoTo line n ∷ []
+    placed_statement k (Stop line) = Stop line ∷ []
+    placed_statement k (Read line is) = Read line is ∷ []
+    placed_statement k (Print line is) = Print line is ∷ []
+    placed_statement k (Allocate line x es) = Allocate line x es ∷ []
+    placed_statement k (Deallocate line x) = Deallocate line x ∷ []
 
     pub placed_arms : ℕ → Arms → Arms
     placed_arms k no_arms = no_arms
@@ -47,12 +48,12 @@ module _ (blocks : List (Option Block)) where
 
     pub placed_in : ℕ → Block → List Statement
     placed_in k no_statements = []
-    placed_in k (statement c cs) = placed k c ++ placed_in (after k c) cs
+    placed_in k (statement c cs) = placed_statement k c ++ placed_in (number_after k c) cs
 
   -- of a list of statements, and of arms
   abbrev pub placed_list : ℕ → List Statement → List Statement
   placed_list k [] = []
-  placed_list k (c ∷ cs) = placed k c ++ placed_list (after k c) cs
+  placed_list k (c ∷ cs) = placed_statement k c ++ placed_list (number_after k c) cs
 
   abbrev pub placed_arm : ℕ → Tested → Tested
   placed_arm k t = record { test = t.test; body = block (placed_in k t.body) }

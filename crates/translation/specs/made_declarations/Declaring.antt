@@ -27,13 +27,13 @@ extent_of n = if n == 0 then Given [] else Later n
 abbrev pub declaration_of_name : MadeName → Declaration
 declaration_of_name m = record { name = m.name; kind = m.kind; extent = extent_of m.dimensions }
 
-abbrev pub or_integer : List ℕ → Option Declaration → Declaration
-or_integer x None = integer_scalar x
-or_integer x (Some d) = d
+abbrev pub or_integer_scalar : List ℕ → Option Declaration → Declaration
+or_integer_scalar x None = integer_scalar x
+or_integer_scalar x (Some d) = d
 
 -- a name that passes made is declared as they made it; any other made name counts a loop
 abbrev pub declaration_by : List Declaration → List ℕ → Declaration
-declaration_by made x = or_integer x (declared made x)
+declaration_by made x = or_integer_scalar x (declared made x)
 
 -- ---- all of them
 

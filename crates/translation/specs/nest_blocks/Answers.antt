@@ -10,47 +10,47 @@ use Rattle.translation.specs.loop_numbers.Numbers.{loop_number}
 use Rattle.translation.specs.loop_placing.Placing.{block_at}
 use Rattle.nest.specs.Plain.{Nest}
 use Rattle.listing.specs.programs.Listing.{ListedNest, no_counts}
-use Rattle.translation.specs.nest_blocks.LoopAnswers.{Answer, AreEntriesBy, IsRight, block_by, found_by, made_by}
-use Rattle.translation.specs.nest_blocks.LoopAnswers.{counts_by, nest_by}
+use Rattle.translation.specs.nest_blocks.LoopAnswers.{LoopAnswer, AreEntriesBy, IsRightLoopAnswer, block_by, found_by}
+use Rattle.translation.specs.nest_blocks.LoopAnswers.{made_by, counts_by, nest_by}
 
 -- the answer is for a nest whose outermost loop has this number, and puts the block in the loop's place
-pub record Puts (a : Answer) (k : ℕ) (b : Block) : Type 0 where
+pub record Puts (a : LoopAnswer) (k : ℕ) (b : Block) : Type 0 where
   pub nest : Nest
   pub found : found_by a ≡ InNest nest
   pub number : loop_number nest ≡ k
   pub block : block_by a ≡ Some b
 
 -- in the place of each loop stands just what an answer puts there; loops are numbered from 1
-pub record ArePlaced (answers : List Answer) (blocks : List (Option Block)) : Type 0 where
+pub record ArePlaced (answers : List LoopAnswer) (blocks : List (Option Block)) : Type 0 where
   pub only : (k : ℕ) (b : Block) → 1 ≤ k → block_at blocks k ≡ Some b
-      → (a : Answer) × Contains answers a × Puts a k b
-  pub each : (a : Answer) (k : ℕ) (b : Block) → Contains answers a → Puts a k b → block_at blocks k ≡ Some b
+      → (a : LoopAnswer) × Contains answers a × Puts a k b
+  pub each : (a : LoopAnswer) (k : ℕ) (b : Block) → Contains answers a → Puts a k b → block_at blocks k ≡ Some b
 
 -- each is right behind those before it; masks and copies are numbered through the program
-abbrev pub AreRight : Counts → List Answer → Type 0
+abbrev pub AreRight : Counts → List LoopAnswer → Type 0
 AreRight counts [] = ⊤
-AreRight counts (a ∷ answers) = IsRight counts a × AreRight (counts_by counts a) answers
+AreRight counts (a ∷ answers) = IsRightLoopAnswer counts a × AreRight (counts_by counts a) answers
 
 -- one answer to each loop that stands in no nest, in the order of the text
-pub record AreAnswers (p : Program) (answers : List Answer) : Type 0 where
+pub record AreAnswers (p : Program) (answers : List LoopAnswer) : Type 0 where
   pub right : AreRight no_counts answers
   pub found : map found_by answers ≡ found_in p
 
 -- what they list, one after the other
-abbrev pub AreAllEntriesBy : List Answer → List Entry → Type 0
+abbrev pub AreAllEntriesBy : List LoopAnswer → List Entry → Type 0
 AreAllEntriesBy [] es = es ≡ []
 AreAllEntriesBy (a ∷ answers) es =
     (first : List Entry) × (rest : List Entry) × (es ≡ first ++ rest) × AreEntriesBy a first
     × AreAllEntriesBy answers rest
 
 -- the nests that they list with a graph
-abbrev pub nests_by : List Answer → List ListedNest
+abbrev pub nests_by : List LoopAnswer → List ListedNest
 nests_by answers = flat_map nest_by answers
 
 -- what they list, what they put in the place of loops, and how the names that passes made are declared
 pub record AreAnswersFor (p : Program) (lines : List (List ℕ)) (blocks : List (Option Block)) (made : List Declaration)
     : Type 0 where
-  pub answers : List Answer
+  pub answers : List LoopAnswer
   pub are : AreAnswers p answers
   pub entries : List Entry
   pub listed : AreAllEntriesBy answers entries

@@ -8,6 +8,7 @@ use Rattle.find_nests.specs.Loops.{as_statement}
 use Rattle.meaning.specs.Reads.{names_in_block}
 use Rattle.meaning.specs.Blocks.{Surroundings}
 use Rattle.meaning.specs.Dialect.{fortran77}
+use Rattle.tree.specs.declared.width.Width.{Width}
 use Rattle.meaning.specs.Profile77.{IsProgram77}
 use Rattle.meaning.specs.Profile90.{IsBlock}
 use Rattle.meaning.specs.Store.{names_of}
@@ -39,12 +40,12 @@ AreMadeDeclared r m = (a : Made) → Contains m.made a
 -- p is a program of FORTRAN 77 with the nest n. q has its names and those of the block b, which is one of q's profile,
 -- and r the counters of the nest's loops and what passes made for it besides: q needn't have all of them, since a loop
 -- may have become array assignments
-abbrev pub TranslationDoesAsLoop : Type 0
-TranslationDoesAsLoop = (p q r : Program) (n m : Nest) (b : Block) (w : Surroundings) (found : IsFoundNest p n)
-    → IsProgram77 fortran77 p → Contains (found_in p) (InNest n)
+abbrev pub TranslationDoesAsLoop : (width : Width) → Type 0
+TranslationDoesAsLoop width = (p q r : Program) (n m : Nest) (b : Block) (w : Surroundings) (found : IsFoundNest p n)
+    → IsProgram77 (fortran77 width) p → Contains (found_in p) (InNest n)
     → AddMadeNames p.declarations q.declarations → AddMadeNames q.declarations r.declarations
     → (translated : IsTranslatedNest n m b)
     → All (λ (l : Loop). IsSomeAnd (declared r.declarations l.variable) IsCounter)
     (nest_loops translated.passed.normal)
     → AreMadeDeclared r m → All (Contains (names_of q)) (names_in_block b) → IsBlock q.declarations b w
-    → DoesAs p q (as_statement found.loop.loop.loop) b × HasNoLabel b
+    → DoesAs width p q (as_statement found.loop.loop.loop) b × HasNoLabel b

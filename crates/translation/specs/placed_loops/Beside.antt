@@ -3,6 +3,7 @@
 use Rattle.std.specs.Prelude.{◌≡◌, ℕ, ℤ, Option, None, IfSome, List}
 use Rattle.tree.specs.Plain.{Block, Declaration, Extent, Given, Later, Program, Statement}
 use Rattle.meaning.specs.Dialect.{fortran77, fortran90}
+use Rattle.tree.specs.declared.width.Width.{Width}
 use Rattle.meaning.specs.Holding.{HoldsProgram}
 use Rattle.meaning.specs.Run.{State, Going, does, does_all}
 use Rattle.meaning.specs.Store.{Agree, Store}
@@ -20,10 +21,10 @@ AreUnallocated q s =
 
 -- The stores agree on p, each holds its program, no allocatable array of q is there, and all else is the same but for
 -- the number of steps
-pub record AreBeside (p q : Program) (s t : State) : Type 0 where
+pub record AreBeside (width : Width) (p q : Program) (s t : State) : Type 0 where
   pub store : Agree p s.store t.store
-  pub holds : HoldsProgram fortran77 p s.store
-  pub holds_beside : HoldsProgram fortran90 q t.store
+  pub holds : HoldsProgram (fortran77 width) p s.store
+  pub holds_beside : HoldsProgram (fortran90 width) q t.store
   pub free : AreUnallocated q t.store
   pub written : s.written ≡ t.written
   pub input : s.input ≡ t.input
@@ -32,7 +33,7 @@ pub record AreBeside (p q : Program) (s t : State) : Type 0 where
 
 -- The block does what the statement does: from moments beside each other at which the runs go on, where the statement
 -- meets no fault, both come to moments beside each other
-abbrev pub DoesAs : Program → Program → Statement → Block → Type 0
-DoesAs p q c b = (s t : State)
-    → s.way ≡ Going → AreBeside p q s t → IsSound (does fortran77 None c s).way
-    → AreBeside p q (does fortran77 None c s) (does_all fortran90 None b t)
+abbrev pub DoesAs : (width : Width) → Program → Program → Statement → Block → Type 0
+DoesAs width p q c b = (s t : State)
+    → s.way ≡ Going → AreBeside width p q s t → IsSound (does (fortran77 width) None c s).way
+    → AreBeside width p q (does (fortran77 width) None c s) (does_all (fortran90 width) None b t)

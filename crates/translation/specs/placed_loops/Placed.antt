@@ -4,16 +4,17 @@ use Rattle.tree.specs.Plain.{Statement, If, Do, Arms, no_arms, arm, Block, no_st
 use Rattle.nest.specs.Allocations.{block_then}
 use Rattle.pass_laws.specs.prepared_runs.Unlabelled.{HasNoLabel}
 use Rattle.translation.specs.placed_loops.Beside.{DoesAs}
+use Rattle.tree.specs.declared.width.Width.{Width}
 
 abbrev pub one : Statement → Block
 one c = statement c no_statements
 
-module _ (p q : Program) where
+module _ (width : Width) (p q : Program) where
   -- a block without labels that does what a loop does, in its place; or the loop itself with such blocks in it
   abbrev mutual
     pub StandsFor : Statement → Block → Type 0
     StandsFor (Do line x first last step body) b =
-        (DoesAs p q (Do line x first last step body) b × HasNoLabel b)
+        (DoesAs width p q (Do line x first last step body) b × HasNoLabel b)
         ⊎ ((inside : Block) × (b ≡ one (Do line x first last step inside)) × IsPlaced body inside)
     StandsFor (If line arms other) b =
         (ms : Arms) × (no : Block) × (b ≡ one (If line ms no)) × ArePlaced arms ms × IsPlaced other no

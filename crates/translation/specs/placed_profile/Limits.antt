@@ -2,8 +2,8 @@
 use Rattle.std.specs.Prelude.{◌≤◌, ◌<◌, ◌^◌}
 use Rattle.tree.specs.Limits.{block_depth90}
 use Rattle.tree.specs.Plain.{Block}
-use Rattle.meaning.specs.Blocks.{blocks_in, statements_in}
+use Rattle.meaning.specs.Blocks.{blocks_in, statement_count_in}
 
 pub record IsWithinLimits (b : Block) : Type 0 where
   pub deep : blocks_in b ≤ block_depth90
-  pub many : statements_in b < 2 ^ 31
+  pub many : statement_count_in b < 2 ^ 31

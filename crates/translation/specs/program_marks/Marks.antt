@@ -21,8 +21,8 @@ abbrev pub within : List Round → Marked → Marked
 within outer x = record { round = outer ++ x.round; mark = x.mark; statement = x.statement }
 
 -- the nest and the statement whose mark it bears
-abbrev pub numbers_of : Marked → ℕ × ℕ
-numbers_of x = (x.mark.nest, x.mark.stmt)
+abbrev pub mark_numbers_of : Marked → ℕ × ℕ
+mark_numbers_of x = (x.mark.nest, x.mark.stmt)
 
 -- without the number of its line
 abbrev pub without_line_number : Statement → Statement
@@ -60,7 +60,7 @@ pub record StandsMarked (body : Block) (t : ListedNest) (s : ℕ) : Type 0 where
 pub record AreOfNests (ts : List ListedNest) (body : Block) : Type 0 where
   pub only : (x : Marked) → Contains (marked_in [] body) x → IsOfNests ts x
   pub each : (t : ListedNest) (s : ℕ) → Contains ts t → s < length (nest_statements t.normal) → StandsMarked body t s
-  pub once : Distinct (map numbers_of (marked_in [] body))
+  pub once : Distinct (map mark_numbers_of (marked_in [] body))
 
 -- ---- what stands in the place of each nest
 

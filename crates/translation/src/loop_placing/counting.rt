@@ -1,14 +1,14 @@
 //! How many loops stand in a block.
 ghost use Rattle.std.specs.Prelude.{◌≡◌, map};
 ghost use Rattle.tree.specs.View.{block_of, statement_of, tested_of};
-ghost use Rattle.find_nests.specs.nest_parts.Numbers.{next, after, after_block};
+ghost use Rattle.find_nests.specs.nest_parts.Numbers.{next_loop_number, number_after, after_block};
 ghost use Rattle.find_nests.specs.nest_parts.Lists.{after_each, after_list};
 
 use tree::{Arm, Block, Seq, Stmt};
 
 /// The number of the next loop, where so many stand before it.
 pub(crate) fn next(number: u32) -> u32
-    ensures { result ≡ next number }
+    ensures { result ≡ next_loop_number number }
 {
     if number < u32::MAX {
         number + 1
@@ -20,7 +20,7 @@ pub(crate) fn next(number: u32) -> u32
 #[cycle(counting)]
 #[tactic(auto, using(crate::proofs::LoopPlacing::CountLaws::count_laws))]
 fn after_stmt(number: u32, stmt: &Stmt) -> u32
-    ensures { result ≡ after number (statement_of stmt.now) }
+    ensures { result ≡ number_after number (statement_of stmt.now) }
 {
     match stmt {
         Stmt::If { arms, other, .. } => after_block(after_arms(number, arms), other),

@@ -2,10 +2,10 @@
 ghost use Rattle.std.specs.Prelude.{◌≡◌, ◌++◌, None, Some, map, IfOk, OnOk, MatchOption};
 ghost use Rattle.tree.specs.Plain.{block as plain_block};
 ghost use Rattle.tree.specs.View.{block_of, statement_of, tested_of};
-ghost use Rattle.find_nests.specs.nest_parts.Numbers.{after, after_block};
+ghost use Rattle.find_nests.specs.nest_parts.Numbers.{number_after, after_block};
 ghost use Rattle.find_nests.specs.nest_parts.Lists.{after_each, after_list};
-ghost use Rattle.translation.specs.loop_placing.Placing.{block_at, blocks_of, placed, placed_arm, placed_each};
-ghost use Rattle.translation.specs.loop_placing.Placing.{placed_in, placed_list, statements_in};
+ghost use Rattle.translation.specs.loop_placing.Placing.{block_at, blocks_of, placed_statement, placed_arm};
+ghost use Rattle.translation.specs.loop_placing.Placing.{placed_each, placed_in, placed_list, statements_of_block};
 
 use crate::loop_placing::counting::{after_block, next};
 use std::alloc::Global;
@@ -29,7 +29,8 @@ fn block_at(blocks: &[Option<Block>], number: u32) -> Option<&Block>
 // Puts the statements of a block behind others.
 #[tactic(auto, using(crate::proofs::LoopPlacing::PlaceLaws::append_laws))]
 fn append(made: &mut Seq<Stmt>, more: Block) -> Result<(), Memory>
-    ensures { OnOk result (map statement_of made.new ≡ map statement_of made.old ++ statements_in (block_of more)) }
+    ensures { OnOk result
+        (map statement_of made.new ≡ map statement_of made.old ++ statements_of_block (block_of more)) }
 {
     let Block { stmts } = more;
     for stmt in stmts.into_vec() {
@@ -44,8 +45,8 @@ impl Placing<'_> {
     #[tactic(auto, using(crate::proofs::LoopPlacing::PlaceLaws::place_laws))]
     fn stmt(&self, stmt: Stmt, loops: &mut u32, made: &mut Seq<Stmt>) -> Result<(), Memory>
         ensures made { OnOk result (map statement_of made.new ≡ map statement_of made.old
-            ++ placed (blocks_of self.now.blocks.now) loops.old (statement_of stmt)) }
-        ensures loops { OnOk result (loops.new ≡ after loops.old (statement_of stmt)) }
+            ++ placed_statement (blocks_of self.now.blocks.now) loops.old (statement_of stmt)) }
+        ensures loops { OnOk result (loops.new ≡ number_after loops.old (statement_of stmt)) }
     {
         match stmt {
             Stmt::If { line, arms, other } => {

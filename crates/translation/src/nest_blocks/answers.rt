@@ -1,7 +1,7 @@
 //! The answers to what was found in a program.
 ghost use Rattle.std.specs.Prelude.{IfOk, OnOk, map};
 ghost use Rattle.std.specs.Option.{option_map};
-ghost use Rattle.f90_print.specs.Notes.{text_of};
+ghost use Rattle.f90_print.specs.Notes.{line_text};
 ghost use Rattle.find_nests.specs.View.{found_of};
 ghost use Rattle.meaning.specs.Dialect.{fortran77};
 ghost use Rattle.meaning.specs.Profile77.{IsProgram77};
@@ -10,6 +10,7 @@ ghost use Rattle.translation.specs.loop_placing.Placing.{blocks_of};
 ghost use Rattle.translation.specs.made_declarations.Declaring.{declaration_of_name};
 ghost use Rattle.translation.specs.nest_blocks.Answers.{AreAnswersFor};
 ghost use Rattle.translation.specs.nest_blocks.Places.{IsPutFor};
+ghost use Rattle.tree.specs.declared.width.Width.TheVariants.{Wide};
 
 use crate::made_declarations::MadeName;
 use crate::nest_blocks::loop_answers::answer_to;
@@ -50,9 +51,9 @@ fn put_found(
 
 /// The listing of a program, and the translations of its nests, each by the graph that is listed.
 pub fn program_answers(alloc: Global, program: &Program77) -> Result<Answers, Memory>
-    requires { IsProgram77 fortran77 (program_of program.now) }
+    requires { IsProgram77 (fortran77 Wide) (program_of program.now) }
     ensures { IfOk result (λ a.
-        AreAnswersFor (program_of program.now) (map text_of a.lines) (blocks_of a.blocks)
+        AreAnswersFor (program_of program.now) (map line_text a.lines) (blocks_of a.blocks)
         (map declaration_of_name a.made)) }
 {
     let mut lines = Vec::new(alloc);

@@ -6,7 +6,7 @@ use Rattle.std.specs.Int.{w64}
 use Rattle.std.proofs.lemmas.Int.{to_z-of_z}
 use Rattle.array_form.specs.forms.Forms.{number_text}
 use Rattle.array_form.specs.Texts.{lower_of, upper_of}
-use Rattle.array_form.specs.forms.Loops.{form_without, names_of}
+use Rattle.array_form.specs.forms.Loops.{form_without, form_names_of}
 use Rattle.array_form.specs.holds.View.{loop_names, surroundings_view}
 use Rattle.array_form.proofs.SubscriptLaws.{place_small, rest_affine, section_made}
 use Rattle.array_form.proofs.section_bounds.section.Goals as goal
@@ -34,7 +34,7 @@ returns c = λ f is.
     let rest = rest_affine a l f g c.without-rest.result place few seven c.requires.turns is at c.without-rest.ensures in
     let z = get_or g.loops place (pos 0) in
     let fits : SFits w64 z = search rules in
-    let other = form_without (names_of (surroundings_view a)) l.var f in
+    let other = form_without (form_names_of (surroundings_view a)) l.var f in
     let same = to_z-of_z w64 z fits in
     section_made a l f g place z c.in_ok-lower.lower c.in_ok-upper.upper c.in_ok-number_text.field-0 few c.requires.turns is at refl
     (c.in_ok-lower.ensures other rest ∙ ap (λ t. lower_of a l t other) same) (c.in_ok-upper.ensures other rest ∙ ap (λ t. upper_of a l t other) same)

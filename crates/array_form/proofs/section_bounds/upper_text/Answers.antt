@@ -8,9 +8,9 @@ use Rattle.std.specs.Int.{w64}
 use Rattle.std.proofs.lemmas.Int.{to_z-of_z}
 use Rattle.linear_forms.specs.Linear.{limited, multiple, sum}
 use Rattle.linear_forms.specs.Affines.{IsFound}
-use Rattle.array_form.specs.forms.Forms.{number_text, trip_form}
-use Rattle.array_form.specs.forms.Loops.{names_of}
-use Rattle.array_form.specs.holds.Surroundings.{trip_of}
+use Rattle.array_form.specs.forms.Forms.{number_text, form_of_trip}
+use Rattle.array_form.specs.forms.Loops.{form_names_of}
+use Rattle.array_form.specs.holds.Surroundings.{form_trip_of}
 use Rattle.array_form.specs.holds.View.{surroundings_view}
 use Rattle.array_form.proofs.SectionLaws.{multiple_first}
 use Rattle.array_form.proofs.SubscriptLaws.{upper_ok}
@@ -20,7 +20,7 @@ pub returns : goal.returns
 returns c = λ r is.
     let a = c.args.a.now in
     let n = length a.loops in
-    let form = trip_form (names_of (surroundings_view a)) (trip_of (length a.loops) c.args.turns.now.trip) in
+    let form = form_of_trip (form_names_of (surroundings_view a)) (form_trip_of (length a.loops) c.args.turns.now.trip) in
     let trips : c.push.new.self ≡ c.in_ok-trip_text.field-0 ∷ [] = first_of (cc, search rules, grind (arith, common_steps)) in
     let fits : SFits w64 c.args.times = search rules in
     let P : ℤ → Type 0 = λ z. IsFound n (limited n (Some (sum r (multiple z form)))) c.combined.result in

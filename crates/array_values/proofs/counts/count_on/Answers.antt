@@ -1,7 +1,7 @@
 use Rattle.std.proofs.Common.{◌≡◌, sym, ap, subst, ◌∙◌, pos, Ok, arith, rules, SFits}
 use Rattle.std.specs.Int.{w128}
 use Rattle.std.proofs.lemmas.Int.{ints}
-use Rattle.meaning.specs.Sections.{axis_on, along, stands_in}
+use Rattle.meaning.specs.Sections.{axis_on, along, is_within_bounds}
 use Rattle.array_values.specs.Counts.{CountsAlong, range_in}
 use Rattle.array_values.specs.Selections.{selector_in}
 use Rattle.array_values.proofs.Steps.{residual, settled}
@@ -15,14 +15,14 @@ returns-then-not-is_within c =
     let z = c.in-Index.number in
     let fits : SFits w128 z = search rules in
     ap (λ p. axis_on b (selector_in p)) c.in-Index.is
-    ∙ index_out b z (ap (stands_in b) (sym (settled z fits)) ∙ (sym c.is_within.ensures ∙ c.if-not-is_within.true))
+    ∙ index_out b z (ap (is_within_bounds b) (sym (settled z fits)) ∙ (sym c.is_within.ensures ∙ c.if-not-is_within.true))
 
 pub returns-else-not-is_within : goal.returns-else-not-is_within
 returns-else-not-is_within c =
     let b = range_in c.args.range in
     let z = c.in-Index.number in
     let fits : SFits w128 z = search rules in
-    let h = index_within b z (ap (stands_in b) (sym (settled z fits)) ∙ (sym c.is_within.ensures ∙ c.if-not-is_within.false)) in
+    let h = index_within b z (ap (is_within_bounds b) (sym (settled z fits)) ∙ (sym c.is_within.ensures ∙ c.if-not-is_within.false)) in
     (h.0, ap (λ p. axis_on b (selector_in p)) c.in-Index.is ∙ h.1)
 
 pub returns-then-stride-eq0 : goal.returns-then-stride-eq0

@@ -1,7 +1,7 @@
 use Rattle.std.proofs.Common.{◌≡◌, sym, ap, ◌∙◌, refl, ◌+◌, true, arith, rules, SFits}
 use Rattle.std.specs.Int.{w64, w128}
 use Rattle.std.proofs.lemmas.Int.{ints}
-use Rattle.meaning.specs.Sections.{stands_in}
+use Rattle.meaning.specs.Sections.{is_within_bounds}
 use Rattle.array_values.specs.Counts.{range_in, behind, strides}
 use Rattle.array_values.specs.Selections.{goes_on}
 use Rattle.array_values.proofs.Steps.{settled}
@@ -31,7 +31,7 @@ returns-then-not-is_within c =
     let g : goes_on c.args.lower c.args.upper c.args.stride ≡ true
     = sym (goes_same c.args.lower c.args.upper c.args.stride _ _ _ l u s) ∙ (sym c.goes_on.ensures ∙ c.if-not-goes_on.false) in
     first_outside b c.args.lower c.args.upper c.args.stride c.requires g
-    (ap (stands_in b) (sym l) ∙ (sym c.is_within.ensures ∙ c.if-not-is_within.true))
+    (ap (is_within_bounds b) (sym l) ∙ (sym c.is_within.ensures ∙ c.if-not-is_within.true))
 
 pub returns-then-not-is_within-2 : goal.returns-then-not-is_within-2
 returns-then-not-is_within-2 c =
@@ -45,7 +45,7 @@ returns-then-not-is_within-2 c =
     = sym (goes_same c.args.lower c.args.upper c.args.stride _ _ _ l u s) ∙ (sym c.goes_on.ensures ∙ c.if-not-goes_on.false) in
     last_outside b c.args.lower c.args.upper c.args.stride c.requires g z
     (c.last_number-last.ensures ∙ behind_same c.args.lower c.args.upper c.args.stride _ _ _ l u s)
-    (ap (stands_in b) (sym (settled z fits)) ∙ (sym c.is_within-2.ensures ∙ c.if-not-is_within-2.true))
+    (ap (is_within_bounds b) (sym (settled z fits)) ∙ (sym c.is_within-2.ensures ∙ c.if-not-is_within-2.true))
 
 pub strides-requires : goal.strides-requires
 strides-requires c h = c.requires (sym (settled c.args.stride c.ranges.stride) ∙ h)
@@ -64,8 +64,8 @@ overflow_add-result c =
     let at : z ≡ behind c.args.lower c.args.stride (strides c.args.lower c.args.upper c.args.stride)
     = c.last_number-last.ensures ∙ behind_same c.args.lower c.args.upper c.args.stride _ _ _ l u s in
     let few = few_strides b c.args.lower c.args.stride (strides c.args.lower c.args.upper c.args.stride) c.requires (omega (arith, ints)) (omega (arith, ints))
-    (ap (stands_in b) (sym l) ∙ (sym c.is_within.ensures ∙ c.if-not-is_within.false))
-    (ap (stands_in b) (sym at ∙ sym (settled z fits)) ∙ (sym c.is_within-2.ensures ∙ c.if-not-is_within-2.false)) in
+    (ap (is_within_bounds b) (sym l) ∙ (sym c.is_within.ensures ∙ c.if-not-is_within.false))
+    (ap (is_within_bounds b) (sym at ∙ sym (settled z fits)) ∙ (sym c.is_within-2.ensures ∙ c.if-not-is_within-2.false)) in
     let k : c.strides.result ≡ strides c.args.lower c.args.upper c.args.stride
     = c.strides.ensures ∙ strides_same c.args.lower c.args.upper c.args.stride _ _ _ l u s in
     omega (arith, few, k)
@@ -82,7 +82,7 @@ returns c =
     = sym (goes_same c.args.lower c.args.upper c.args.stride _ _ _ l u s) ∙ (sym c.goes_on.ensures ∙ c.if-not-goes_on.false) in
     all_counted b c.args.lower c.args.upper c.args.stride c.requires g z c.strides.result (c.strides.result + 1)
     (c.last_number-last.ensures ∙ behind_same c.args.lower c.args.upper c.args.stride _ _ _ l u s)
-    (ap (stands_in b) (sym l) ∙ (sym c.is_within.ensures ∙ c.if-not-is_within.false))
-    (ap (stands_in b) (sym (settled z fits)) ∙ (sym c.is_within-2.ensures ∙ c.if-not-is_within-2.false))
+    (ap (is_within_bounds b) (sym l) ∙ (sym c.is_within.ensures ∙ c.if-not-is_within.false))
+    (ap (is_within_bounds b) (sym (settled z fits)) ∙ (sym c.is_within-2.ensures ∙ c.if-not-is_within-2.false))
     (c.strides.ensures ∙ strides_same c.args.lower c.args.upper c.args.stride _ _ _ l u s)
     refl

@@ -1,6 +1,6 @@
 use Rattle.std.proofs.Common.{refl, sym, ap, ◌∙◌, pos, get_or, arith, rules, SFits}
 use Rattle.std.specs.Int.{w128}
-use Rattle.meaning.specs.Sections.{stands_in}
+use Rattle.meaning.specs.Sections.{is_within_bounds}
 use Rattle.array_values.specs.Counts.{range_in}
 use Rattle.array_values.proofs.Steps.{settled}
 use Rattle.array_values.proofs.Counting.{vector_out, vector_next, vector_all}
@@ -15,7 +15,7 @@ returns-then-not-is_within c =
     let x = get_or c.args.numbers.now c.loop-number.number-index (pos 0) in
     let fits : SFits w128 x = search rules in
     vector_out b c.args.numbers.now c.loop-number.number-index c.loop-number.invariant (omega arith)
-    (ap (stands_in b) (sym (settled x fits)) ∙ (sym c.is_within.ensures ∙ c.if-not-is_within.true))
+    (ap (is_within_bounds b) (sym (settled x fits)) ∙ (sym c.is_within.ensures ∙ c.if-not-is_within.true))
 
 pub loop-number-preserved : goal.loop-number-preserved
 loop-number-preserved c =
@@ -23,7 +23,7 @@ loop-number-preserved c =
     let x = get_or c.args.numbers.now c.loop-number.number-index (pos 0) in
     let fits : SFits w128 x = search rules in
     vector_next b c.args.numbers.now c.loop-number.number-index c.loop-number.invariant (omega arith)
-    (ap (stands_in b) (sym (settled x fits)) ∙ (sym c.is_within.ensures ∙ c.if-not-is_within.false))
+    (ap (is_within_bounds b) (sym (settled x fits)) ∙ (sym c.is_within.ensures ∙ c.if-not-is_within.false))
 
 pub returns : goal.returns
 returns c = vector_all (range_in c.args.range) c.args.numbers.now c.loop-number.number-index c.loop-number.invariant (omega arith)

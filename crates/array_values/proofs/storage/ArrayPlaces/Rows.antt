@@ -7,7 +7,7 @@ use mathlib.Core.Path.{ap₂}
 use Rattle.std.proofs.lemmas.List.{map-append}
 use Rattle.std.proofs.Math.Nat.{mul-le-mul_left}
 use Rattle.meaning.specs.Store.{size_of, column_major}
-use Rattle.meaning.specs.Sections.{Axis, numbers_of, stands_in, all_stand_in}
+use Rattle.meaning.specs.Sections.{Axis, numbers_of, is_within_bounds, all_stand_in}
 use Rattle.meaning.specs.Extents.{elements_of}
 use Rattle.machine.specs.Storage.{offset, joined}
 use Rattle.machine.proofs.StoreLaws.{both_true, number_inside, offset_below}
@@ -17,7 +17,7 @@ one_row : (b : ℤ × ℤ) (bs : List (ℤ × ℤ)) (r : List ℤ) (k : ℕ) (zs
     → map (offset (b ∷ bs)) (map (λ x. x ∷ r) zs) ≡ somes (row b zs k)
 one_row b bs r k [] h e = refl
 one_row b bs r k (z ∷ zs) h e =
-    let both = both_true (stands_in b z) (all_stand_in b zs) h in
+    let both = both_true (is_within_bounds b z) (all_stand_in b zs) h in
     ap₂ (λ o os. o ∷ os)
     (ap (joined b z) e ∙ ap (λ (t : Bool). cond t (Some (nat_abs (z -ℤ b.0) + size_of b * k)) None) both.0)
     (one_row b bs r k zs both.1 e)
@@ -41,7 +41,7 @@ places_more b bs a axes ks h e = all_rows b bs (numbers_of a) (column_major (map
 
 pub none_stands : (b : ℤ × ℤ) (zs : List ℤ) → size_of b ≡ 0 → all_stand_in b zs ≡ true → zs ≡ []
 none_stands b [] e h = refl
-none_stands b (z ∷ zs) e h = (let l = number_inside b z (both_true (stands_in b z) (all_stand_in b zs) h).0 in absurd (omega arith))
+none_stands b (z ∷ zs) e h = (let l = number_inside b z (both_true (is_within_bounds b z) (all_stand_in b zs) h).0 in absurd (omega arith))
 
 pub no_rows : (rs : List (List ℤ)) → flat_map (λ rest. map (λ x. x ∷ rest) (let zs : List ℤ = [] in zs)) rs ≡ []
 no_rows [] = refl
@@ -72,34 +72,34 @@ pub inner_room : (s e : ℕ) → s * e < 2 ^ 64 → (s ≡ 0 → ⊥) → e < 2 
 inner_room zero e h no' = absurd (no' refl)
 inner_room (suc s) e h no' = grind arith
 
-pub stand_at : (b : ℤ × ℤ) (zs : List ℤ) (i : ℕ) (d : ℤ) → all_stand_in b zs ≡ true → i < length zs → stands_in b (get_or zs i d) ≡ true
+pub stand_at : (b : ℤ × ℤ) (zs : List ℤ) (i : ℕ) (d : ℤ) → all_stand_in b zs ≡ true → i < length zs → is_within_bounds b (get_or zs i d) ≡ true
 stand_at b [] i d h l = absurd (omega arith)
-stand_at b (z ∷ zs) zero d h l = (both_true (stands_in b z) (all_stand_in b zs) h).0
-stand_at b (z ∷ zs) (suc i) d h l = stand_at b zs i d (both_true (stands_in b z) (all_stand_in b zs) h).1 (omega arith)
+stand_at b (z ∷ zs) zero d h l = (both_true (is_within_bounds b z) (all_stand_in b zs) h).0
+stand_at b (z ∷ zs) (suc i) d h l = stand_at b zs i d (both_true (is_within_bounds b z) (all_stand_in b zs) h).1 (omega arith)
 
 -- ---- one place
 
-joined_by : (b : ℤ × ℤ) (z : ℤ) (k : ℕ) (t : Bool) → stands_in b z ≡ t → joined b z (Some k) ≡ cond t (Some (nat_abs (z -ℤ b.0) + size_of b * k)) None
+joined_by : (b : ℤ × ℤ) (z : ℤ) (k : ℕ) (t : Bool) → is_within_bounds b z ≡ t → joined b z (Some k) ≡ cond t (Some (nat_abs (z -ℤ b.0) + size_of b * k)) None
 joined_by b z k t e = ap (λ (t : Bool). cond t (Some (nat_abs (z -ℤ b.0) + size_of b * k)) None) e
 
 pub joined_none : (b : ℤ × ℤ) (z : ℤ) (k : ℕ) → None ≡ index_in b z → joined b z (Some k) ≡ None
-joined_none b z k e = by (stands_in b z) refl e
+joined_none b z k e = by (is_within_bounds b z) refl e
   where
-    by : (t : Bool) → stands_in b z ≡ t → None ≡ cond t (Some (nat_abs (z -ℤ b.0))) None → joined b z (Some k) ≡ None
+    by : (t : Bool) → is_within_bounds b z ≡ t → None ≡ cond t (Some (nat_abs (z -ℤ b.0))) None → joined b z (Some k) ≡ None
     by true h e = cc
     by false h e = joined_by b z k false h
 
 pub joined_some : (b : ℤ × ℤ) (z : ℤ) (k i : ℕ) → Some i ≡ index_in b z → joined b z (Some k) ≡ Some (i + size_of b * k)
-joined_some b z k i e = by (stands_in b z) refl e
+joined_some b z k i e = by (is_within_bounds b z) refl e
   where
-    by : (t : Bool) → stands_in b z ≡ t → Some i ≡ cond t (Some (nat_abs (z -ℤ b.0))) None → joined b z (Some k) ≡ Some (i + size_of b * k)
+    by : (t : Bool) → is_within_bounds b z ≡ t → Some i ≡ cond t (Some (nat_abs (z -ℤ b.0))) None → joined b z (Some k) ≡ Some (i + size_of b * k)
     by true h e = joined_by b z k true h ∙ ap (λ j. let o : Option ℕ = Some (j + size_of b * k) in o) (let same : nat_abs (z -ℤ b.0) ≡ i = cc in same)
     by false h e = cc
 
-pub index_stands : (b : ℤ × ℤ) (z : ℤ) → stands_in b z ≡ true → index_in b z ≡ Some (nat_abs (z -ℤ b.0))
+pub index_stands : (b : ℤ × ℤ) (z : ℤ) → is_within_bounds b z ≡ true → index_in b z ≡ Some (nat_abs (z -ℤ b.0))
 index_stands b z e = ap (λ (t : Bool). cond t (Some (nat_abs (z -ℤ b.0))) None) e
 
-pub index_within : (b : ℤ × ℤ) (z : ℤ) → stands_in b z ≡ true → nat_abs (z -ℤ b.0) < size_of b
+pub index_within : (b : ℤ × ℤ) (z : ℤ) → is_within_bounds b z ≡ true → nat_abs (z -ℤ b.0) < size_of b
 index_within b z e = number_inside b z e
 
 pub saturated_fits : (o : Option ℕ) (e p : ℕ) → ((k : ℕ) → o ≡ Some k → k < e) → e < 2 ^ 64 → Some p ≡ option_map (λ j. min j (2 ^ 128 - 1)) o → (p < e) × (Some p ≡ o)

@@ -4,8 +4,9 @@ use Rattle.std.specs.Prelude.{All}
 use Rattle.std.proofs.Common.{take}
 use Rattle.tree.specs.declared.ops.Fault.TheVariants.{Overflow}
 use Rattle.meaning.specs.Dialect.{fortran90}
+use Rattle.tree.specs.declared.width.Width.{Width}
 use Rattle.meaning.specs.Value.{is_in_range}
-use Rattle.machine.specs.Moments.{integer_bits, chosen, checked}
+use Rattle.machine.specs.Moments.{chosen, checked}
 use Rattle.std.specs.List.{zip, flat_map, AllByRecursion}
 use mathlib.Core.Path.{ap₂}
 use Rattle.std.proofs.Common.{length-append}
@@ -31,6 +32,7 @@ use Rattle.array_values.specs.declared.failure.Failure.{Failure}
 use Rattle.array_values.specs.declared.failure.Failure.TheVariants as failure
 use Rattle.array_values.specs.Answers.{Answers}
 use Rattle.array_values.specs.storage.array_places.Writing.{AreWrites, Stores, StoresThese, stored_under}
+use Rattle.tree.specs.Widths.{bits_of}
 
 -- ---- a list, place by place
 
@@ -236,15 +238,15 @@ take_whole [] (suc i) l = refl
 take_whole (x ∷ xs) zero l = absurd (omega arith)
 take_whole (x ∷ xs) (suc i) l = ap (λ ys. x ∷ ys) (take_whole xs i (omega arith))
 
-pub out_of_range : (v : Value) (f : Fault) → Err f ≡ checked integer_bits v → storable fortran90 v ≡ Err f
-out_of_range v f e = by (is_in_range integer_bits v) e
+pub out_of_range : (width : Width) (v : Value) (f : Fault) → Err f ≡ checked (bits_of width) v → storable (fortran90 width) v ≡ Err f
+out_of_range width v f e = by (is_in_range (bits_of width) v) e
   where
     by : (t : Bool) → Err f ≡ chosen t → ◌≡◌ {A = Result Value Fault} (cond t (Ok v) (Err Overflow)) (Err f)
     by true e = cc
     by false e = (let same : f ≡ Overflow = cc in ap (λ f. let r : Result Value Fault = Err f in r) (sym same))
 
-pub in_range : (v : Value) (x : Unit {0}) → Ok x ≡ checked integer_bits v → storable fortran90 v ≡ Ok v
-in_range v x e = by (is_in_range integer_bits v) e
+pub in_range : (width : Width) (v : Value) (x : Unit {0}) → Ok x ≡ checked (bits_of width) v → storable (fortran90 width) v ≡ Ok v
+in_range width v x e = by (is_in_range (bits_of width) v) e
   where
     by : (t : Bool) → Ok x ≡ chosen t → ◌≡◌ {A = Result Value Fault} (cond t (Ok v) (Err Overflow)) (Ok v)
     by true e = refl

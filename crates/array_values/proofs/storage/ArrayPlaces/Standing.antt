@@ -5,7 +5,7 @@ use Rattle.std.specs.Ordering.{int_eq}
 use Rattle.tree.specs.Steps.{◌>>=◌}
 use Rattle.tree.specs.declared.ops.Fault.{Fault}
 use Rattle.tree.specs.declared.ops.Fault.TheVariants.{Bounds, ZeroStep}
-use Rattle.meaning.specs.Sections.{Axis, Fixed, Along, Selector, Index, Triplet, Vector, numbers_of, stands_in, all_stand_in, along, axis_on, axes_on, triplet_numbers}
+use Rattle.meaning.specs.Sections.{Axis, Fixed, Along, Selector, Index, Triplet, Vector, numbers_of, is_within_bounds, all_stand_in, along, axis_on, axes_on, triplet_numbers}
 use Rattle.array_values.specs.declared.failure.Failure.{Failure}
 use Rattle.array_values.specs.declared.failure.Failure.TheVariants as failure
 use Rattle.array_values.specs.Answers.{Answers}
@@ -19,7 +19,7 @@ along_by b zs a false h e = cc
 along_stands : (b : ℤ × ℤ) (zs : List ℤ) (a : Axis) → along b zs ≡ Ok a → all_stand_in b (numbers_of a) ≡ true
 along_stands b zs a e = along_by b zs a (all_stand_in b zs) refl e
 
-index_by : (b : ℤ × ℤ) (z : ℤ) (a : Axis) (t : Bool) → stands_in b z ≡ t → ◌≡◌ {A = Result Axis Fault} (cond t (Ok (Fixed z)) (Err Bounds)) (Ok a) → all_stand_in b (numbers_of a) ≡ true
+index_by : (b : ℤ × ℤ) (z : ℤ) (a : Axis) (t : Bool) → is_within_bounds b z ≡ t → ◌≡◌ {A = Result Axis Fault} (cond t (Ok (Fixed z)) (Err Bounds)) (Ok a) → all_stand_in b (numbers_of a) ≡ true
 index_by b z a true h e = (let same : Fixed z ≡ a = cc in subst (λ a. all_stand_in b (numbers_of a) ≡ true) same (ap (λ t. t && true) h))
 index_by b z a false h e = cc
 
@@ -28,7 +28,7 @@ triplet_by b zs a true e = cc
 triplet_by b zs a false e = along_stands b zs a e
 
 axis_stands : (b : ℤ × ℤ) (p : Selector) (a : Axis) → axis_on b p ≡ Ok a → all_stand_in b (numbers_of a) ≡ true
-axis_stands b (Index z) a e = index_by b z a (stands_in b z) refl e
+axis_stands b (Index z) a e = index_by b z a (is_within_bounds b z) refl e
 axis_stands b (Triplet l u stride) a e = triplet_by b (triplet_numbers l u stride) a (int_eq stride (pos 0)) e
 axis_stands b (Vector zs) a e = along_stands b zs a e
 

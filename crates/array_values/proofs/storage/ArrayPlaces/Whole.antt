@@ -6,7 +6,7 @@ use mathlib.Core.Path.{ap₂}
 use Rattle.std.proofs.lemmas.Int.{ints}
 use Rattle.meaning.specs.Store.{size_of, numbers_from, column_major}
 use Rattle.meaning.specs.ArrayValues.{counted}
-use Rattle.meaning.specs.Sections.{numbers_of, stands_in, all_stand_in, whole_axes, extents_of}
+use Rattle.meaning.specs.Sections.{numbers_of, is_within_bounds, all_stand_in, whole_axes, extents_of}
 use Rattle.meaning.specs.Extents.{elements_of}
 use Rattle.machine.specs.Storage.{offset}
 use Rattle.array_values.specs.storage.array_places.Places.{row, somes}
@@ -15,7 +15,7 @@ use Rattle.array_values.proofs.Positions.{counted_append}
 
 -- ---- the numbers of a dimension stand within it
 
-inside : (b : ℤ × ℤ) (z : ℤ) → b.0 ≤ℤ z → z ≤ℤ b.1 → stands_in b z ≡ true
+inside : (b : ℤ × ℤ) (z : ℤ) → b.0 ≤ℤ z → z ≤ℤ b.1 → is_within_bounds b z ≡ true
 inside b z l m = grind (arith, ints)
 
 from_stand : (b : ℤ × ℤ) (z : ℤ) (n : ℕ) → b.0 ≤ℤ z → (z +ℤ pos n) ≤ℤ (b.1 +ℤ pos 1) → all_stand_in b (numbers_from z n) ≡ true

@@ -4,7 +4,7 @@ use Rattle.std.specs.Prelude.{Option, Some, None, if◌then◌else◌, List, [],
 use Rattle.tree.specs.declared.ops.Value.{Value}
 use Rattle.tree.specs.declared.ops.Value.TheVariants.{Int}
 use Rattle.meaning.specs.Store.{size_of}
-use Rattle.meaning.specs.Sections.{Axis, numbers_of, stands_in, all_stand_in}
+use Rattle.meaning.specs.Sections.{Axis, numbers_of, is_within_bounds, all_stand_in}
 
 -- what is selected along each dimension stands within its bounds
 abbrev pub AxesStand : List (ℤ × ℤ) → List Axis → Type 0
@@ -27,7 +27,7 @@ values_there vs ks = map (λ k. get_or vs k (Int (pos 0))) ks
 
 -- how far a number is behind the lower bound, where it stands within both
 abbrev pub index_in : ℤ × ℤ → ℤ → Option ℕ
-index_in b z = if stands_in b z then Some (nat_abs (z -ℤ b.0)) else None
+index_in b z = if is_within_bounds b z then Some (nat_abs (z -ℤ b.0)) else None
 
 abbrev pub places_there : List ℕ → List ℕ → List ℕ
 places_there ks at = map (λ k. get_or ks k 0) at

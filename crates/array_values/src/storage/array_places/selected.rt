@@ -3,7 +3,7 @@ ghost use Rattle.std.specs.Prelude.{◌≡◌, ◌<◌, ◌≤◌, ◌+◌, ◌*
 ghost use Rattle.std.specs.Prelude.{nat_abs, true, ℕ, map, length, All, IfOk, OnOk};
 ghost use Rattle.tree.specs.View.{bounds_of};
 ghost use Rattle.meaning.specs.Store.{size_of, column_major};
-ghost use Rattle.meaning.specs.Sections.{numbers_of, stands_in, all_stand_in};
+ghost use Rattle.meaning.specs.Sections.{numbers_of, is_within_bounds, all_stand_in};
 ghost use Rattle.meaning.specs.Extents.{elements_of};
 ghost use Rattle.machine.specs.Storage.{offset, bounds_list};
 ghost use Rattle.array_values.specs.Selections.{axis_in};
@@ -19,7 +19,7 @@ use tree::{Dim, Memory, Seq, Value};
 #[tactic(auto, using(crate::proofs::storage::ArrayPlaces::Rows::index_stands,
     crate::proofs::storage::ArrayPlaces::Rows::index_within))]
 fn behind(dim: Dim, number: i64) -> u128
-    requires { stands_in (bounds_of dim) number ≡ true }
+    requires { is_within_bounds (bounds_of dim) number ≡ true }
     ensures value { result ≡ nat_abs (number -ℤ (bounds_of dim).0) }
     ensures within { result < size_of (bounds_of dim) }
 {
@@ -30,7 +30,7 @@ fn behind(dim: Dim, number: i64) -> u128
 }
 
 fn push_place(all: &mut Seq<usize>, dim: Dim, number: i64, rest: usize) -> Result<(), Memory>
-    requires stands { stands_in (bounds_of dim) number ≡ true }
+    requires stands { is_within_bounds (bounds_of dim) number ≡ true }
     requires few { size_of (bounds_of dim) * (rest + 1) < 2 ^ 64 }
     ensures { OnOk result (all.new ≡ all.old ++ place_in (bounds_of dim) rest number ∷ []) }
 {

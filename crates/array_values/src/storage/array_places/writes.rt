@@ -13,7 +13,7 @@ use crate::storage::array_places::selection::Selection;
 use crate::{Failure, Prepared};
 use machine::check_range;
 use std::alloc::Global;
-use tree::{Fault, Memory, Seq, Value};
+use tree::{Fault, Memory, Seq, Value, Width};
 
 /// The places of the elements that are stored, in order, and their values.
 #[derive(Drop)]
@@ -22,12 +22,12 @@ pub struct Writes {
     pub values: Seq<Value>,
 }
 
-fn check_all(values: &[Value]) -> Result<(), Fault>
-    ensures { MatchResult result (λ _. each (storable fortran90) values.now ≡ Ok values.now)
-        (λ fault. each (storable fortran90) values.now ≡ Err fault) }
+fn check_all(width: Width, values: &[Value]) -> Result<(), Fault>
+    ensures { MatchResult result (λ _. each (storable (fortran90 width)) values.now ≡ Ok values.now)
+        (λ fault. each (storable (fortran90 width)) values.now ≡ Err fault) }
 {
     for value in values {
-        check_range(*value)?;
+        check_range(width, *value)?;
     }
     Ok(())
 }
@@ -47,20 +47,21 @@ fn picked(alloc: Global, places: &[usize], chosen: &[usize]) -> Result<Seq<usize
 /// value is held against the range of INTEGER. The mask and the right side conform with what is selected.
 pub fn writes_under(
     alloc: Global,
+    width: Width,
     mask: &Prepared,
     target: &Selection,
     right: &Prepared,
 ) -> Result<Writes, Failure>
     requires { length target.now.places ≡ size target.now.extents }
     ensures { (bs : List (ℤ × ℤ)) (axes : List Axis') (x : List ℕ) → IsSelection bs axes target.now
-        → Stores bs x (stored_under fortran90 (elements_in mask.now) x axes (elements_in right.now)) result }
+        → Stores bs x (stored_under (fortran90 width) (elements_in mask.now) x axes (elements_in right.now)) result }
 {
     let extents = target.extents.as_slice();
     let chosen = mask.true_places(alloc, extents)?;
     let picks = chosen.as_slice();
     let values = right.values_at(alloc, extents, picks)?;
     let found = values.as_slice();
-    check_all(found)?;
+    check_all(width, found)?;
     let all = target.places.as_slice();
     let places = picked(alloc, all, picks)?;
     Ok(Writes { places, values })

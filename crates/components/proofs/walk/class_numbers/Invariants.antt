@@ -1,5 +1,5 @@
 use Rattle.std.proofs.Common.{◌≡◌, ◌<◌, ℕ, []}
-use Rattle.components.specs.declared.walk.Mark.TheVariants.{New}
+use Rattle.components.specs.declared.walk.NodeState.TheVariants.{New}
 use Rattle.components.specs.Walking.{mark, IsWalking}
 use Rattle.components.proofs.walk.class_numbers.Given as goal
 

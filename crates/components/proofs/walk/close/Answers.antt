@@ -1,6 +1,6 @@
 use Rattle.std.proofs.Common.{◌≡◌, ◌≤◌, ◌+◌, ◌++◌, ◌∷◌, [], length, take, set, subst, sym, ap, ◌∙◌, arith}
 use Rattle.std.proofs.lemmas.List.{length_push}
-use Rattle.components.specs.declared.walk.Mark.TheVariants.{Done}
+use Rattle.components.specs.declared.walk.NodeState.TheVariants.{Done}
 use Rattle.components.specs.Walking.{IsClosed}
 use Rattle.components.proofs.Closing.{closed_more}
 use Rattle.components.proofs.Parts.{shorter}

@@ -1,7 +1,7 @@
 use Rattle.std.proofs.Common.{◌<◌, ◌≤◌, subst, sym, arith, Some}
 use Rattle.components.specs.Walking.{IsLast}
 use Rattle.components.proofs.Parts.{all_up_to, fewer_by_one, In-without, rising_without, without-In}
-use Rattle.components.specs.Lists.{In, Pairwise}
+use Rattle.components.specs.Lists.{IsMember, Pairwise}
 use Rattle.components.proofs.walk.drop_after.Goals as goal
 
 pub returns-then-last-place : goal.returns-then-last-place
@@ -22,8 +22,8 @@ dropping-preserved c =
     let more : c.args.place < c.in-Some.last.0 = omega arith in
     record {
       rising = subst (Pairwise (λ b c. b.0 < c.0)) e (rising_without starts c.in-Some.last split c.dropping.invariant.rising);
-      from = λ b i. c.dropping.invariant.from b (without-In starts c.in-Some.last split b (subst (In b) (sym e) i));
-      kept = λ b i h. subst (In b) e (In-without starts c.in-Some.last split b (c.dropping.invariant.kept b i h) (omega arith));
+      from = λ b i. c.dropping.invariant.from b (without-In starts c.in-Some.last split b (subst (IsMember b) (sym e) i));
+      kept = λ b i h. subst (IsMember b) e (In-without starts c.in-Some.last split b (c.dropping.invariant.kept b i h) (omega arith));
       fewer = let a = fewer_by_one starts c.in-Some.last split in let b = c.dropping.invariant.fewer in
           subst (λ z. Rattle.std.specs.Prelude.length z ≤ Rattle.std.specs.Prelude.length c.args.starts.now.items) e (omega arith);
     }

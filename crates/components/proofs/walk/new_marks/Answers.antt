@@ -1,6 +1,6 @@
 use Rattle.std.proofs.Common.{◌∷◌, ◌++◌, [], ap, ◌∙◌}
 use Rattle.std.proofs.lemmas.List.{replicate_more}
-use Rattle.components.specs.declared.walk.Mark.TheVariants.{New}
+use Rattle.components.specs.declared.walk.NodeState.TheVariants.{New}
 use Rattle.components.proofs.walk.new_marks.Goals as goal
 
 pub loop-number-preserved : goal.loop-number-preserved

@@ -1,5 +1,5 @@
 use Rattle.std.proofs.Common.{◌≡◌, replicate}
-use Rattle.components.specs.declared.walk.Mark.TheVariants.{New}
+use Rattle.components.specs.declared.walk.NodeState.TheVariants.{New}
 use Rattle.components.proofs.walk.new_marks.Given as goal
 
 abbrev pub invariant-loop-number : goal.invariant-loop-number

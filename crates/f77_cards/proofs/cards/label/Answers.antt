@@ -1,10 +1,10 @@
 use Rattle.std.proofs.Common.{arith, ◌≡◌, ◌+◌, ◌-◌, ◌*◌, get_or, Some, sym, unwrap_or, ◌∙◌, refl}
-use Rattle.f77_cards.proofs.Labels.{label_in-none, label_step-digit, label_step-other}
+use Rattle.f77_cards.proofs.Labels.{label_in_field-none, label_step-digit, label_step-other}
 use Rattle.f77_cards.proofs.cards.label.Goals as goal
 use Rattle.f77_cards.proofs.cards.label.Goals.{then-is_ascii_digit, else-is_ascii_digit}
 
 pub loop-column-init : goal.loop-column-init
-loop-column-init c = (sym label_in-none, omega arith)
+loop-column-init c = (sym label_in_field-none, omega arith)
 
 pub loop-column-preserved : goal.loop-column-preserved
 loop-column-preserved c =

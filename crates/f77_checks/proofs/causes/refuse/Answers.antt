@@ -9,10 +9,10 @@ use Rattle.f77_checks.proofs.Passing.{passes_alone, fails_alone}
 use Rattle.f77_checks.proofs.causes.refuse.Goals as goal
 
 pub returns-in-None : goal.returns-in-None
-returns-in-None c = λ h.
-    passes_alone (text_of c.args.text.now) c.args.cause (sym c.in-None.is ∙ c.line_at.ensures (holds_in fortran77 (text_of c.args.text.now) c.args.cause) h)
+returns-in-None c = λ w h.
+    passes_alone w (text_of c.args.text.now) c.args.cause (sym c.in-None.is ∙ c.line_at.ensures (holds_in (fortran77 w) (text_of c.args.text.now) c.args.cause) h)
 
 pub returns-in-Some : goal.returns-in-Some
-returns-in-Some c = λ h.
-    subst (λ (r : Refusal). Passes (c.args.cause ∷ []) (text_of c.args.text.now) (Err (refused.Refusal r))) (sym c.at.ensures.refusal)
-    (fails_alone (text_of c.args.text.now) c.args.cause c.in-Some.line (sym c.in-Some.is ∙ c.line_at.ensures (holds_in fortran77 (text_of c.args.text.now) c.args.cause) h))
+returns-in-Some c = λ w h.
+    subst (λ (r : Refusal). Passes w (c.args.cause ∷ []) (text_of c.args.text.now) (Err (refused.Refusal r))) (sym c.at.ensures.refusal)
+    (fails_alone w (text_of c.args.text.now) c.args.cause c.in-Some.line (sym c.in-Some.is ∙ c.line_at.ensures (holds_in (fortran77 w) (text_of c.args.text.now) c.args.cause) h))

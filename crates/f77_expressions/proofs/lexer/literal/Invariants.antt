@@ -1,5 +1,5 @@
 use Rattle.std.proofs.Common.{◌≡◌, length}
-use Rattle.f77_grammar.specs.expressions.Spelling.{is_digit}
+use Rattle.reading.specs.Characters.{is_digit}
 use Rattle.f77_expressions.specs.Lexing.{run_of}
 use Rattle.f77_expressions.specs.Literals.{IsSoFar}
 use Rattle.f77_expressions.specs.Symbols.{symbols_of}

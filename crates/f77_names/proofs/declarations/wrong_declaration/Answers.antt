@@ -26,7 +26,7 @@ loop-i-preserved c = record {
       c.loop-i.invariant.searched;
   seen =
       seen_same c.is_wrong.new.self
-      (plain.uses_of (statement_of c.index-text-i.result.statement) ++ plain.uses_in_text (passed (text_of c.args.text.now) c.loop-i.i))
+      (plain.uses77_of (statement_of c.index-text-i.result.statement) ++ plain.uses_in_text (passed (text_of c.args.text.now) c.loop-i.i))
       (plain.uses_in_text (passed (text_of c.args.text.now) (c.loop-i.i + 1)))
       (sym (text_behind c.args.text.now c.loop-i.i c.index-text-i.result (omega arith) c.index-text-i.is))
       ((c.in_ok-is_wrong.ensures (plain.uses_in_text (text_of c.args.text.now)) (plain.uses_in_text (passed (text_of c.args.text.now) c.loop-i.i)) (names_known c.args.known.now (plain.uses_in_text (text_of c.args.text.now)) c.requires) c.loop-i.invariant.seen).1 c.if-branch.false);

@@ -7,5 +7,5 @@ use Rattle.f77_read.proofs.programs.build_cards.Goals as goal
 
 pub returns-clause-built : goal.returns-clause-built
 returns-clause-built c =
-    text_built (map card_of c.args.cards.now) (text_of c.in_ok-written.written) c.build_text.result c.in_ok-written.ensures
-    (subst (λ xs. IsTextBuilt xs c.build_text.result) (ap text_of c.as_slice.ensures ∙ c.in_ok-text.ensures) c.build_text.ensures.built)
+    text_built c.args.width (map card_of c.args.cards.now) (text_of c.in_ok-written.written) c.build_text.result c.in_ok-written.ensures
+    (subst (λ xs. IsTextBuilt c.args.width xs c.build_text.result) (ap text_of c.as_slice.ensures ∙ c.in_ok-text.ensures) c.build_text.ensures.built)

@@ -1,8 +1,8 @@
 use Rattle.std.proofs.Common.{◌≡◌, sym, subst, true}
 use Rattle.std.proofs.lemmas.Result.{err_from_is_err_and}
-use Rattle.f77_grammar.specs.expressions.Phrases.{written}
-use Rattle.f77_grammar.specs.expressions.Squeezing.{Symbol}
-use Rattle.f77_grammar.specs.expressions.Spelling.{Words}
+use Rattle.f77_grammar.specs.expressions.Phrases.{written77}
+use Rattle.f77_grammar.specs.expressions.Squeezing.{Symbol77}
+use Rattle.f77_grammar.specs.expressions.Spelling.{AreWords77}
 use Rattle.std.specs.Prelude.{List}
 use Rattle.f77_statement.specs.Parts.{IsFormedOf}
 use Rattle.f77_statement.proofs.GivenLaws.{given_err}
@@ -21,7 +21,7 @@ returns-then-not-is_then-clause-only c f h =
 pub returns-in_err-tree-clause-only : goal.returns-in_err-tree-clause-only
 returns-in_err-tree-clause-only c f h =
     let k = the_halves _ _ _ f c.in-Some.ensures h in
-    let w = subst (λ (q : List Symbol). Words q (written h.0)) (sym k.inside_is) h.4 in
+    let w = subst (λ (q : List Symbol77). AreWords77 q (written77 h.0)) (sym k.inside_is) h.4 in
     let p = err_from_is_err_and c.from_residual.result c.from_residual.ensures.1 in
     rw (p.1, p.2) (given_err _ _ _ (c.in_err-tree.ensures.only h.0 h.5 w))
 
@@ -34,5 +34,5 @@ returns-clause-found c =
 pub returns-clause-only : goal.returns-clause-only
 returns-clause-only c f h =
     let k = the_halves _ _ _ f c.in-Some.ensures h in
-    let w = subst (λ (q : List Symbol). Words q (written h.0)) (sym k.inside_is) h.4 in
+    let w = subst (λ (q : List Symbol77). AreWords77 q (written77 h.0)) (sym k.inside_is) h.4 in
     subst (IsFormedOf _) (sym h.2) (else_if_made h.0 c.in_ok-tree.tree _ _ (c.in_ok-tree.ensures.only h.0 h.5 w))

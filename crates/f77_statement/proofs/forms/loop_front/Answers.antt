@@ -1,5 +1,5 @@
 use Rattle.std.proofs.Common.{◌++◌, Some, ap, sym, ◌∙◌, refl, subst, codes}
-use Rattle.f77_grammar.specs.expressions.Spelling.{value, chars}
+use Rattle.f77_grammar.specs.expressions.Spelling.{value, chars77}
 use Rattle.f77_grammar.specs.statements.Forms.{optional_comma}
 use Rattle.f77_grammar.specs.statements.Recognition.{BeginsWithLetter}
 use Rattle.f77_expressions.specs.Symbols.{symbols_of}
@@ -14,7 +14,7 @@ returns-in-Some-clause-found c =
 
 pub returns-in-Some-clause-only : goal.returns-in-Some-clause-only
 returns-in-Some-clause-only c digits comma rest l b e =
-    let k = c.in-Some.ensures.only (value digits) (chars (optional_comma comma) ++ rest) (front_label (symbols_of c.args.text.now) _ rest digits comma c.in_ok-rest.ensures l b e) in
+    let k = c.in-Some.ensures.only (value digits) (chars77 (optional_comma comma) ++ rest) (front_label (symbols_of c.args.text.now) _ rest digits comma c.in_ok-rest.ensures l b e) in
     (ap Some k.0, c.behind_comma.ensures ∙ (ap without_comma k.1 ∙ comma_gone comma rest b))
 
 pub returns-in-Some-clause-only_plain : goal.returns-in-Some-clause-only_plain
@@ -27,7 +27,7 @@ returns-in-None-clause-found c = strip_same (codes "DO") (symbols_of c.args.text
 
 pub returns-in-None-clause-only : goal.returns-in-None-clause-only
 returns-in-None-clause-only c digits comma rest l b e =
-    absurd (c.in-None.ensures.only (value digits) (chars (optional_comma comma) ++ rest) (front_label (symbols_of c.args.text.now) _ rest digits comma c.in_ok-rest.ensures l b e))
+    absurd (c.in-None.ensures.only (value digits) (chars77 (optional_comma comma) ++ rest) (front_label (symbols_of c.args.text.now) _ rest digits comma c.in_ok-rest.ensures l b e))
 
 pub returns-in-None-clause-only_plain : goal.returns-in-None-clause-only_plain
 returns-in-None-clause-only_plain c rest b e = (refl, plain_stripped (symbols_of c.args.text.now) _ rest c.in_ok-rest.ensures e)

@@ -1,25 +1,25 @@
 use Rattle.std.proofs.Common.{◌≡◌, ℕ, ◌+◌, ◌<◌, ◌==◌, length, get_or, Bool, ◌||◌, List, sym, ap, ◌∙◌, arith}
 use Rattle.std.specs.List.{list_any}
 use Rattle.f77_grammar.specs.Statement77.{Labelled}
-use Rattle.f77_grammar.specs.program.Order.{is_out_of_order, is_executable, follows_title, is_nothing}
+use Rattle.f77_grammar.specs.program.Order.{is_out_of_order, is_executable77, follows_title, is_nothing77}
 use Rattle.f77_grammar.specs.declared.syntax.statements.Labelled.{Labelled as Labelled'}
 use Rattle.f77_structure.specs.Forms.{form_of, is_late_form, is_executable_form, follows_title_form}
 use Rattle.f77_grammar.specs.syntax.Views.{text_of, labelled_of, statement_of}
 use Rattle.f77_grammar.specs.syntax.Walk.{passed, place_at}
-use Rattle.f77_structure.proofs.ByForm.{is_late-form, is_executable-form, follows_title-form}
+use Rattle.f77_structure.proofs.ByForm.{is_late77-form, is_executable77-form, follows_title-form}
 use Rattle.f77_grammar.proofs.syntax.Walks.{search_goes_on, search_stops_at, search_ends, first_at, text_passed}
 use Rattle.f77_structure.proofs.order.out_of_order.Goals as goal
 
 -- what is known of the statements passed says of a statement what its place says
 late_at : (xs : List Labelled') (i : ℕ) (x : Labelled') (more executable : Bool) → i < length xs
     → more ≡ list_any (λ (y : Labelled). follows_title y.statement) (passed (text_of xs) i)
-    → executable ≡ list_any (λ (y : Labelled). is_executable y.statement) (passed (text_of xs) i)
+    → executable ≡ list_any (λ (y : Labelled). is_executable77 y.statement) (passed (text_of xs) i)
     → is_late_form (form_of (statement_of x.statement)) (i == 0) more executable ≡ is_out_of_order (place_at (text_of xs) i (labelled_of x))
 late_at xs i x more executable h m e =
     ap (λ b. is_late_form (form_of (statement_of x.statement)) b more executable) (first_at xs i h)
-    ∙ ap (λ b. is_late_form (form_of (statement_of x.statement)) (is_nothing (passed (text_of xs) i)) b executable) m
-    ∙ ap (is_late_form (form_of (statement_of x.statement)) (is_nothing (passed (text_of xs) i)) (list_any (λ (y : Labelled). follows_title y.statement) (passed (text_of xs) i))) e
-    ∙ sym (is_late-form (statement_of x.statement) (place_at (text_of xs) i (labelled_of x)))
+    ∙ ap (λ b. is_late_form (form_of (statement_of x.statement)) (is_nothing77 (passed (text_of xs) i)) b executable) m
+    ∙ ap (is_late_form (form_of (statement_of x.statement)) (is_nothing77 (passed (text_of xs) i)) (list_any (λ (y : Labelled). follows_title y.statement) (passed (text_of xs) i))) e
+    ∙ sym (is_late77-form (statement_of x.statement) (place_at (text_of xs) i (labelled_of x)))
 
 more_more : (xs : List Labelled') (i : ℕ) (x : Labelled') (more : Bool) → i < length xs → x ≡ get_or xs i x
     → more ≡ list_any (λ (y : Labelled). follows_title y.statement) (passed (text_of xs) i)
@@ -30,12 +30,12 @@ more_more xs i x more h e old =
     ∙ sym (ap (list_any (λ (y : Labelled). follows_title y.statement)) (text_passed xs i x h e))
 
 executable_more : (xs : List Labelled') (i : ℕ) (x : Labelled') (executable : Bool) → i < length xs → x ≡ get_or xs i x
-    → executable ≡ list_any (λ (y : Labelled). is_executable y.statement) (passed (text_of xs) i)
-    → (is_executable_form (form_of (statement_of x.statement)) || executable) ≡ list_any (λ (y : Labelled). is_executable y.statement) (passed (text_of xs) (i + 1))
+    → executable ≡ list_any (λ (y : Labelled). is_executable77 y.statement) (passed (text_of xs) i)
+    → (is_executable_form (form_of (statement_of x.statement)) || executable) ≡ list_any (λ (y : Labelled). is_executable77 y.statement) (passed (text_of xs) (i + 1))
 executable_more xs i x executable h e old =
-    ap (λ b. b || executable) (sym (is_executable-form (statement_of x.statement)))
-    ∙ ap (λ b. is_executable (statement_of x.statement) || b) old
-    ∙ sym (ap (list_any (λ (y : Labelled). is_executable y.statement)) (text_passed xs i x h e))
+    ap (λ b. b || executable) (sym (is_executable77-form (statement_of x.statement)))
+    ∙ ap (λ b. is_executable77 (statement_of x.statement) || b) old
+    ∙ sym (ap (list_any (λ (y : Labelled). is_executable77 y.statement)) (text_passed xs i x h e))
 
 pub returns-then-is_late : goal.returns-then-is_late
 returns-then-is_late c =

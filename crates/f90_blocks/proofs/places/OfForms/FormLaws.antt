@@ -1,10 +1,10 @@
 -- Statements with their forms.
 use Rattle.std.proofs.Common.{◌≡◌, ◌+◌, ◌<◌, ℕ, List, [], ◌∷◌, ◌++◌, ◌≤◌, drop, length, get_or, ap, sym, subst, ◌∙◌, append_assoc, append-nil, Option, Some, None, Result, Ok, Err}
 use Rattle.tree.specs.declared.lists.Memory.{Memory}
-use Rattle.f90_grammar.specs.Forms.{Form, IsWritten}
+use Rattle.f90_grammar.specs.Forms.{Form90, IsWritten90}
 use Rattle.f90_grammar.specs.FreeForm.{FreeStatement}
-use Rattle.f90_grammar.specs.Refusals.{IsFormOf}
-use Rattle.f90_grammar.specs.Words.{Word, HasWords}
+use Rattle.f90_grammar.specs.Refusals.{IsFormOf90}
+use Rattle.f90_grammar.specs.Words.{Word90, HasWords}
 use Rattle.f90_statement.specs.Views.{AreOf}
 use Rattle.f90_statement.specs.declared.nodes.Statement.{Statement}
 use Rattle.f90_lines.specs.Views.{statement_seen, statements_seen}
@@ -13,18 +13,18 @@ use Rattle.std.proofs.lemmas.List.{drop_more, drop_all}
 use Rattle.f90_blocks.specs.places.forms.Forms.{IsFormIn, ReadsForm, ReadsWords}
 
 -- the characters of the statement have these words, and no others
-abbrev IsOnly : List ℕ → List Word → Type 0
-IsOnly cs ws = (vs : List Word) → HasWords cs vs → ws ≡ vs
+abbrev IsOnly : List ℕ → List Word90 → Type 0
+IsOnly cs ws = (vs : List Word90) → HasWords cs vs → ws ≡ vs
 
-pub form_at : (r : Result (Option Statement) Memory) (s : FreeStatement) (cs : List ℕ) (ws : List Word) → cs ≡ s.chars → HasWords cs ws → IsOnly cs ws → ReadsWords ws r
+pub form_at : (r : Result (Option Statement) Memory) (s : FreeStatement) (cs : List ℕ) (ws : List Word90) → cs ≡ s.chars → HasWords cs ws → IsOnly cs ws → ReadsWords ws r
     → ReadsForm s r
 form_at (Ok (Some made)) s cs ws e h o k =
     record { form = k.form; is_of = k.is_of; of = (ws, subst (λ (c : List ℕ). HasWords c ws) e h, k.written) }
 form_at (Ok None) s cs ws e h o k =
-    λ f g. k f (subst (λ (v : List Word). IsWritten f v) (sym (o g.0 (subst (λ (c : List ℕ). HasWords c g.0) (sym e) g.1))) g.2)
+    λ f g. k f (subst (λ (v : List Word90). IsWritten90 f v) (sym (o g.0 (subst (λ (c : List ℕ). HasWords c g.0) (sym e) g.1))) g.2)
 form_at (Err e) s cs ws q h o k = tt
 
-pub no_words : (s : FreeStatement) (cs : List ℕ) → cs ≡ s.chars → ((vs : List Word) → HasWords cs vs → ⊥) → (f : Form) → IsFormOf s f → ⊥
+pub no_words : (s : FreeStatement) (cs : List ℕ) → cs ≡ s.chars → ((vs : List Word90) → HasWords cs vs → ⊥) → (f : Form90) → IsFormOf90 s f → ⊥
 no_words s cs e o f g = o g.0 (subst (λ (c : List ℕ). HasWords c g.0) (sym e) g.1)
 
 pub ruleset forms = (form_at, no_words)

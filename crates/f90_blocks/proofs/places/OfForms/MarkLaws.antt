@@ -4,10 +4,10 @@ use Rattle.std.specs.Prelude.{reverse, option_to_list}
 use Rattle.std.proofs.lemmas.List.{drop-map, reverse-append}
 use Rattle.tree.specs.declared.stmts.Mark.{Mark}
 use Rattle.f90_grammar.specs.Blocks as grammar
-use Rattle.f90_grammar.specs.Forms.{Form}
+use Rattle.f90_grammar.specs.Forms.{Form90}
 use Rattle.f90_grammar.specs.FreeForm.{FreeStatement}
-use Rattle.f90_grammar.specs.Reading.{HaveForms, takes_mark, last_of, if_taken}
-use Rattle.f90_grammar.specs.Refusals.{IsFormOf}
+use Rattle.f90_grammar.specs.Reading.{HaveForms, takes_mark, last_mark, if_taken}
+use Rattle.f90_grammar.specs.Refusals.{IsFormOf90}
 use Rattle.f90_lines.specs.Views.{statement_seen, statements_seen}
 use Rattle.f90_lines.specs.declared.readings.Statement as written
 use Rattle.f90_statement.specs.Views.{AreOf}
@@ -17,7 +17,7 @@ use Rattle.f90_blocks.specs.places.forms.Places.{IsPlacedOf, IsPlacedNext, HaveP
 use Rattle.f90_blocks.specs.declared.places.forms.placing.Placed.{Placed}
 use Rattle.f90_blocks.proofs.places.OfForms.FormLaws.{left_at}
 
-pub last_push : (pending : Option Mark) (ms : List Mark) (m : Mark) → last_of pending (ms ++ m ∷ []) ≡ Some m
+pub last_push : (pending : Option Mark) (ms : List Mark) (m : Mark) → last_mark pending (ms ++ m ∷ []) ≡ Some m
 last_push pending [] m = refl
 last_push pending (n ∷ ms) m = last_push (Some n) ms m
 
@@ -35,7 +35,7 @@ are_more (j ∷ ks) (q ∷ ps) k p h g = (h.0, are_more ks ps k p h.1 g)
 pub one_more : (all more : List FreeStatement) (s : FreeStatement) (ks : List Placed) (pending next : Option Mark) (made : Statement) (k : Placed)
     → HavePlacesSoFar all (s ∷ more) ks pending → (g : HasForm s made) → IsPlacedNext s pending g.form k next → HavePlacesSoFar all more (ks ++ k ∷ []) next
 one_more all more s ks pending next made k h g n =
-    let p : grammar.Placed = grammar.at s.line (if_taken (takes_mark g.form) (last_of pending s.ahead)) g.form in
+    let p : grammar.Placed = grammar.placed_form s.line (if_taken (takes_mark g.form) (last_mark pending s.ahead)) g.form in
     record {
       placed = h.placed ++ p ∷ [];
       are = are_more ks h.placed k p h.are (record { line = n.line; mark = n.mark; is = n.is });
@@ -58,14 +58,14 @@ ended all left ks pending e h = record {
 -- ---- a statement that has no form
 
 abbrev HasNone : FreeStatement → Type 0
-HasNone s = (f : Form) → IsFormOf s f → ⊥
+HasNone s = (f : Form90) → IsFormOf90 s f → ⊥
 
 pub lost : (ss : List FreeStatement) (i : ℕ) (s : FreeStatement) (more : List FreeStatement) (pending : Option Mark) (ps : List grammar.Placed) → drop i ss ≡ s ∷ more
     → HasNone s → HaveForms pending ss ps → ⊥
 lost [] zero s more pending ps e n h = cc
 lost [] (suc i) s more pending ps e n h = cc
 lost (t ∷ ss) i s more pending [] e n h = h
-lost (t ∷ ss) zero s more pending (p ∷ ps) e n h = n p.form (subst (λ (q : FreeStatement). IsFormOf q p.form) (same e) h.2)
+lost (t ∷ ss) zero s more pending (p ∷ ps) e n h = n p.form (subst (λ (q : FreeStatement). IsFormOf90 q p.form) (same e) h.2)
   where
     same : t ∷ ss ≡ s ∷ more → t ≡ s
     same q = cc

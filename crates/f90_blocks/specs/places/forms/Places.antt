@@ -3,9 +3,9 @@ use Rattle.std.specs.Prelude.{◌≡◌, ◌++◌, Option, Some, None, List, Res
 use Rattle.tree.specs.declared.lists.Memory.{Memory}
 use Rattle.tree.specs.declared.stmts.Mark.{Mark}
 use Rattle.f90_grammar.specs.Blocks as grammar
-use Rattle.f90_grammar.specs.Forms.{Form}
+use Rattle.f90_grammar.specs.Forms.{Form90}
 use Rattle.f90_grammar.specs.FreeForm.{FreeStatement}
-use Rattle.f90_grammar.specs.Reading.{HaveForms, takes_mark, last_of, if_taken, left_over}
+use Rattle.f90_grammar.specs.Reading.{HaveForms, takes_mark, last_mark, if_taken, mark_left_over}
 use Rattle.f90_statement.specs.Views.{AreOf, IsStatementOf}
 use Rattle.f90_blocks.specs.declared.places.forms.placing.Placed.{Placed}
 
@@ -15,12 +15,12 @@ pub record IsPlacedOf (k : Placed) (p : grammar.Placed) : Type 0 where
   pub is : IsStatementOf k.statement p.form
 
 -- the statement, which has this form, as it stands behind such a mark; and the mark behind it
-pub record IsPlacedNext (s : FreeStatement) (pending : Option Mark) (f : Form) (k : Placed) (next : Option Mark)
+pub record IsPlacedNext (s : FreeStatement) (pending : Option Mark) (f : Form90) (k : Placed) (next : Option Mark)
     : Type 0 where
   pub line : k.line ≡ s.line
-  pub mark : k.mark ≡ if_taken (takes_mark f) (last_of pending s.ahead)
+  pub mark : k.mark ≡ if_taken (takes_mark f) (last_mark pending s.ahead)
   pub is : IsStatementOf k.statement f
-  pub behind : next ≡ last_of (left_over (takes_mark f) (last_of pending s.ahead)) s.within
+  pub behind : next ≡ last_mark (mark_left_over (takes_mark f) (last_mark pending s.ahead)) s.within
 
 -- the statements have these forms, lines and marks
 pub record HavePlaces (ss : List FreeStatement) (ks : List Placed) : Type 0 where

@@ -1,7 +1,7 @@
 //! Statements with their lines and marks.
 ghost use Rattle.std.specs.Prelude.{◌≡◌};
-ghost use Rattle.f90_grammar.specs.Forms.{Form};
-ghost use Rattle.f90_grammar.specs.Reading.{last_of};
+ghost use Rattle.f90_grammar.specs.Forms.{Form90};
+ghost use Rattle.f90_grammar.specs.Reading.{last_mark};
 ghost use Rattle.f90_lines.specs.Views.{statement_seen, statements_seen};
 ghost use Rattle.f90_statement.specs.Views.{AreOf, IsStatementOf};
 ghost use Rattle.f90_blocks.specs.places.forms.Forms.{IsFormIn};
@@ -23,7 +23,7 @@ pub struct Placed {
 // The last of the marks, or the one before them.
 #[tactic(auto, using(crate::proofs::places::OfForms::MarkLaws::marks))]
 fn last_of(pending: Option<Mark>, marks: &[Mark]) -> Option<Mark>
-    ensures { result ≡ last_of pending marks.now }
+    ensures { result ≡ last_mark pending marks.now }
 {
     match marks.split_last() {
         Some((mark, _)) => Some(*mark),
@@ -33,7 +33,7 @@ fn last_of(pending: Option<Mark>, marks: &[Mark]) -> Option<Mark>
 
 // The statement at its place, and the mark behind it.
 fn place(written: &Written, pending: Option<Mark>, statement: Statement) -> (Placed, Option<Mark>)
-    ensures { (f : Form) → IsStatementOf statement f
+    ensures { (f : Form90) → IsStatementOf statement f
         → IsPlacedNext (statement_seen written.now) pending f result.0 result.1 }
 {
     let line = written.line;

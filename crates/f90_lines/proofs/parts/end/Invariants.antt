@@ -1,6 +1,6 @@
 use Rattle.std.proofs.Common.{◌≡◌, ◌≤◌, length, drop, true}
 use Rattle.std.specs.List.{list_all}
-use Rattle.f90_grammar.specs.FreeForm.{is_blank}
+use Rattle.reading.specs.Characters.{is_blank}
 use Rattle.f90_lines.proofs.parts.end.Given as goal
 
 abbrev pub invariant-blanks : goal.invariant-blanks

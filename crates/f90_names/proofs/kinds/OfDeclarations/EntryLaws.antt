@@ -13,11 +13,11 @@ use Rattle.tree.specs.declared.ops.Kind.{Kind}
 use Rattle.meaning.specs.Names.{is_among}
 use Rattle.meaning.specs.Typed.{declared, rank_of_extent}
 use Rattle.f90_grammar.specs.Blocks as grammar
-use Rattle.f90_grammar.specs.Declared.{declarations_in, declarations_of, names_of, is_repeated, declares_again}
+use Rattle.f90_grammar.specs.Declared.{declarations_in, declarations_of, declared_names_of, is_repeated, declares_again}
 use Rattle.f90_grammar.specs.Forms as forms
-use Rattle.f90_grammar.specs.Forms.{Form}
-use Rattle.f90_grammar.specs.Order.{Place}
-use Rattle.f90_grammar.specs.Reading.{dimension_bounds, extent_of, entity_declaration}
+use Rattle.f90_grammar.specs.Forms.{Form90}
+use Rattle.f90_grammar.specs.Order.{Place90}
+use Rattle.f90_grammar.specs.Reading.{dimension_bounds, extent_of_dimensions, entity_declaration}
 use Rattle.f90_blocks.specs.places.forms.Places.{IsPlacedOf}
 use Rattle.f90_blocks.specs.declared.places.forms.placing.Placed.{Placed}
 use Rattle.f90_statement.specs.Views.{AreOf, IsDimensionOf, IsEntityOf, IsActionOf, IsStatementOf}
@@ -224,24 +224,24 @@ module _ (k : Kind) (l : Bool) (es : List Entity) (i : ℕ) where
 abbrev entry_in : Declaration → Entry
 entry_in d = entry d.name (record { kind = d.kind; rank = rank_of_extent d.extent; is_allocatable = is_later d.extent })
 
-ranks : (a : Bool) (ds : List forms.Dimension) → rank_of_extent (extent_of a ds) ≡ length ds
+ranks : (a : Bool) (ds : List forms.Dimension) → rank_of_extent (extent_of_dimensions a ds) ≡ length ds
 ranks true ds = refl
 ranks false ds = length-map ds dimension_bounds
 
-laters : (a : Bool) (ds : List forms.Dimension) → is_later (extent_of a ds) ≡ a
+laters : (a : Bool) (ds : List forms.Dimension) → is_later (extent_of_dimensions a ds) ≡ a
 laters true ds = refl
 laters false ds = refl
 
-entity_entry : (k : Kind) (a : Bool) (e : Entity) (f : forms.Entity) → IsEntityOf e f
+entity_entry : (k : Kind) (a : Bool) (e : Entity) (f : forms.EntityForm90) → IsEntityOf e f
     → entry_of k a e ≡ entry_in (entity_declaration k a f)
 entity_entry k a e f h =
     ap (λ x. entry x (record { kind = k; rank = length e.dimensions; is_allocatable = a })) h.name
     ∙ ap (λ n. entry f.name (record { kind = k; rank = n; is_allocatable = a }))
     (same_length IsDimensionOf e.dimensions f.dimensions h.dimensions ∙ sym (ranks a f.dimensions))
-    ∙ ap (λ b. entry f.name (record { kind = k; rank = rank_of_extent (extent_of a f.dimensions); is_allocatable = b }))
+    ∙ ap (λ b. entry f.name (record { kind = k; rank = rank_of_extent (extent_of_dimensions a f.dimensions); is_allocatable = b }))
     (sym (laters a f.dimensions))
 
-entity_entries : (k : Kind) (a : Bool) (es : List Entity) (fs : List forms.Entity) → AreOf IsEntityOf es fs
+entity_entries : (k : Kind) (a : Bool) (es : List Entity) (fs : List forms.EntityForm90) → AreOf IsEntityOf es fs
     → map (entry_of k a) es ≡ map entry_in (map (entity_declaration k a) fs)
 entity_entries k a [] [] h = refl
 entity_entries k a [] (f ∷ fs) h = absurd h
@@ -256,20 +256,20 @@ abbrev pub is_declaration : Statement → Bool
 is_declaration (Declare k a es) = true
 is_declaration s = false
 
-no_action : (a : Action) (k : Kind) (b : Bool) (es : List forms.Entity) → IsActionOf a (forms.Declare k b es) → ⊥
+no_action : (a : Action) (k : Kind) (b : Bool) (es : List forms.EntityForm90) → IsActionOf a (forms.Declare k b es) → ⊥
 no_action (Read (Some is)) k b es h = h
 no_action (Read None) k b es h = h
 no_action (Print (Some is)) k b es h = h
 no_action (Print None) k b es h = h
 no_action a k b es h = h
 
-no_statement : (s : Statement) (k : Kind) (b : Bool) (es : List forms.Entity) → is_declaration s ≡ false
+no_statement : (s : Statement) (k : Kind) (b : Bool) (es : List forms.EntityForm90) → is_declaration s ≡ false
     → IsStatementOf s (forms.Declare k b es) → ⊥
 no_statement (Declare j a fs) k b es n h = cc
 no_statement (Act a) k b es n h = no_action a k b es h
 no_statement s k b es n h = h
 
-pub declares_nothing : (s : Statement) (f : Form) → is_declaration s ≡ false → IsStatementOf s f
+pub declares_nothing : (s : Statement) (f : Form90) → is_declaration s ≡ false → IsStatementOf s f
     → declarations_in f ≡ []
 declares_nothing s (forms.Declare k b es) n h = absurd (no_statement s k b es n h)
 declares_nothing s f n h = refl
@@ -278,7 +278,7 @@ no_entries : (s : Statement) → is_declaration s ≡ false → entries_in s ≡
 no_entries (Declare k a es) n = cc
 no_entries s n = refl
 
-statement_entries : (s : Statement) (f : Form) → IsStatementOf s f → entries_in s ≡ map entry_in (declarations_in f)
+statement_entries : (s : Statement) (f : Form90) → IsStatementOf s f → entries_in s ≡ map entry_in (declarations_in f)
 statement_entries (Declare k a es) (forms.Declare l b fs) h =
     ap (λ j. map (entry_of j a) es) h.0 ∙ ap (λ c. map (entry_of l c) es) h.1 ∙ entity_entries l b es fs h.2
 statement_entries (Declare k a es) f h = absurd h
@@ -315,7 +315,7 @@ pub knows_more : (names : Names) (ks : List Placed) (i : ℕ) (k : Placed) → i
     → Knows names (entries_of (take (i + 1) ks))
 knows_more names ks i k l e h = subst (λ (es : List Entry). Knows names es) (sym (entries_more ks i k l e)) h
 
-names_are : (ds : List Declaration) → names_in (map entry_in ds) ≡ names_of ds
+names_are : (ds : List Declaration) → names_in (map entry_in ds) ≡ declared_names_of ds
 names_are [] = refl
 names_are (d ∷ ds) = ap (λ ns. d.name ∷ ns) (names_are ds)
 
@@ -323,15 +323,15 @@ names_are (d ∷ ds) = ap (λ ns. d.name ∷ ns) (names_are ds)
 again_is : (ks : List Placed) (ps : List grammar.Placed) (k : Placed) (p : grammar.Placed) → AreOf IsPlacedOf ks ps
     → IsPlacedOf k p
     → is_repeated (names_in (entries_of ks)) (names_in (entries_in k.statement)) ≡ is_repeated
-    (names_of (declarations_of ps)) (names_of (declarations_in p.form))
+    (declared_names_of (declarations_of ps)) (declared_names_of (declarations_in p.form))
 again_is ks ps k p h g =
     ap (λ es. is_repeated (names_in es) (names_in (entries_in k.statement))) (entries_are ks ps h)
     ∙ ap (λ es. is_repeated (names_in (map entry_in (declarations_of ps))) (names_in es))
     (statement_entries k.statement p.form g.is)
     ∙ ap (λ ns. is_repeated ns (names_in (map entry_in (declarations_in p.form)))) (names_are (declarations_of ps))
-    ∙ ap (is_repeated (names_of (declarations_of ps))) (names_are (declarations_in p.form))
+    ∙ ap (is_repeated (declared_names_of (declarations_of ps))) (names_are (declarations_in p.form))
 
-pub again_at : (ks : List Placed) (ps : List grammar.Placed) (i : ℕ) (k : Placed) (again : Bool) (q : Place)
+pub again_at : (ks : List Placed) (ps : List grammar.Placed) (i : ℕ) (k : Placed) (again : Bool) (q : Place90)
     → again ≡ is_repeated (names_in (entries_of (take i ks))) (names_in (entries_in k.statement))
     → IsThere ks ps i k q → again ≡ declares_again q.before q.here.form
 again_at ks ps i k again q e t = e ∙ again_is (take i ks) q.before k q.here t.of_before t.of_here

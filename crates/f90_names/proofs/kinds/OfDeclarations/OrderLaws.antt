@@ -23,22 +23,22 @@ use Rattle.tree.specs.declared.programs.Decl.{Decl}
 use Rattle.meaning.specs.Names.{is_among, IsInByteOrder}
 use Rattle.f90_grammar.specs.Blocks.{Placed}
 use Rattle.f90_grammar.specs.Bounds.{HasBounds}
-use Rattle.f90_grammar.specs.Declared.{declarations_in, declarations_of, names_of, is_repeated, declares_again}
-use Rattle.f90_grammar.specs.Order.{Place, IsPlaceIn}
+use Rattle.f90_grammar.specs.Declared.{declarations_in, declarations_of, declared_names_of, is_repeated, declares_again}
+use Rattle.f90_grammar.specs.Order.{Place90, IsPlaceIn}
 use Rattle.f90_names.specs.kinds.declarations.Declarations.{AreAccepted, AreInOrder, name_in}
 use Rattle.f90_names.proofs.kinds.OfDeclarations.BoundLaws.{bounds_unless, all_append}
 use Rattle.f90_names.proofs.kinds.OfDeclarations.SizeLaws.{declared_more, or_left, or_right}
 
 -- ---- bounds
 
-abbrev pub IsBeyond : Place → Type 0
+abbrev pub IsBeyond : Place90 → Type 0
 IsBeyond p = AllByRecursion HasBounds (declarations_in p.here.form) → ⊥
 
-abbrev place : List Placed → Placed → List Placed → Place
+abbrev place : List Placed → Placed → List Placed → Place90
 place before here after = record { before = before; here = here; after = after }
 
 bounds_behind : (front rest : List Placed)
-    → ((p : Place) → IsPlaceIn (front ++ rest) p → (AllByRecursion HasBounds (declarations_in p.here.form) → ⊥) → ⊥)
+    → ((p : Place90) → IsPlaceIn (front ++ rest) p → (AllByRecursion HasBounds (declarations_in p.here.form) → ⊥) → ⊥)
     → AllByRecursion HasBounds (declarations_of rest)
 bounds_behind front [] h = tt
 bounds_behind front (p ∷ more) h =
@@ -70,7 +70,7 @@ same_names : (x y : List ℕ) → bytes_eq x y ≡ true → x ≡ y
 same_names x y h = (bytes_eq-Decides x y).0 h
 
 not_repeated : (earlier : List (List ℕ)) (ds : List Declaration) (x : List ℕ)
-    → is_repeated earlier (names_of ds) ≡ false → times x ds + one (is_among earlier x) ≤ 1
+    → is_repeated earlier (declared_names_of ds) ≡ false → times x ds + one (is_among earlier x) ≤ 1
 not_repeated earlier [] x h = least (is_among earlier x)
   where
     least : (b : Bool) → 0 + one b ≤ 1
@@ -86,7 +86,7 @@ not_repeated earlier (d ∷ ds) x h =
     omega arith
 
 -- a name that isn't among those of declarations isn't declared there
-never_declared : (ds : List Declaration) (x : List ℕ) → is_among (names_of ds) x ≡ false → times x ds ≡ 0
+never_declared : (ds : List Declaration) (x : List ℕ) → is_among (declared_names_of ds) x ≡ false → times x ds ≡ 0
 never_declared [] x h = refl
 never_declared (d ∷ ds) x h =
     let here : counted x d ≡ 0 = ap one (or_left (bytes_eq x d.name) _ h) in
@@ -94,36 +94,36 @@ never_declared (d ∷ ds) x h =
     let more : times x (d ∷ ds) ≡ counted x d + times x ds = sum_by-cons (counted x) d ds in
     omega arith
 
-once_declared : (ds : List Declaration) (x : List ℕ) → is_among (names_of ds) x ≡ true → 1 ≤ times x ds
+once_declared : (ds : List Declaration) (x : List ℕ) → is_among (declared_names_of ds) x ≡ true → 1 ≤ times x ds
 once_declared [] x h = absurd (cc)
 once_declared (d ∷ ds) x h = cases (bytes_eq x d.name) refl h (λ k. once_declared ds x k)
   where
     more : times x (d ∷ ds) ≡ counted x d + times x ds
     more = sum_by-cons (counted x) d ds
 
-    cases : (b : Bool) → bytes_eq x d.name ≡ b → (b || is_among (names_of ds) x) ≡ true
-        → (is_among (names_of ds) x ≡ true → 1 ≤ times x ds) → 1 ≤ times x (d ∷ ds)
+    cases : (b : Bool) → bytes_eq x d.name ≡ b → (b || is_among (declared_names_of ds) x) ≡ true
+        → (is_among (declared_names_of ds) x ≡ true → 1 ≤ times x ds) → 1 ≤ times x (d ∷ ds)
     cases true e k g = let m = more in let f : counted x d ≡ 1 = ap one e in omega arith
     cases false e k g = let m = more in let f = g k in omega arith
 
-names_both : (xs ys : List Declaration) → names_of (xs ++ ys) ≡ names_of xs ++ names_of ys
+names_both : (xs ys : List Declaration) → declared_names_of (xs ++ ys) ≡ declared_names_of xs ++ declared_names_of ys
 names_both xs ys = map-append (λ (d : Declaration). d.name) xs ys
 
 once_behind : (front rest : List Placed)
-    → ((p : Place) → IsPlaceIn (front ++ rest) p → IsTrue (declares_again p.before p.here.form) → ⊥) → (x : List ℕ)
-    → times x (declarations_of rest) + one (is_among (names_of (declarations_of front)) x) ≤ 1
-once_behind front [] h x = least (is_among (names_of (declarations_of front)) x)
+    → ((p : Place90) → IsPlaceIn (front ++ rest) p → IsTrue (declares_again p.before p.here.form) → ⊥) → (x : List ℕ)
+    → times x (declarations_of rest) + one (is_among (declared_names_of (declarations_of front)) x) ≤ 1
+once_behind front [] h x = least (is_among (declared_names_of (declarations_of front)) x)
   where
     least : (b : Bool) → 0 + one b ≤ 1
     least true = omega arith
     least false = omega arith
 once_behind front (p ∷ more) h x =
-    let first : times x (declarations_in p.form) + one (is_among (names_of (declarations_of front)) x) ≤ 1 =
-    not_repeated (names_of (declarations_of front)) (declarations_in p.form) x
+    let first : times x (declarations_in p.form) + one (is_among (declared_names_of (declarations_of front)) x) ≤ 1 =
+    not_repeated (declared_names_of (declarations_of front)) (declarations_in p.form) x
     (unrepeated (declares_again front p.form) refl) in
-    let rest : times x (declarations_of more) + one (is_among (names_of (declarations_of (front ++ p ∷ []))) x) ≤ 1 =
+    let rest : times x (declarations_of more) + one (is_among (declared_names_of (declarations_of (front ++ p ∷ []))) x) ≤ 1 =
     once_behind (front ++ p ∷ []) more (λ q i. h q (sym (append_assoc front (p ∷ []) more) ∙ i)) x in
-    cases (is_among (names_of here) x) refl first rest
+    cases (is_among (declared_names_of here) x) refl first rest
   where
     here : List Declaration
     here = declarations_in p.form
@@ -132,12 +132,12 @@ once_behind front (p ∷ more) h x =
     unrepeated false e = refl
     unrepeated true e = absurd (h (place front p more) refl e)
 
-    known : is_among (names_of (declarations_of (front ++ p ∷ []))) x ≡
-        (is_among (names_of (declarations_of front)) x || is_among (names_of here) x)
+    known : is_among (declared_names_of (declarations_of (front ++ p ∷ []))) x ≡
+        (is_among (declared_names_of (declarations_of front)) x || is_among (declared_names_of here) x)
     known =
-        ap (λ ds. is_among (names_of ds) x) (declared_more front p)
+        ap (λ ds. is_among (declared_names_of ds) x) (declared_more front p)
         ∙ ap (λ ns. is_among ns x) (names_both (declarations_of front) here)
-        ∙ list_any-append (bytes_eq x) (names_of (declarations_of front)) (names_of here)
+        ∙ list_any-append (bytes_eq x) (declared_names_of (declarations_of front)) (declared_names_of here)
 
     sums : times x (declarations_of (p ∷ more)) ≡ times x here + times x (declarations_of more)
     sums = sum_by-append (counted x) here (declarations_of more)
@@ -150,21 +150,21 @@ once_behind front (p ∷ more) h x =
     or_false true b e = refl
     or_false false b e = ap one e
 
-    cases : (b : Bool) → is_among (names_of here) x ≡ b
-        → times x here + one (is_among (names_of (declarations_of front)) x) ≤ 1
-        → times x (declarations_of more) + one (is_among (names_of (declarations_of (front ++ p ∷ []))) x) ≤ 1
-        → times x (declarations_of (p ∷ more)) + one (is_among (names_of (declarations_of front)) x) ≤ 1
+    cases : (b : Bool) → is_among (declared_names_of here) x ≡ b
+        → times x here + one (is_among (declared_names_of (declarations_of front)) x) ≤ 1
+        → times x (declarations_of more) + one (is_among (declared_names_of (declarations_of (front ++ p ∷ []))) x) ≤ 1
+        → times x (declarations_of (p ∷ more)) + one (is_among (declared_names_of (declarations_of front)) x) ≤ 1
     cases true e f r =
         let s = sums in
-        let o : one (is_among (names_of (declarations_of (front ++ p ∷ []))) x) ≡ 1 =
-        ap one known ∙ or_true (is_among (names_of (declarations_of front)) x) (is_among (names_of here) x) e in
+        let o : one (is_among (declared_names_of (declarations_of (front ++ p ∷ []))) x) ≡ 1 =
+        ap one known ∙ or_true (is_among (declared_names_of (declarations_of front)) x) (is_among (declared_names_of here) x) e in
         omega arith
     cases false e f r =
         let s = sums in
         let n = never_declared here x e in
-        let o : one (is_among (names_of (declarations_of (front ++ p ∷ []))) x) ≡ one
-        (is_among (names_of (declarations_of front)) x) =
-        ap one known ∙ or_false (is_among (names_of (declarations_of front)) x) (is_among (names_of here) x) e in
+        let o : one (is_among (declared_names_of (declarations_of (front ++ p ∷ []))) x) ≡ one
+        (is_among (declared_names_of (declarations_of front)) x) =
+        ap one known ∙ or_false (is_among (declared_names_of (declarations_of front)) x) (is_among (declared_names_of here) x) e in
         omega arith
 
 abbrev AreOnce : List Declaration → Type 0
@@ -176,9 +176,9 @@ all_once ps a x = let h : times x (declarations_of ps) + 0 ≤ 1 = once_behind [
 -- ---- in order
 
 -- what isn't above a name, and isn't the name, stands below it
-below : (x : List ℕ) (ds : List Declaration) → is_among (names_of ds) x ≡ false
+below : (x : List ℕ) (ds : List Declaration) → is_among (declared_names_of ds) x ≡ false
     → AllByRecursion (λ (d : Declaration). is_lt (slice_cmp nat_cmp d.name x) ≡ false) ds
-    → AllByRecursion (λ y. slice_cmp nat_cmp x y ≡ Less) (names_of ds)
+    → AllByRecursion (λ y. slice_cmp nat_cmp x y ≡ Less) (declared_names_of ds)
 below x [] n h = tt
 below x (d ∷ ds) n h = (by (slice_cmp nat_cmp x d.name) refl, below x ds (or_right (bytes_eq x d.name) _ n) h.1)
   where
@@ -210,11 +210,11 @@ each_above x [] h = tt
 each_above x (y ∷ ys) h = (h 0 (omega arith), each_above x ys (λ j l. h (suc j) (omega arith)))
 
 in_byte_order : (xs : List Decl) → Rises xs → AreOnce (map declaration_of xs)
-    → IsInByteOrder (names_of (map declaration_of xs))
+    → IsInByteOrder (declared_names_of (map declaration_of xs))
 in_byte_order [] h o = tt
 in_byte_order (x ∷ xs) h o = (
   below x.name (map declaration_of xs)
-      (apart (is_among (names_of (map declaration_of xs)) x.name) refl) above,
+      (apart (is_among (declared_names_of (map declaration_of xs)) x.name) refl) above,
   in_byte_order xs
       (rises_behind x xs h) rest,
 )
@@ -226,7 +226,7 @@ in_byte_order (x ∷ xs) h o = (
     rest : AreOnce (map declaration_of xs)
     rest y = let m = more y in let l = o y in omega arith
 
-    apart : (b : Bool) → is_among (names_of (map declaration_of xs)) x.name ≡ b → b ≡ false
+    apart : (b : Bool) → is_among (declared_names_of (map declaration_of xs)) x.name ≡ b → b ≡ false
     apart false e = refl
     apart true e =
         let m = more x.name in

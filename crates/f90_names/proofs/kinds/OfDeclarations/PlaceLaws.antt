@@ -4,7 +4,7 @@ use Rattle.std.proofs.Common.{length, get_or, take, refl, ap, sym, subst, ◌∙
 use Rattle.std.proofs.lemmas.Bool.{cases_eq}
 use Rattle.std.proofs.lemmas.List.{take_more, take_all, length-append}
 use Rattle.f90_grammar.specs.Blocks as grammar
-use Rattle.f90_grammar.specs.Order.{Place, IsPlaceIn}
+use Rattle.f90_grammar.specs.Order.{Place90, IsPlaceIn}
 use Rattle.f90_blocks.specs.declared.places.forms.placing.Placed.{Placed}
 use Rattle.f90_blocks.specs.places.forms.Places.{IsPlacedOf}
 use Rattle.f90_blocks.specs.places.First.{IsFirstPlace, FindsFirst}
@@ -105,13 +105,13 @@ module _ {A B : Type 0} (is : A → B → Type 0) where
 -- ---- places
 
 -- it holds at none of the first n places
-abbrev pub Unmet : List grammar.Placed → (Place → Type 0) → ℕ → Type 0
-Unmet ps Holds n = (p : Place) → IsPlaceIn ps p → Holds p → n ≤ length p.before
+abbrev pub Unmet : List grammar.Placed → (Place90 → Type 0) → ℕ → Type 0
+Unmet ps Holds n = (p : Place90) → IsPlaceIn ps p → Holds p → n ≤ length p.before
 
-pub unmet : (ps : List grammar.Placed) (Holds : Place → Type 0) → Unmet ps Holds 0
+pub unmet : (ps : List grammar.Placed) (Holds : Place90 → Type 0) → Unmet ps Holds 0
 unmet ps Holds p i h = omega arith
 
-abbrev place : List grammar.Placed → grammar.Placed → List grammar.Placed → Place
+abbrev place : List grammar.Placed → grammar.Placed → List grammar.Placed → Place90
 place before here after = record { before = before; here = here; after = after }
 
 record AreSame {A : Type 0} (xs ys : List A) (x y : A) (zs ws : List A) : Type 0 where
@@ -129,7 +129,7 @@ parts (a ∷ xs) (b ∷ ys) x y zs ws e l =
     let first : a ≡ b = cc in
     record { before = ap (λ q. q ∷ xs) first ∙ ap (λ qs. b ∷ qs) rest.before; here = rest.here; after = rest.after }
 
-same_place : (ps : List grammar.Placed) (Holds : Place → Type 0) (p q : Place) → IsPlaceIn ps p → IsPlaceIn ps q
+same_place : (ps : List grammar.Placed) (Holds : Place90 → Type 0) (p q : Place90) → IsPlaceIn ps p → IsPlaceIn ps q
     → length p.before ≡ length q.before → Holds p → Holds q
 same_place ps Holds p q i j l h =
     let s = parts p.before q.before p.here q.here p.after q.after (sym i ∙ j) l in
@@ -137,7 +137,7 @@ same_place ps Holds p q i j l h =
     (subst (λ (here : grammar.Placed). Holds (place p.before here q.after)) s.here
     (subst (λ (after : List grammar.Placed). Holds (place p.before p.here after)) s.after h))
 
-unmet_more : (ps : List grammar.Placed) (Holds : Place → Type 0) (n : ℕ) (q : Place) → IsPlaceIn ps q
+unmet_more : (ps : List grammar.Placed) (Holds : Place90 → Type 0) (n : ℕ) (q : Place90) → IsPlaceIn ps q
     → length q.before ≡ n → (Holds q → ⊥) → Unmet ps Holds n → Unmet ps Holds (n + 1)
 unmet_more ps Holds n q i e unheld u p j h = cases (cases_eq n (length p.before))
   where
@@ -149,24 +149,24 @@ unmet_more ps Holds n q i e unheld u p j h = cases (cases_eq n (length p.before)
 
 module _ (ks : List Placed) (ps : List grammar.Placed) (i : ℕ) (k : Placed) where
   -- a place with what the code holds there
-  pub record IsThere (q : Place) : Type 0 where
+  pub record IsThere (q : Place90) : Type 0 where
     pub in_text : IsPlaceIn ps q
     pub of_before : AreOf IsPlacedOf (take i ks) q.before
     pub of_here : IsPlacedOf k q.here
 
-  pub go_on : (Holds : Place → Type 0) → i < length ks → k ≡ get_or ks i k → AreOf IsPlacedOf ks ps
-      → ((q : Place) → IsThere q → Holds q → ⊥) → Unmet ps Holds i → Unmet ps Holds (i + 1)
+  pub go_on : (Holds : Place90 → Type 0) → i < length ks → k ≡ get_or ks i k → AreOf IsPlacedOf ks ps
+      → ((q : Place90) → IsThere q → Holds q → ⊥) → Unmet ps Holds i → Unmet ps Holds (i + 1)
   go_on Holds l e a unheld u =
       let f = at IsPlacedOf ks ps i k l e a in
-      let q : Place = place f.before f.here f.after in
+      let q : Place90 = place f.before f.here f.after in
       unmet_more ps Holds i q f.same f.number
       (unheld q (record { in_text = f.same; of_before = f.of_before; of_here = f.of_here })) u
 
-  pub stop_at : (Holds : Place → Type 0) → i < length ks → k ≡ get_or ks i k → AreOf IsPlacedOf ks ps
-      → ((q : Place) → IsThere q → Holds q) → Unmet ps Holds i → IsFirstPlace ps Holds i
+  pub stop_at : (Holds : Place90 → Type 0) → i < length ks → k ≡ get_or ks i k → AreOf IsPlacedOf ks ps
+      → ((q : Place90) → IsThere q → Holds q) → Unmet ps Holds i → IsFirstPlace ps Holds i
   stop_at Holds l e a held u =
       let f = at IsPlacedOf ks ps i k l e a in
-      let q : Place = place f.before f.here f.after in
+      let q : Place90 = place f.before f.here f.after in
       record {
         place = q;
         in_text = f.same;
@@ -175,7 +175,7 @@ module _ (ks : List Placed) (ps : List grammar.Placed) (i : ℕ) (k : Placed) wh
         first = u;
       }
 
-pub never : (ks : List Placed) (ps : List grammar.Placed) (Holds : Place → Type 0) (n : ℕ) → length ks ≤ n
+pub never : (ks : List Placed) (ps : List grammar.Placed) (Holds : Place90 → Type 0) (n : ℕ) → length ks ≤ n
     → AreOf IsPlacedOf ks ps → Unmet ps Holds n → FindsFirst ps Holds None
 never ks ps Holds n l a u p i h =
     let m = same_length IsPlacedOf ks ps a in

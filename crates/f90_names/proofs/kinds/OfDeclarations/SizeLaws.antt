@@ -21,8 +21,8 @@ use Rattle.f90_grammar.specs.Bounds.{HasBounds, declared_up_to}
 use Rattle.f90_grammar.specs.Contents.{is_declared_wide, has_wide_literal_in}
 use Rattle.f90_grammar.specs.Declared.{declarations_in, declarations_of}
 use Rattle.f90_grammar.specs.Forms as forms
-use Rattle.f90_grammar.specs.Forms.{Form}
-use Rattle.f90_grammar.specs.Order.{Place, IsPlaceIn}
+use Rattle.f90_grammar.specs.Forms.{Form90}
+use Rattle.f90_grammar.specs.Order.{Place90, IsPlaceIn}
 use Rattle.f90_grammar.specs.Reading.{dimension_bounds, entity_declaration}
 use Rattle.f90_statement.specs.Views.{AreOf, IsEntityOf, IsStatementOf}
 use Rattle.f90_statement.specs.declared.nodes.Entity.{Entity}
@@ -98,10 +98,10 @@ sum_append f xs ys = ap sum (map-append f xs ys) ∙ sum_by-append (λ n. n) (ma
 capped_sum : (a b m n k : ℕ) → m ≡ capped a → n ≡ capped b → k ≡ capped (m + n) → k ≡ capped (a + b)
 capped_sum a b m n k e f g = omega arith
 
-abbrev elements_of_entity : forms.Entity → ℕ
+abbrev elements_of_entity : forms.EntityForm90 → ℕ
 elements_of_entity e = array_elements (given_bounds e)
 
-pub array_more : (es : List forms.Entity) (e : forms.Entity) (count here new : ℕ) → count ≡ capped (elements_in es)
+pub array_more : (es : List forms.EntityForm90) (e : forms.EntityForm90) (count here new : ℕ) → count ≡ capped (elements_in es)
     → here ≡ capped (array_elements (given_bounds e)) → new ≡ capped (count + here)
     → new ≡ capped (elements_in (es ++ e ∷ []))
 array_more es e count here new f g h =
@@ -114,17 +114,17 @@ array_more es e count here new f g h =
 
 -- ---- declarations
 
-given_sizes : (k : Kind) (es : List forms.Entity)
+given_sizes : (k : Kind) (es : List forms.EntityForm90)
     → map (λ (d : Declaration). array_elements (dimensions d.extent))
     (map (entity_declaration k false) es) ≡ map elements_of_entity es
 given_sizes k [] = refl
 given_sizes k (e ∷ es) = ap (λ ns. elements_of_entity e ∷ ns) (given_sizes k es)
 
-pub given_elements : (k : Kind) (es : List forms.Entity)
+pub given_elements : (k : Kind) (es : List forms.EntityForm90)
     → all_elements (map (entity_declaration k false) es) ≡ elements_in es
 given_elements k es = ap sum (given_sizes k es)
 
-pub later_elements : (k : Kind) (es : List forms.Entity) → all_elements (map (entity_declaration k true) es) ≡ 0
+pub later_elements : (k : Kind) (es : List forms.EntityForm90) → all_elements (map (entity_declaration k true) es) ≡ 0
 later_elements k [] = refl
 later_elements k (e ∷ es) =
     sum_by-cons (λ n. n) 0
@@ -155,13 +155,13 @@ names_more ps p = ap length (declared_more ps p) ∙ length-append (declarations
 
 -- ---- too many elements
 
-abbrev pub HasManyElements : Place → Type 0
-HasManyElements p = limits.array_elements < all_elements (declared_up_to p)
+abbrev pub HasManyElements : Place90 → Type 0
+HasManyElements p = limits.most_array_elements < all_elements (declared_up_to p)
 
-pub are_few : (n count : ℕ) → count ≡ capped n → count ≤ 4194304 → limits.array_elements < n → ⊥
+pub are_few : (n count : ℕ) → count ≡ capped n → count ≤ 4194304 → limits.most_array_elements < n → ⊥
 are_few n count e l m = absurd (omega arith)
 
-pub are_many : (n count : ℕ) → count ≡ capped n → 4194304 < count → limits.array_elements < n
+pub are_many : (n count : ℕ) → count ≡ capped n → 4194304 < count → limits.most_array_elements < n
 are_many n count e l = omega arith
 
 -- ---- literals of a text
@@ -176,7 +176,7 @@ pub narrow_last : (ps : List grammar.Placed) (p : grammar.Placed) → Narrow (ps
     → is_declared_wide p.form ≡ false
 narrow_last ps p n = or_left (is_declared_wide p.form) _ (n p (Contains-push ps p))
 
-pub narrow_up_to : (ps : List grammar.Placed) (q : Place) → IsPlaceIn ps q → Narrow ps
+pub narrow_up_to : (ps : List grammar.Placed) (q : Place90) → IsPlaceIn ps q → Narrow ps
     → Narrow (q.before ++ q.here ∷ [])
 narrow_up_to ps q i n p c =
     n p (subst (λ (rs : List grammar.Placed). Contains rs p) (append_assoc q.before (q.here ∷ []) q.after ∙ sym i)
@@ -185,15 +185,15 @@ narrow_up_to ps q i n p c =
 -- ---- statements
 
 -- the entities of a statement whose bounds it gives
-pub record AreGiven (s : Statement) (f : Form) : Type 0 where
-  pub entities : List forms.Entity
+pub record AreGiven (s : Statement) (f : Form90) : Type 0 where
+  pub entities : List forms.EntityForm90
   pub are : AreOf IsEntityOf (given_in s) entities
   pub bounds : AllByRecursion (AllByRecursion IsDimension) (map given_bounds entities) ↔ AllByRecursion HasBounds
       (declarations_in f)
   pub elements : all_elements (declarations_in f) ≡ elements_in entities
   pub narrow : is_declared_wide f ≡ false → list_any are_wide entities ≡ false
 
-no_entities : (s : Statement) (f : Form) → given_in s ≡ [] → AllByRecursion HasBounds (declarations_in f)
+no_entities : (s : Statement) (f : Form90) → given_in s ≡ [] → AllByRecursion HasBounds (declarations_in f)
     → all_elements (declarations_in f) ≡ 0 → AreGiven s f
 no_entities s f e h n = record {
   entities = [];
@@ -203,27 +203,27 @@ no_entities s f e h n = record {
   narrow = λ w. refl;
 }
 
-bounds_to : (k : Kind) (es : List forms.Entity) → AllByRecursion (AllByRecursion IsDimension) (map given_bounds es)
+bounds_to : (k : Kind) (es : List forms.EntityForm90) → AllByRecursion (AllByRecursion IsDimension) (map given_bounds es)
     → AllByRecursion HasBounds (map (entity_declaration k false) es)
 bounds_to k [] h = tt
 bounds_to k (e ∷ es) h = (h.0, bounds_to k es h.1)
 
-bounds_from : (k : Kind) (es : List forms.Entity) → AllByRecursion HasBounds (map (entity_declaration k false) es)
+bounds_from : (k : Kind) (es : List forms.EntityForm90) → AllByRecursion HasBounds (map (entity_declaration k false) es)
     → AllByRecursion (AllByRecursion IsDimension) (map given_bounds es)
 bounds_from k [] h = tt
 bounds_from k (e ∷ es) h = (h.0, bounds_from k es h.1)
 
-later_bounds : (k : Kind) (es : List forms.Entity) → AllByRecursion HasBounds (map (entity_declaration k true) es)
+later_bounds : (k : Kind) (es : List forms.EntityForm90) → AllByRecursion HasBounds (map (entity_declaration k true) es)
 later_bounds k [] = tt
 later_bounds k (e ∷ es) = (tt, later_bounds k es)
 
-not_declared : (s : Statement) (f : Form) → is_declaration s ≡ false → given_in s ≡ [] → IsStatementOf s f
+not_declared : (s : Statement) (f : Form90) → is_declaration s ≡ false → given_in s ≡ [] → IsStatementOf s f
     → AreGiven s f
 not_declared s f n e h =
     let d = declares_nothing s f n h in
     no_entities s f e (subst (λ (ds : List Declaration). AllByRecursion HasBounds ds) (sym d) tt) (ap all_elements d)
 
-pub given_are : (s : Statement) (f : Form) → IsStatementOf s f → AreGiven s f
+pub given_are : (s : Statement) (f : Form90) → IsStatementOf s f → AreGiven s f
 given_are (Declare k true es) (forms.Declare l true fs) h =
     no_entities (Declare k true es) (forms.Declare l true fs) refl (later_bounds l fs) (later_elements l fs)
 given_are (Declare k true es) (forms.Declare l false fs) h = absurd (true≢false h.1)
@@ -238,7 +238,7 @@ given_are (Declare k false es) (forms.Declare l false fs) h = record {
 given_are (Declare k a es) f h = absurd h
 given_are s f h = not_declared s f refl refl h
 
-pub declared_names : (k : Kind) (a : Bool) (es : List Entity) (f : Form) → IsStatementOf (Declare k a es) f
+pub declared_names : (k : Kind) (a : Bool) (es : List Entity) (f : Form90) → IsStatementOf (Declare k a es) f
     → length es ≡ length (declarations_in f)
 declared_names k a es (forms.Declare l b fs) h =
     same_length IsEntityOf es fs h.2 ∙ sym (length-map fs (entity_declaration l b))

@@ -1,10 +1,9 @@
 //! Bounds of declared arrays, and how many elements they make.
 ghost use Rattle.std.specs.Prelude.{◌≡◌, false, map, List};
 ghost use Rattle.std.specs.List.{list_any};
-ghost use Rattle.meaning.specs.Extents.{array_elements};
-ghost use Rattle.meaning.specs.Extents.{elements_of};
+ghost use Rattle.meaning.specs.Extents.{array_elements, elements_of};
 ghost use Rattle.meaning.specs.Store.{size_of};
-ghost use Rattle.f90_grammar.specs.Contents.{is_wide, is_wide_dimension};
+ghost use Rattle.f90_grammar.specs.Contents.{is_wide_literal, is_wide_dimension};
 ghost use Rattle.f90_grammar.specs.Forms as forms;
 ghost use Rattle.f90_grammar.specs.Reading.{bound_value, dimension_bounds};
 ghost use Rattle.f90_statement.specs.Views.{AreOf, IsBoundOf, IsDimensionOf};
@@ -17,7 +16,7 @@ use tree::Dim;
 
 // The value of a bound; none: its literal is above 2^127-1.
 fn value(bound: Bound) -> Option<i128>
-    ensures { (b : forms.Bound) → IsBoundOf bound b → IsValueOf result b }
+    ensures { (b : forms.Bound90) → IsBoundOf bound b → IsValueOf result b }
 {
     let magnitude = i128::try_from(bound.magnitude?).ok()?;
     if bound.is_negative {
@@ -29,7 +28,7 @@ fn value(bound: Bound) -> Option<i128>
 
 // The value of a bound; none: 64 bits don't hold it.
 fn narrow(bound: Bound) -> Option<i64>
-    ensures { (b : forms.Bound) → IsBoundOf bound b → IsNarrowOf result b }
+    ensures { (b : forms.Bound90) → IsBoundOf bound b → IsNarrowOf result b }
 {
     i64::try_from(value(bound)?).ok()
 }
@@ -55,7 +54,7 @@ pub(crate) fn dim(dimension: Dimension) -> Option<Dim>
 
 // The value of a bound whose literal isn't above 2^127-1.
 fn value_or_zero(bound: Bound) -> i128
-    ensures { (b : forms.Bound) → IsBoundOf bound b → is_wide b.digits ≡ false → result ≡ bound_value b }
+    ensures { (b : forms.Bound90) → IsBoundOf bound b → is_wide_literal b.digits ≡ false → result ≡ bound_value b }
 {
     value(bound).unwrap_or(0)
 }

@@ -13,8 +13,8 @@ ghost use Rattle.f90_grammar.specs.Blocks as grammar;
 ghost use Rattle.f90_grammar.specs.Bounds.{HasBounds};
 ghost use Rattle.f90_grammar.specs.Declared.{declarations_in, declarations_of};
 ghost use Rattle.f90_grammar.specs.Forms as forms;
-ghost use Rattle.f90_grammar.specs.Forms.{Form};
-ghost use Rattle.f90_grammar.specs.Reading.{dimension_bounds, extent_of, entity_declaration};
+ghost use Rattle.f90_grammar.specs.Forms.{Form90};
+ghost use Rattle.f90_grammar.specs.Reading.{dimension_bounds, extent_of_dimensions, entity_declaration};
 ghost use Rattle.f90_blocks.specs.places.forms.Places.{IsPlacedOf};
 ghost use Rattle.f90_statement.specs.Views.{AreOf, IsDimensionOf, IsEntityOf, IsStatementOf};
 ghost use Rattle.f90_names.specs.kinds.declarations.Declarations.{AreAccepted, AreInOrder, name_in};
@@ -58,8 +58,8 @@ fn given(alloc: Global, dimensions: &[Dimension]) -> Result<Extent, Memory>
 
 fn extent(alloc: Global, is_allocatable: bool, dimensions: &[Dimension]) -> Result<Extent, Memory>
     ensures { (ds : List forms.Dimension) → AreOf IsDimensionOf dimensions.now ds
-        → AllByRecursion IsDimension (bounds_in (extent_of is_allocatable ds))
-        → IfOk result (λ extent. view.extent_of extent ≡ extent_of is_allocatable ds) }
+        → AllByRecursion IsDimension (bounds_in (extent_of_dimensions is_allocatable ds))
+        → IfOk result (λ extent. view.extent_of extent ≡ extent_of_dimensions is_allocatable ds) }
 {
     if is_allocatable {
         return Ok(Extent::Later(dimensions.len()));
@@ -73,7 +73,7 @@ fn declaration(
     is_allocatable: bool,
     entity: &Entity,
 ) -> Result<Decl, Memory>
-    ensures { (e : forms.Entity) → IsEntityOf entity.now e → HasBounds (entity_declaration kind is_allocatable e)
+    ensures { (e : forms.EntityForm90) → IsEntityOf entity.now e → HasBounds (entity_declaration kind is_allocatable e)
         → IfOk result (λ declaration. declaration_of declaration ≡ entity_declaration kind is_allocatable e) }
 {
     let extent = extent(alloc, is_allocatable, entity.dimensions.as_slice())?;
@@ -88,7 +88,7 @@ fn declare_all(
     is_allocatable: bool,
     entities: &[Entity],
 ) -> Result<(), Memory>
-    ensures { (es : List forms.Entity) → AreOf IsEntityOf entities.now es
+    ensures { (es : List forms.EntityForm90) → AreOf IsEntityOf entities.now es
         → AllByRecursion HasBounds (map (entity_declaration kind is_allocatable) es)
         → OnOk result (map declaration_of all.new
         ≡ map declaration_of all.old ++ map (entity_declaration kind is_allocatable) es) }
@@ -100,7 +100,7 @@ fn declare_all(
 }
 
 fn declare(alloc: Global, all: &mut Seq<Decl>, statement: &Statement) -> Result<(), Memory>
-    ensures { (f : Form) → IsStatementOf statement.now f → AllByRecursion HasBounds (declarations_in f)
+    ensures { (f : Form90) → IsStatementOf statement.now f → AllByRecursion HasBounds (declarations_in f)
         → OnOk result (map declaration_of all.new ≡ map declaration_of all.old ++ declarations_in f) }
 {
     match statement {

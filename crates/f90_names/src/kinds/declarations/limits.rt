@@ -8,8 +8,8 @@ ghost use Rattle.f90_grammar.specs.Bounds.{HasBounds, declared_up_to, HasManyNam
 ghost use Rattle.f90_grammar.specs.Contents.{is_declared_wide, has_wide_literal_in};
 ghost use Rattle.f90_grammar.specs.Declared.{declarations_in};
 ghost use Rattle.f90_grammar.specs.Forms as forms;
-ghost use Rattle.f90_grammar.specs.Forms.{Form};
-ghost use Rattle.f90_grammar.specs.Order.{Place};
+ghost use Rattle.f90_grammar.specs.Forms.{Form90};
+ghost use Rattle.f90_grammar.specs.Order.{Place90};
 ghost use Rattle.f90_grammar.specs.Reading.{dimension_bounds};
 ghost use Rattle.f90_blocks.specs.places.forms.Places.{IsPlacedOf};
 ghost use Rattle.f90_blocks.specs.places.First.{FindsFirst};
@@ -39,7 +39,7 @@ fn are_bounds(dimensions: &[Dimension]) -> bool
 }
 
 fn have_bounds(entities: &[Entity]) -> bool
-    ensures { (es : List forms.Entity) → AreOf IsEntityOf entities.now es
+    ensures { (es : List forms.EntityForm90) → AreOf IsEntityOf entities.now es
         → IsTrue result ↔ AllByRecursion (AllByRecursion IsDimension) (map given_bounds es) }
 {
     for entity in entities {
@@ -62,7 +62,7 @@ fn given(statement: &Statement) -> &[Entity]
 
 // Whether the bounds that the statement declares are within 64 bits.
 fn has_bounds(statement: &Statement) -> bool
-    ensures { (f : Form) → IsStatementOf statement.now f
+    ensures { (f : Form90) → IsStatementOf statement.now f
         → IsTrue result ↔ AllByRecursion HasBounds (declarations_in f) }
 {
     have_bounds(given(statement))
@@ -71,7 +71,7 @@ fn has_bounds(statement: &Statement) -> bool
 /// The place of the first statement with a bound that 64 bits don't hold, counted from 0.
 pub fn first_beyond_bounds(text: &[Placed]) -> Option<usize>
     ensures { (ps : List grammar.Placed) → AreOf IsPlacedOf text.now ps
-        → FindsFirst ps (λ (p : Place). AllByRecursion HasBounds (declarations_in p.here.form) → ⊥) result }
+        → FindsFirst ps (λ (p : Place90). AllByRecursion HasBounds (declarations_in p.here.form) → ⊥) result }
 {
     for (i, placed) in text.iter().enumerate() {
         if !has_bounds(&placed.statement) {
@@ -84,7 +84,7 @@ pub fn first_beyond_bounds(text: &[Placed]) -> Option<usize>
 // ---- elements
 
 fn elements_of(entities: &[Entity]) -> u64
-    ensures { (es : List forms.Entity) → AreOf IsEntityOf entities.now es → list_any are_wide es ≡ false
+    ensures { (es : List forms.EntityForm90) → AreOf IsEntityOf entities.now es → list_any are_wide es ≡ false
         → result ≡ capped (elements_in es) }
 {
     let mut count = 0;
@@ -96,7 +96,7 @@ fn elements_of(entities: &[Entity]) -> u64
 
 // The elements of the arrays that the statement declares; those of allocatable arrays don't count.
 fn elements_here(statement: &Statement) -> u64
-    ensures { (f : Form) → IsStatementOf statement.now f → is_declared_wide f ≡ false
+    ensures { (f : Form90) → IsStatementOf statement.now f → is_declared_wide f ≡ false
         → result ≡ capped (all_elements (declarations_in f)) }
 {
     elements_of(given(statement))
@@ -106,7 +106,7 @@ fn elements_here(statement: &Statement) -> u64
 pub fn first_beyond_elements(text: &[Placed]) -> Option<usize>
     ensures { (ps : List grammar.Placed) → AreOf IsPlacedOf text.now ps
         → ((p : grammar.Placed) → Contains ps p → has_wide_literal_in p.form ≡ false)
-        → FindsFirst ps (λ (p : Place). limits.array_elements < all_elements (declared_up_to p)) result }
+        → FindsFirst ps (λ (p : Place90). limits.most_array_elements < all_elements (declared_up_to p)) result }
 {
     let mut count = 0;
     for (i, placed) in text.iter().enumerate() {
@@ -121,7 +121,7 @@ pub fn first_beyond_elements(text: &[Placed]) -> Option<usize>
 // ---- names
 
 fn names_here(statement: &Statement) -> usize
-    ensures { (f : Form) → IsStatementOf statement.now f → result ≡ length (declarations_in f) }
+    ensures { (f : Form90) → IsStatementOf statement.now f → result ≡ length (declarations_in f) }
 {
     match statement {
         Statement::Declare(_, _, entities) => entities.len(),

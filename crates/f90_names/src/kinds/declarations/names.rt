@@ -3,7 +3,7 @@ ghost use Rattle.std.specs.Prelude.{◌≡◌, [], ◌∷◌, ℕ, map, if◌the
 ghost use Rattle.std.specs.Str.{bytes_eq};
 ghost use Rattle.f90_grammar.specs.Blocks as grammar;
 ghost use Rattle.f90_grammar.specs.Declared.{declarations_of, declares_again};
-ghost use Rattle.f90_grammar.specs.Order.{Place};
+ghost use Rattle.f90_grammar.specs.Order.{Place90};
 ghost use Rattle.f90_blocks.specs.places.forms.Places.{IsPlacedOf};
 ghost use Rattle.f90_blocks.specs.places.First.{FindsFirst};
 ghost use Rattle.f90_statement.specs.Views.{AreOf};
@@ -119,7 +119,7 @@ impl Names {
 pub fn first_repeated(alloc: Global, text: &[Placed]) -> Result<Option<usize>, Memory>
     ensures { (ps : List grammar.Placed) → AreOf IsPlacedOf text.now ps
         → IfOk result (λ place.
-        FindsFirst ps (λ (p : Place). IsTrue (declares_again p.before p.here.form)) place) }
+        FindsFirst ps (λ (p : Place90). IsTrue (declares_again p.before p.here.form)) place) }
 {
     let mut names = Names::new(alloc);
     for (i, placed) in text.iter().enumerate() {

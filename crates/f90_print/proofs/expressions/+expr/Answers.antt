@@ -24,7 +24,7 @@ print_expression-returns-in_ok-print_loops-in-List t c =
     let some : c.in-List.loops ≡ [] → ⊥ = grind (arith, common_steps) in
     let e =
     ap (λ x. expression_text (expression_of x)) c.in-List.is ∙ texts.list-text c.in-List.values c.in-List.loops
-    ∙ texts.constructed-some c.in-List.loops (map expression_of c.in-List.values) some in
+    ∙ texts.constructor_phrase-some c.in-List.loops (map expression_of c.in-List.values) some in
     grind (arith, common_steps)
 
 pub print_expression-returns-in_ok-print_expression-in-Spread-2 : goal.print_expression-returns-in_ok-print_expression-in-Spread-2

@@ -1,6 +1,6 @@
 use Rattle.std.proofs.Common.{◌≡◌, ◌++◌, ◌∷◌, [], take}
 use Rattle.std.specs.Prelude.{flat_map}
-use Rattle.f90_grammar.specs.Words.{doubled}
+use Rattle.reading.specs.Characters.{doubled}
 use Rattle.f90_print.proofs.items.push_doubled.Given as goal
 
 -- the bytes so far are written

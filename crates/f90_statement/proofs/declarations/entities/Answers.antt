@@ -1,6 +1,6 @@
 use Rattle.std.proofs.Common.{◌≡◌, [], ◌∷◌, ◌++◌, rules}
 use Rattle.std.proofs.lemmas.Result.{err_from_is_err_and}
-use Rattle.f90_grammar.specs.Forms.{IsEntity, written_entity}
+use Rattle.f90_grammar.specs.Forms.{IsEntity90, written_entity90}
 use Rattle.f90_statement.specs.Views.{IsEntityOf}
 use Rattle.f90_statement.proofs.ListLaws.{list_begun, list_grown, reads_begun, reads_grown, reads_ended, list_err, grown_err, shorter}
 use Rattle.f90_statement.proofs.declarations.entities.Goals as goal
@@ -8,31 +8,31 @@ use Rattle.f90_statement.proofs.declarations.entities.Goals as goal
 pub returns-in_err-first-clause-only : goal.returns-in_err-first-clause-only
 returns-in_err-first-clause-only c parts last g l s =
     let p = err_from_is_err_and c.from_residual.result c.from_residual.ensures.1 in
-    rw (p.1, p.2) (list_err IsEntityOf (IsEntity c.args.is_allocatable) written_entity _ _ _ _ c.in_err-first.ensures.only parts last g l s)
+    rw (p.1, p.2) (list_err IsEntityOf (IsEntity90 c.args.is_allocatable) written_entity90 _ _ _ _ c.in_err-first.ensures.only parts last g l s)
 
 pub entities-init : goal.entities-init
 entities-init c =
     let e : c.push.new.self ≡ c.in_ok-first.first ∷ [] = search rules in
     record {
-      so_far = rw e (list_begun IsEntityOf (IsEntity c.args.is_allocatable) written_entity _ _ _ c.in_ok-first.ensures.found);
-      only = rw e (reads_begun IsEntityOf (IsEntity c.args.is_allocatable) written_entity _ _ _ c.in_ok-first.ensures.only);
+      so_far = rw e (list_begun IsEntityOf (IsEntity90 c.args.is_allocatable) written_entity90 _ _ _ c.in_ok-first.ensures.found);
+      only = rw e (reads_begun IsEntityOf (IsEntity90 c.args.is_allocatable) written_entity90 _ _ _ c.in_ok-first.ensures.only);
     }
 
 pub returns-in_err-next-clause-only : goal.returns-in_err-next-clause-only
 returns-in_err-next-clause-only c parts last g l s =
     let p = err_from_is_err_and c.from_residual-in_err-next.result c.from_residual-in_err-next.ensures.1 in
-    rw (p.1, p.2) (grown_err IsEntityOf (IsEntity c.args.is_allocatable) written_entity _ _ _ _ _ _ _ c.entities.invariant.only c.in-Some.ensures c.in_err-next.ensures.only parts last g l s)
+    rw (p.1, p.2) (grown_err IsEntityOf (IsEntity90 c.args.is_allocatable) written_entity90 _ _ _ _ _ _ _ c.entities.invariant.only c.in-Some.ensures c.in_err-next.ensures.only parts last g l s)
 
 pub entities-smaller : goal.entities-smaller
-entities-smaller c = shorter c.entities.rest.now c.in-Some.more.now c.in_ok-next.tail.now (written_entity c.in_ok-next.ensures.found.part) c.in-Some.ensures c.in_ok-next.ensures.found.same
+entities-smaller c = shorter c.entities.rest.now c.in-Some.more.now c.in_ok-next.tail.now (written_entity90 c.in_ok-next.ensures.found.part) c.in-Some.ensures c.in_ok-next.ensures.found.same
 
 pub entities-preserved : goal.entities-preserved
 entities-preserved c =
     let e : c.push-in-Some.new.self ≡ c.entities.entities ++ c.in_ok-next.next ∷ [] = search rules in
     record {
-      so_far = rw e (list_grown IsEntityOf (IsEntity c.args.is_allocatable) written_entity _ _ _ _ _ _ c.entities.invariant.so_far c.in-Some.ensures c.in_ok-next.ensures.found);
-      only = rw e (reads_grown IsEntityOf (IsEntity c.args.is_allocatable) written_entity _ _ _ _ _ _ c.entities.invariant.only c.in-Some.ensures c.in_ok-next.ensures.only);
+      so_far = rw e (list_grown IsEntityOf (IsEntity90 c.args.is_allocatable) written_entity90 _ _ _ _ _ _ c.entities.invariant.so_far c.in-Some.ensures c.in_ok-next.ensures.found);
+      only = rw e (reads_grown IsEntityOf (IsEntity90 c.args.is_allocatable) written_entity90 _ _ _ _ _ _ c.entities.invariant.only c.in-Some.ensures c.in_ok-next.ensures.only);
     }
 
 pub returns-clause-only : goal.returns-clause-only
-returns-clause-only c parts last g l s = reads_ended IsEntityOf (IsEntity c.args.is_allocatable) written_entity _ _ _ c.entities.invariant.only c.in_default.ensures parts last g l s
+returns-clause-only c parts last g l s = reads_ended IsEntityOf (IsEntity90 c.args.is_allocatable) written_entity90 _ _ _ c.entities.invariant.only c.in_default.ensures parts last g l s

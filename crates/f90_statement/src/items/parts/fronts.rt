@@ -1,13 +1,13 @@
 //! The word at the front of words, where one is looked for.
 ghost use Rattle.f90_expressions.specs.words.Tokens.{word_of, words_of};
-ghost use Rattle.f90_statement.specs.items.parts.Fronts.{After, NameFront, HeadFront, IsThat, mark_word};
+ghost use Rattle.f90_statement.specs.items.parts.Fronts.{After, NameFront, HeadFront, IsThat, separator_word};
 
 use f90_expressions::words::Token;
 use tree::Name;
 
 /// A mark between other words. `Open` is a parenthesis that stands behind no name.
 #[derive(Clone, Copy, Debug, PartialEq, Eq)]
-pub enum Mark {
+pub enum Separator {
     Open,
     Close,
     Comma,
@@ -17,18 +17,18 @@ pub enum Mark {
     Colons,
 }
 
-impl Mark {
+impl Separator {
     // Whether a word is this mark.
     fn is(self, token: &Token) -> bool
-        ensures { IsThat result (word_of token.now) (mark_word self) }
+        ensures { IsThat result (word_of token.now) (separator_word self) }
     {
         match self {
-            Mark::Open => matches!(token, Token::Open),
-            Mark::Close => matches!(token, Token::Close),
-            Mark::Comma => matches!(token, Token::Comma),
-            Mark::Equals => matches!(token, Token::Equals),
-            Mark::Colon => matches!(token, Token::Colon),
-            Mark::Colons => matches!(token, Token::Colons),
+            Separator::Open => matches!(token, Token::Open),
+            Separator::Close => matches!(token, Token::Close),
+            Separator::Comma => matches!(token, Token::Comma),
+            Separator::Equals => matches!(token, Token::Equals),
+            Separator::Colon => matches!(token, Token::Colon),
+            Separator::Colons => matches!(token, Token::Colons),
         }
     }
 }
@@ -54,8 +54,8 @@ pub fn after_head(tokens: &[Token]) -> Option<(Name, &[Token])>
 }
 
 /// What follows the mark.
-pub fn after(mark: Mark, tokens: &[Token]) -> Option<&[Token]>
-    ensures { After (mark_word mark) result (words_of tokens.now) }
+pub fn after(mark: Separator, tokens: &[Token]) -> Option<&[Token]>
+    ensures { After (separator_word mark) result (words_of tokens.now) }
 {
     match tokens {
         [first, rest @ ..] => { if mark.is(first) { Some(rest) } else { None } }

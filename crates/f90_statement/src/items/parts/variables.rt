@@ -1,7 +1,7 @@
 //! Whether an expression is a variable, an element, an array or a section.
 ghost use Rattle.std.specs.Prelude.{◌≡◌, ◌+◌, ◌<◌, ◌≤◌, ◌^◌, ◌==◌, ◌↔◌, IsTrue, IfSome, if◌then◌else◌};
-ghost use Rattle.f90_grammar.specs.Items.{IsReference, IsVariable};
-ghost use Rattle.f90_grammar.specs.Phrases.{Phrase};
+ghost use Rattle.f90_grammar.specs.Items.{IsReference90, IsVariable};
+ghost use Rattle.f90_grammar.specs.Phrases.{Phrase90};
 ghost use Rattle.f90_expressions.specs.Reading.{IsMadeOf};
 ghost use Rattle.f90_expressions.specs.Views.{node_seen, nodes_seen};
 ghost use Rattle.f90_statement.specs.items.parts.Variables.{names, is_named, open_behind, has_section, is_plain};
@@ -83,14 +83,14 @@ fn is_plain(nodes: &[Node]) -> bool
 
 /// Whether an expression is a name, or a name with a list.
 pub fn is_reference(expression: &Expression) -> bool
-    ensures { (p : Phrase) → IsMadeOf expression.now p → IsTrue result ↔ IsReference p }
+    ensures { (p : Phrase90) → IsMadeOf expression.now p → IsTrue result ↔ IsReference90 p }
 {
     is_named(expression.nodes.as_slice())
 }
 
 /// Whether an expression is a name, or a name with a list in which no section stands.
 pub fn is_variable(expression: &Expression) -> bool
-    ensures { (p : Phrase) → IsMadeOf expression.now p → IsTrue result ↔ IsVariable p }
+    ensures { (p : Phrase90) → IsMadeOf expression.now p → IsTrue result ↔ IsVariable p }
 {
     is_plain(expression.nodes.as_slice())
 }

@@ -1,5 +1,5 @@
 use Rattle.tree.specs.Plain.{Constructor, expressions}
-use Rattle.tree.specs.View.{loops as plain_loops}
+use Rattle.tree.specs.View.{constructor_loops as plain_loops}
 use Rattle.form_rules.proofs.Writing.{list_ready}
 use Rattle.form_rules.proofs.nodes.listed.Goals as goal
 

@@ -1,11 +1,11 @@
 use Rattle.std.proofs.Common.{◌≡◌, ◌<◌, ◌^◌, ℕ, List, length, sym, subst, arith}
-use Rattle.generator.specs.Draws.{after}
+use Rattle.generator.specs.Draws.{state_after}
 use Rattle.generator.specs.Decks.{nests_of, deck_of}
 use Rattle.generator.proofs.DeckTexts.{whole_deck, short_deck}
 use Rattle.generator.proofs.decks.generated.Goals as goal
 
 pub loop-before-init : goal.loop-before-init
-unfolding nests_of after
+unfolding nests_of state_after
 loop-before-init c = record { deck = c.in_ok-deck.ensures.items; state = c.from_seed-draws.ensures }
 
 pub returns-clause-short : goal.returns-clause-short

@@ -7,7 +7,7 @@ use Rattle.if_convert.specs.Arms.{ArmsLeft, IsAdded, converted_arms, converted_l
 use Rattle.if_convert.specs.Converted.{choice_at, converted}
 use Rattle.if_convert.specs.Masks.{asks}
 use Rattle.if_convert.specs.Points.{Converted, entered, unless_skipped}
-use Rattle.if_convert.specs.declared.points.Point.{Point}
+use Rattle.if_convert.specs.declared.points.MaskPoint.{MaskPoint}
 use Rattle.if_convert.proofs.BodyLaws.{parts-next, arm-made, arms-begin, arms-next, choice-added, drop_end, else-end, loop-added, on_ok, pushed, skip-added}
 use Rattle.if_convert.proofs.bodies.+bodies.Goals as goal
 
@@ -54,7 +54,7 @@ add_loop-returns t c =
     let none : map part_of c.new-parts.result ≡ [] = ap (map part_of) c.new-parts.ensures in
     let added : IsAdded line (converted_list line false None body (entered None p.mask p.mask)) c.add_parts.new.point [] within
     = subst (λ ps. IsAdded line (converted_list line false None body (entered None p.mask p.mask)) c.add_parts.new.point ps within) none
-    (subst (λ (q : Point). IsAdded line (converted_list line false None body q) c.add_parts.new.point (map part_of c.new-parts.result) within) inner c.in_ok-add_parts.ensures) in
+    (subst (λ (q : MaskPoint). IsAdded line (converted_list line false None body q) c.add_parts.new.point (map part_of c.new-parts.result) within) inner c.in_ok-add_parts.ensures) in
     on_ok c.push.result (λ now.
     loop-added line (loop_of c.args.turns.now) body p c.add_parts.new.point within (map part_of c.args.made.now) (map part_of c.push.new.self) c.if-point.false added
     (pushed c.args.made.now c.push.new.self (variants.Turns c.in_ok-copy.field-0 c.add_parts.new.made) (P.Turns (loop_of c.args.turns.now) (P.parts within))
@@ -98,7 +98,7 @@ add_part-returns-in_ok-add_else-in-Choice t c =
     let arms = converted_arms line bs other in
     let all : Converted = arms q.guard q.jump q.mask in
     let begun : ArmsLeft line None bs other c.entered-end.result cleared all cleared
-    = subst (λ (e : Point). ArmsLeft line None bs other e cleared all cleared) (sym c.entered-end.ensures) (arms-begin line bs other q.guard q.jump q.mask cleared) in
+    = subst (λ (e : MaskPoint). ArmsLeft line None bs other e cleared all cleared) (sym c.entered-end.ensures) (arms-begin line bs other q.guard q.jump q.mask cleared) in
     let ended = c.in_ok-add_else-in-Choice.ensures all cleared (c.in_ok-last-in-Choice.ensures other all cleared begun) in
     on_ok c.rejoin.result (λ added.
     subst (λ (x : P.Part). IsAdded line (converted line c.args.deep c.args.own x p) c.rejoin.new.self made new)

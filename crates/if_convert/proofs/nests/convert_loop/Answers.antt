@@ -8,7 +8,7 @@ use Rattle.nest_rewrite.specs.Assembled.{with_parts}
 use Rattle.if_convert.specs.Arms.{IsAdded, converted_list}
 use Rattle.if_convert.specs.Masks.{masks_from}
 use Rattle.if_convert.specs.Points.{entered}
-use Rattle.if_convert.specs.declared.points.Point.{Point}
+use Rattle.if_convert.specs.declared.points.MaskPoint.{MaskPoint}
 use Rattle.if_convert.proofs.BodyLaws.{nest-converted}
 use Rattle.if_convert.proofs.nests.convert_loop.Goals as goal
 
@@ -21,7 +21,7 @@ returns c =
     let within = map part_of c.add_parts.new.made in
     let made = map made_of c.add_masks.new.made in
     let after = block_of c.in_ok-after.after in
-    let begun = subst (λ (q : Point). IsAdded n.line (converted_list n.line false None ps q) p (map part_of c.new-parts.result) within) c.entered-point.ensures c.in_ok-add_parts.ensures in
+    let begun = subst (λ (q : MaskPoint). IsAdded n.line (converted_list n.line false None ps q) p (map part_of c.new-parts.result) within) c.entered-point.ensures c.in_ok-add_parts.ensures in
     let added = subst (λ (xs : List Part). IsAdded n.line (converted_list n.line false None ps (entered None c.args.masks c.args.masks)) p (map part_of xs) within) c.new-parts.ensures begun in
     nest-converted n (nest_of c.in_ok-new.new) c.args.masks l ps within p made after added
     (c.in_ok-add_masks.ensures ∙ ap (λ ms. ms ++ masks_from c.args.masks (p.mask - c.args.masks)) c.in_ok-made.ensures)

@@ -1,6 +1,6 @@
 use Rattle.std.proofs.Common.{◌∙◌, sym, ap, map, arith, take_all}
 use Rattle.nest.specs.View.{loop_of}
-use Rattle.interchange.specs.Arranged.{trips_of}
+use Rattle.interchange.specs.Arranged.{free_trips_of}
 use Rattle.interchange.proofs.ListLaws.{trips_missing, trips_step}
 use Rattle.interchange.proofs.trips.trips_of.Goals as goal
 
@@ -14,4 +14,4 @@ loop-turns-preserved c =
     c.loop-turns.invariant c.in_ok-push.ensures.ok
 
 pub returns : goal.returns
-returns c = sym (ap (λ ls. trips_of (map loop_of ls)) (sym (take_all c.loop-turns.turns-index c.args.loops.now (omega arith))) ∙ c.loop-turns.invariant)
+returns c = sym (ap (λ ls. free_trips_of (map loop_of ls)) (sym (take_all c.loop-turns.turns-index c.args.loops.now (omega arith))) ∙ c.loop-turns.invariant)

@@ -1,6 +1,6 @@
 use Rattle.std.proofs.Common.{◌∙◌, sym, ap, map, arith, take_all}
 use Rattle.nest.specs.View.{loop_of}
-use Rattle.node_splitting.specs.Arrays.{trips_of}
+use Rattle.node_splitting.specs.Arrays.{trips_if_all}
 use Rattle.node_splitting.proofs.Elements.{trips_missing, trips_step}
 use Rattle.node_splitting.proofs.arrays.trips_of.Goals as goal
 
@@ -13,4 +13,4 @@ loop-turns-preserved c =
     c.loop-turns.invariant c.in_ok-push.ensures.ok
 
 pub returns : goal.returns
-returns c = sym (ap (λ ls. trips_of (map loop_of ls)) (sym (take_all c.loop-turns.turns-index c.args.loops.now (omega arith))) ∙ c.loop-turns.invariant)
+returns c = sym (ap (λ ls. trips_if_all (map loop_of ls)) (sym (take_all c.loop-turns.turns-index c.args.loops.now (omega arith))) ∙ c.loop-turns.invariant)

@@ -2,7 +2,7 @@
 use Rattle.std.proofs.Common.{◌≡◌, map, take}
 use Rattle.tree.specs.Plain.{expressions, subscripts}
 use Rattle.tree.specs.View.{expression_of, subscript_of}
-use Rattle.node_splitting.specs.Counts.{count_all, count_in}
+use Rattle.node_splitting.specs.Counts.{count_all, count_in_subscripts}
 use Rattle.node_splitting.proofs.counts.+counts.Given as goal
 
 abbrev pub invariant-count_all-loop-expr : goal.invariant-count_all-loop-expr
@@ -11,4 +11,4 @@ invariant-count_all-loop-expr l =
 
 abbrev pub invariant-count_subs-loop-sub : goal.invariant-count_subs-loop-sub
 invariant-count_subs-loop-sub l =
-    l.total ≡ count_in l.loops (subscripts (map subscript_of (take l.sub-index l.sub-items)))
+    l.total ≡ count_in_subscripts l.loops (subscripts (map subscript_of (take l.sub-index l.sub-items)))

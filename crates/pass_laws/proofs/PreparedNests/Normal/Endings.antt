@@ -17,8 +17,8 @@ use Rattle.meaning.specs.Value.{named}
 use Rattle.tree.specs.Plain.{Binary, Declaration, Expression, Number, Statement, block}
 use Rattle.tree.specs.declared.ops.Op.TheVariants.{And, Ge}
 use Rattle.last_values.specs.Behind.{stands_behind}
-use Rattle.last_values.specs.ValuesBehind.{left_behind, or_none, values_behind}
-use Rattle.last_values.specs.Endings.{Texts, after_statements, all_hold, assigned, ending, last_texts, only_where}
+use Rattle.last_values.specs.ValuesBehind.{left_behind, statements_or_none, values_behind}
+use Rattle.last_values.specs.Endings.{Texts, after_statements, all_hold, assigned, loop_ending, last_texts, only_where}
 use Rattle.last_values.specs.Endings.{where_all_hold, with_last_forms}
 use Rattle.last_values.specs.Scalars.{scalar}
 use Rattle.last_values.specs.declared.behind.NestedLoop.{NestedLoop}
@@ -179,7 +179,7 @@ module _ (es : List Declaration) (w : Surroundings) (line : ℕ) (line_is : IsLi
   test_is : (e : Expression) → IsText e → IsTest es (at_least_one e) × (depth_of (at_least_one e) ≤ 202)
   test_is e h = (at_least_is es e h.is, binary_deep Ge e (Number (pos 1)) 200 h.deep (omega arith))
 
-  ending_is : (v : List ℕ) (trip : Trip) (t : Texts) → IsVariable v → IsText t.first → IsText t.trip → IsText t.end → AreGood (ending line v trip t)
+  ending_is : (v : List ℕ) (trip : Trip) (t : Texts) → IsVariable v → IsText t.first → IsText t.trip → IsText t.end → AreGood (loop_ending line v trip t)
   ending_is v trip t h first turns end = by (is_positive trip) (is_known trip)
     where
       test : IsTest es (at_least_one t.trip) × (depth_of (at_least_one t.trip) ≤ 202)
@@ -291,18 +291,18 @@ module _ (es : List Declaration) (w : Surroundings) (line : ℕ) (line_is : IsLi
             deep = omega (arith, deep);
           }
 
-      behind_is : AreGood (where_all_hold line (tests_of symbols round) (ending line r.variable f.trip (last_texts symbols round f)))
+      behind_is : AreGood (where_all_hold line (tests_of symbols round) (loop_ending line r.variable f.trip (last_texts symbols round f)))
       behind_is =
           let tests = all_tests round rounds in
           let most = tests.1 in
-          where_is (tests_of symbols round) (ending line r.variable f.trip (last_texts symbols round f)) (omega (arith, most, few)) tests.0
+          where_is (tests_of symbols round) (loop_ending line r.variable f.trip (last_texts symbols round f)) (omega (arith, most, few)) tests.0
           (ending_is r.variable f.trip (last_texts symbols round f) (record { integer = own.integer; outside = own.outside }) first_is turns_is end_is)
 
-    after_is : (round : List NormalLoop) (r : NormalLoop) → length round ≤ 7 → Each IsEndingLoop round → IsEndingLoop r → AreGood (or_none (after_statements symbols line round r))
+    after_is : (round : List NormalLoop) (r : NormalLoop) → length round ≤ 7 → Each IsEndingLoop round → IsEndingLoop r → AreGood (statements_or_none (after_statements symbols line round r))
     unfolding after_statements
     after_is round r few rounds own = by (have_plain_trips round) (last_forms (length symbols) round r) refl
       where
-        by : (b : Bool) (o : Option LastForms) → last_forms (length symbols) round r ≡ o → AreGood (or_none (cond b (with_last_forms symbols line round r o) None))
+        by : (b : Bool) (o : Option LastForms) → last_forms (length symbols) round r ≡ o → AreGood (statements_or_none (cond b (with_last_forms symbols line round r o) None))
         by true None e = tt
         by true (Some f) e = behind_is round r few rounds own f (forms_fit (length symbols) round r f own.small e)
         by false o e = tt
@@ -315,7 +315,7 @@ module _ (es : List Declaration) (w : Surroundings) (line : ℕ) (line_is : IsLi
     left_is : (ls : List NestedLoop) (p : Part) (l : NestedLoop) → IsEndingNested l → AreGood (left_behind symbols line ls p l)
     left_is ls p l h = by (stands_behind (length symbols) ls p l.turns.variable)
       where
-        by : (b : Bool) → AreGood (cond b (or_none (after_statements symbols line l.round l.turns)) [])
+        by : (b : Bool) → AreGood (cond b (statements_or_none (after_statements symbols line l.round l.turns)) [])
         by true = after_is l.round l.turns h.few h.rounds h.own
         by false = tt
 

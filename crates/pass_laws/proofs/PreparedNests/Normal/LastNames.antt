@@ -17,8 +17,8 @@ use Rattle.tree.specs.Plain.{If, Number, Print, Read, Reference, Statement, Stop
 use Rattle.tree.specs.Plain.{block, no_arms, no_statements, no_subscripts, statement}
 use Rattle.tree.specs.declared.ops.Op.TheVariants.{And, Div, Mul}
 use Rattle.last_values.specs.Behind.{stands_behind}
-use Rattle.last_values.specs.ValuesBehind.{left_behind, or_none, values_behind}
-use Rattle.last_values.specs.Endings.{Texts, after_statements, all_hold, assigned, ending, last_texts, only_where}
+use Rattle.last_values.specs.ValuesBehind.{left_behind, statements_or_none, values_behind}
+use Rattle.last_values.specs.Endings.{Texts, after_statements, all_hold, assigned, loop_ending, last_texts, only_where}
 use Rattle.last_values.specs.Endings.{where_all_hold, with_last_forms}
 use Rattle.last_values.specs.declared.behind.NestedLoop.{NestedLoop}
 use Rattle.linear_forms.specs.Expressed.{minus_term, plus_term, term, variables, with_constant, with_term, with_terms}
@@ -33,7 +33,7 @@ use Rattle.last_values.specs.normal_forms.LastValues.{have_plain_trips, last_for
 use Rattle.last_values.specs.normal_forms.LastTexts.{is_uncertain, last_end_text, last_trip_text}
 use Rattle.last_values.specs.normal_forms.LastTexts.{plain_trip_text, plain_trip_texts, test_of, tests_of}
 use Rattle.last_values.specs.normal_forms.NormalLoops.{is_known, is_positive, normal_loop}
-use Rattle.last_values.specs.normal_forms.Texts.{at_least_one, quotient, trip_text}
+use Rattle.last_values.specs.normal_forms.Texts.{at_least_one, quotient_text, trip_text}
 use Rattle.last_values.specs.declared.normal_forms.last.LastForms.{LastForms}
 use Rattle.last_values.specs.declared.normal_forms.loops.NormalLoop.{NormalLoop}
 use Rattle.pass_laws.proofs.ReadyNests.LoopForms.{HaveZeros, normal_loop_is}
@@ -131,7 +131,7 @@ module _ (P : List ℕ → Type 0) where
   variables_over [] h = tt
   variables_over (x ∷ xs) h = ((h.0, tt), variables_over xs h.1)
 
-  quotient_over : (e : Expression) (z : ℤ) → IsOver P e → IsOver P (quotient e z)
+  quotient_over : (e : Expression) (z : ℤ) → IsOver P e → IsOver P (quotient_text e z)
   quotient_over e z h = by (int_eq z (pos 1))
     where
       by : (b : Bool) → IsOver P (cond b e (Binary Div e (Number z)))
@@ -151,7 +151,7 @@ module _ (P : List ℕ → Type 0) where
 
   module _ (line : ℕ) where
     ending_over : (v : List ℕ) (trip : Trip) (t : Texts) → P v → IsOver P t.first → IsOver P t.trip → IsOver P t.end
-        → AreEndingsOver (block (ending line v trip t))
+        → AreEndingsOver (block (loop_ending line v trip t))
     ending_over v trip t h first turns end = by (is_positive trip) (is_known trip)
       where
         by : (b c : Bool) → AreEndingsOver
@@ -214,19 +214,19 @@ module _ (P : List ℕ → Type 0) where
 
         behind_over : (v : List ℕ) → P v
             → AreEndingsOver (block (where_all_hold line (tests_of symbols round)
-            (ending line v f.trip (last_texts symbols round f))))
+            (loop_ending line v f.trip (last_texts symbols round f))))
         behind_over v h =
-            where_over (tests_of symbols round) (ending line v f.trip (last_texts symbols round f)) (all_tests round)
+            where_over (tests_of symbols round) (loop_ending line v f.trip (last_texts symbols round f)) (all_tests round)
             (ending_over v f.trip (last_texts symbols round f) h
             (text_over trips f.first (all_plain round)) turns_over end_over)
 
       after_over : (round : List NormalLoop) (r : NormalLoop) → P r.variable
-          → AreEndingsOver (block (or_none (after_statements symbols line round r)))
+          → AreEndingsOver (block (statements_or_none (after_statements symbols line round r)))
       unfolding after_statements
       after_over round r h = by (have_plain_trips round) (last_forms (length symbols) round r)
         where
           by : (b : Bool) (o : Option LastForms)
-              → AreEndingsOver (block (or_none (cond b (with_last_forms symbols line round r o) None)))
+              → AreEndingsOver (block (statements_or_none (cond b (with_last_forms symbols line round r o) None)))
           by true None = tt
           by true (Some f) = behind_over round f r.variable h
           by false o = tt
@@ -238,7 +238,7 @@ module _ (P : List ℕ → Type 0) where
           → AreEndingsOver (block (left_behind symbols line ls p l))
       left_over ls p l h = by (stands_behind (length symbols) ls p l.turns.variable)
         where
-          by : (b : Bool) → AreEndingsOver (block (cond b (or_none (after_statements symbols line l.round l.turns)) []))
+          by : (b : Bool) → AreEndingsOver (block (cond b (statements_or_none (after_statements symbols line l.round l.turns)) []))
           by true = after_over l.round l.turns h
           by false = tt
 

@@ -15,6 +15,7 @@ use Rattle.meaning.specs.Blocks.{Surroundings, before_labels, labels_of}
 use Rattle.meaning.specs.Labels.{IsLine}
 use Rattle.meaning.specs.Depths.{depth_of}
 use Rattle.meaning.specs.Dialect.{fortran77}
+use Rattle.tree.specs.declared.width.Width.{Width}
 use Rattle.meaning.specs.Profile77 as source_profile
 use Rattle.meaning.specs.Profile77.{IsProgram77}
 use Rattle.meaning.specs.Profile90.{IsBlock, IsStatement}
@@ -148,12 +149,12 @@ counter_integer (Some e) h = (h.kind, ap rank_of_extent h.scalar)
 
 -- ---- the nest
 
-module _ (p : Program) (n m : Nest) (es : List Declaration) (w : Surroundings) (found : IsFoundNest p n) (is : IsProgram77 fortran77 p) (among : Contains (found_in p) (InNest n))
+module _ (width : Width) (p : Program) (n m : Nest) (es : List Declaration) (w : Surroundings) (found : IsFoundNest p n) (is : IsProgram77 (fortran77 width) p) (among : Contains (found_in p) (InNest n))
     (normal_is : normalised n ≡ Some m) (added : AddMadeNames p.declarations es)
     (counters : All (λ (l : Loop). IsSomeAnd (declared es l.variable) IsCounter) (nest_loops m)) (number : n.number < 2 ^ 32) (round : All IsSourceName w.variables)
     (source : source_profile.IsStatement p.declarations (as_statement found.loop.loop.loop) w) where
   body : IsFoundBody es n
-  body = found_body fortran77 p es is added n among
+  body = found_body (fortran77 width) p es is added n among
 
   made : normal.IsMadeOf n m
   made = normal.made_of n m normal_is
@@ -166,7 +167,7 @@ module _ (p : Program) (n m : Nest) (es : List Declaration) (w : Surroundings) (
 
   sound : EachIn (IsSoundStatement es w) (IsSoundLoop w) n.body
   sound = subst (λ (n : Nest). EachIn (IsSoundStatement es w) (IsSoundLoop w) n.body) (sym found.is)
-      (loop_is p.declarations es (extends fortran77 p es is added) (declared_source fortran77 p is) w found.loop.loop source)
+      (loop_is p.declarations es (extends (fortran77 width) p es is added) (declared_source (fortran77 width) p is) w found.loop.loop source)
 
   nothing_made : m.made ≡ []
   nothing_made = text.made ∙ ap (λ (n : Nest). n.made) found.is
@@ -180,7 +181,7 @@ module _ (p : Program) (n m : Nest) (es : List Declaration) (w : Surroundings) (
   symbol_source y i =
       let l = found.loop.loop.loop in
       let c = chosen (is_symbol l.variable (names_written_in l.body)) p.declarations y (subst (λ (k : Nest). In y k.symbols) found.is i) in
-      declared_source fortran77 p is y c.declaration (ap (declared p.declarations) c.name ∙ declared_once p.declarations c.declaration is.declarations.ordered c.among)
+      declared_source (fortran77 width) p is y c.declaration (ap (declared p.declarations) c.name ∙ declared_once p.declarations c.declaration is.declarations.ordered c.among)
 
   symbol : (y : List ℕ) → In y n.symbols → IsPreparedSymbol es y
   symbol y i = record { name = symbol_source y i; scalar = symbol_counter es y (body.symbols y i).0 }
@@ -201,7 +202,7 @@ module _ (p : Program) (n m : Nest) (es : List Declaration) (w : Surroundings) (
   loops = normal_loops_prepared es n m made body.body (λ l i. all_in (λ (l : Loop). IsSomeAnd (declared es l.variable) IsCounter) (nest_loops m) counters l i)
 
   once : lists.Distinct (ready.numbers_of (nest_loops m))
-  once = subst (λ (ks : List ℕ). lists.Distinct ks) (sym (normal_loops_are_those n m normal_is)) (found_loops_are_distinct fortran77 p n is among)
+  once = subst (λ (ks : List ℕ). lists.Distinct ks) (sym (normal_loops_are_those n m normal_is)) (found_loops_are_distinct (fortran77 width) p n is among)
 
   -- ---- statements
 
@@ -313,7 +314,7 @@ module _ (p : Program) (n m : Nest) (es : List Declaration) (w : Surroundings) (
 
   tests : EachTest (IsSoundTest es) n.body
   tests = subst (λ (n : Nest). EachTest (IsSoundTest es) n.body) (sym found.is)
-      (tests_sound p.declarations es (extends fortran77 p es is added) (declared_source fortran77 p is) w found.loop.loop source)
+      (tests_sound p.declarations es (extends (fortran77 width) p es is added) (declared_source (fortran77 width) p is) w found.loop.loop source)
 
   test_is : (x : StandingTest) → In x (tests_under [] m.body) → IsPreparedTest es n.symbols normal_depth x
   test_is x i =
@@ -335,18 +336,18 @@ module _ (p : Program) (n m : Nest) (es : List Declaration) (w : Surroundings) (
     parts = parts;
     tests = subst (λ xs. All (IsPreparedTest es xs normal_depth) (tests_under [] m.body)) (sym made.symbols)
         (Each-All (IsPreparedTest es n.symbols normal_depth) (tests_under [] m.body) (each_from (IsPreparedTest es n.symbols normal_depth) (tests_under [] m.body) test_is));
-    jumps = jumps_stay n m made (found_nest_is_branched_source p n is among).jumps;
+    jumps = jumps_stay n m made (found_nest_is_branched_source width p n is among).jumps;
   }
 
-pub normal_nest_has_parts : NormalNestHasParts
-normal_nest_has_parts p n m es w found is among normal_is added counters number round source = parts p n m es w found is among normal_is added counters number round source
+pub normal_nest_has_parts : (width : Width) → NormalNestHasParts width
+normal_nest_has_parts width p n m es w found is among normal_is added counters number round source = parts width p n m es w found is among normal_is added counters number round source
 
-pub normal_nest_is_branched : NormalNestIsBranched
-normal_nest_is_branched p n m es w found is among normal_is added counters number round source = branched p n m es w found is among normal_is added counters number round source
+pub normal_nest_is_branched : (width : Width) → NormalNestIsBranched width
+normal_nest_is_branched width p n m es w found is among normal_is added counters number round source = branched width p n m es w found is among normal_is added counters number round source
 
 -- without IF, label and jump it is plain
-pub normal_nest_is_prepared : NormalNestIsPrepared
-normal_nest_is_prepared p n m es w found is among normal_is alone added counters number round source = record {
-  plain = (normal_nests_are_plain p n m is among normal_is alone).1;
-  parts = parts p n m es w found is among normal_is added counters number round source;
+pub normal_nest_is_prepared : (width : Width) → NormalNestIsPrepared width
+normal_nest_is_prepared width p n m es w found is among normal_is alone added counters number round source = record {
+  plain = (normal_nests_are_plain width p n m is among normal_is alone).1;
+  parts = parts width p n m es w found is among normal_is added counters number round source;
 }

@@ -31,7 +31,7 @@ use Rattle.normal_loops.specs.Values.{in_text, normal_statement, statement_with_
 use Rattle.nest_rewrite.specs.Statements.{rewritten_statement}
 use Rattle.nest.specs.Plain.{Guarded}
 use Rattle.last_values.specs.normal_forms.NormalLoops.{counters_of}
-use Rattle.last_values.specs.normal_forms.Texts.{counter_first, value_text}
+use Rattle.last_values.specs.normal_forms.Texts.{counter_first, variable_text}
 use Rattle.last_values.specs.declared.normal_forms.loops.NormalLoop.{NormalLoop}
 use Rattle.pass_laws.proofs.NormalFacts.StatementKinds.{IsNumber, IsSmallForm, IsTypedLoop, first_is}
 use Rattle.subscripts.specs.Shapes.{IsSmall}
@@ -165,8 +165,8 @@ module _ (es : List Declaration) where
   scalars_are (x ∷ xs) h = (h.0, scalars_are xs h.1)
 
   module _ (symbols : List (List ℕ)) (are : Each (IsIntegerScalar es) symbols) where
-    value_is : (outer : List NormalLoop) (r : NormalLoop) → Each (IsTypedLoop es) outer → IsTypedLoop es r → IsNumber es (value_text symbols outer r)
-    unfolding value_text
+    value_is : (outer : List NormalLoop) (r : NormalLoop) → Each (IsTypedLoop es) outer → IsTypedLoop es r → IsNumber es (variable_text symbols outer r)
+    unfolding variable_text
     value_is outer r h t =
         let small = t.1.1 in
         first_is es symbols are (r ∷ outer) (record r { first = counter_first r.step r.below }) (t, h)
@@ -185,7 +185,7 @@ module _ (es : List Declaration) where
         → IsScalarAssignment (statement_with_values symbols outer rs s) (d + 35 * length rs)
     values_are outer [] s d h k z g = weaker s d (d + 35 * 0) (omega arith) g
     values_are outer (r ∷ rs) s d h k z g =
-        let value = value_text symbols outer r in
+        let value = variable_text symbols outer r in
         let is = value_is outer r h k.0 in
         let deep = value_deep symbols outer r z.0 in
         weaker (statement_with_values symbols (outer ++ r ∷ []) rs (rewritten_statement (with_value symbols outer r) s)) ((d + 35) + 35 * length rs) (d + 35 * suc (length rs)) (omega arith)
@@ -207,7 +207,7 @@ module _ (es : List Declaration) where
         → IsScalarTest (test_with_values symbols outer rs e) (d + 35 * length rs)
     tests_are outer [] e d h k z g = weaker_test e d (d + 35 * 0) (omega arith) g
     tests_are outer (r ∷ rs) e d h k z g =
-        let value = value_text symbols outer r in
+        let value = variable_text symbols outer r in
         let is = value_is outer r h k.0 in
         let deep = value_deep symbols outer r z.0 in
         weaker_test (test_with_values symbols (outer ++ r ∷ []) rs (made (with_value symbols outer r) e)) ((d + 35) + 35 * length rs) (d + 35 * suc (length rs)) (omega arith)

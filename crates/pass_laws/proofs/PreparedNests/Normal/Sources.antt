@@ -15,7 +15,7 @@ use Rattle.tree.specs.Names.{IsSourceName}
 use Rattle.tree.specs.Plain.{Allocate, Arms, Assignment, Block, Deallocate, Declaration, Do, Expression, GoTo, If}
 use Rattle.tree.specs.Plain.{Label, Print, Read, Reference, Statement, Stop, Where, arm, no_arms, no_statements}
 use Rattle.tree.specs.Plain.{statement}
-use Rattle.find_nests.specs.nest_parts.Numbers.{after, after_arms, after_block, next}
+use Rattle.find_nests.specs.nest_parts.Numbers.{number_after, after_arms, after_block, next_loop_number}
 use Rattle.find_nests.specs.nest_parts.Statements.{branches_of, parts_of, parts_of_block}
 use Rattle.nest.specs.Plain.{Branches, Choice, Guarded, Jump, Loop, Part, Parts, Run, Turns, branch, no_branches}
 use Rattle.nest.specs.Plain.{no_parts, part, parts}
@@ -169,7 +169,7 @@ module _ (ds es : List Declaration) (ext : Extends ds es) (names : (x : List ℕ
     tests_are k (Assignment l mark left right) v h g = (tt, tt)
     tests_are k (Where l mark mask left right) v h g = absurd h
     tests_are k (If l arms other) v h g = ((tests_are_arms k arms v h.2 g.2, tests_are_block (after_arms k arms) other v h.3 g.3), tt)
-    tests_are k (Do l x a b c body) v h g = (tests_are_block (next k) body (within_loop x v) h.5 g.5, tt)
+    tests_are k (Do l x a b c body) v h g = (tests_are_block (next_loop_number k) body (within_loop x v) h.5 g.5, tt)
     tests_are k (Label n) v h g = (tt, tt)
     tests_are k (GoTo l n) v h g = (tt, tt)
     tests_are k (Stop l) v h g = tt
@@ -189,8 +189,8 @@ module _ (ds es : List Declaration) (ext : Extends ds es) (names : (x : List ℕ
     tests_are_block : (k : ℕ) (b : Block) (v : Surroundings) → source.IsBlock ds b v → target.IsBlock es b v → Tests (parts_of_block k b)
     tests_are_block k no_statements v h g = tt
     tests_are_block k (statement c cs) v h g =
-        tests_followed (parts_of k c) (parts_of_block (after k c) cs)
-        (tests_are k c (before_labels (labels_of cs) v) h.0 g.0) (tests_are_block (after k c) cs v h.1 g.1)
+        tests_followed (parts_of k c) (parts_of_block (number_after k c) cs)
+        (tests_are k c (before_labels (labels_of cs) v) h.0 g.0) (tests_are_block (number_after k c) cs v h.1 g.1)
 
   -- the conditions in the loop
   pub tests_sound : (l : Numbered) → source.IsStatement ds (as_statement l.loop) w → EachTest (IsSoundTest es) (body_of l)
@@ -206,7 +206,7 @@ module _ (ds es : List Declaration) (ext : Extends ds es) (names : (x : List ℕ
     parts_are k (Where l mark mask left right) v h g f = absurd h
     parts_are k (If l arms other) v h g f = ((parts_are_arms k arms v h.2 g.2 f, parts_are_block (after_arms k arms) other v h.3 g.3 f), tt)
     parts_are k (Do l x a b c body) v h g f = (
-      (record { source = named_source x _ h.1.integer.0; outside = λ i. h.1.free (f x i) }, parts_are_block (next k) body (within_loop x v) h.5 g.5 (λ y i. there x v.variables y (f y i))),
+      (record { source = named_source x _ h.1.integer.0; outside = λ i. h.1.free (f x i) }, parts_are_block (next_loop_number k) body (within_loop x v) h.5 g.5 (λ y i. there x v.variables y (f y i))),
       tt,
     )
     parts_are k (Label n) v h g f = (tt, tt)
@@ -224,8 +224,8 @@ module _ (ds es : List Declaration) (ext : Extends ds es) (names : (x : List ℕ
     parts_are_block : (k : ℕ) (b : Block) (v : Surroundings) → source.IsBlock ds b v → target.IsBlock es b v → Within v → Statements (parts_of_block k b)
     parts_are_block k no_statements v h g f = tt
     parts_are_block k (statement c cs) v h g f =
-        followed (parts_of k c) (parts_of_block (after k c) cs)
-        (parts_are k c (before_labels (labels_of cs) v) h.0 g.0 f) (parts_are_block (after k c) cs v h.1 g.1 f)
+        followed (parts_of k c) (parts_of_block (number_after k c) cs)
+        (parts_are k c (before_labels (labels_of cs) v) h.0 g.0 f) (parts_are_block (number_after k c) cs v h.1 g.1 f)
 
   -- the loop with what stands in it
   pub loop_is : (l : Numbered) → source.IsStatement ds (as_statement l.loop) w → EachIn (IsSoundStatement es w) (IsSoundLoop w) (body_of l)

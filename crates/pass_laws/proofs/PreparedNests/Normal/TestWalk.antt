@@ -14,7 +14,7 @@ use Rattle.last_values.specs.normal_forms.Texts.{at_least_one}
 use Rattle.linear_forms.proofs.Sizes.{both}
 use Rattle.nest.specs.Plain.{Branches, branch, no_branches}
 use Rattle.nest.specs.Plain.{Choice, Guarded, Jump, Label, Loop, Nest, Part, Parts, Run, Turns, no_parts, part, parts}
-use Rattle.normal_loops.specs.Bodies.{normal_branches, normal_part, normal_parts, normal_turns, placed}
+use Rattle.normal_loops.specs.Bodies.{normal_branches, normal_part, normal_parts, normal_turns, placed_loop}
 use Rattle.normal_loops.specs.Counting.{counting}
 use Rattle.normal_loops.specs.Loops.{with_loop}
 use Rattle.normal_loops.specs.Normal.{are_normal, are_normal_branches, is_normal}
@@ -91,7 +91,7 @@ module _ (n : Nest) (all : List NestedLoop) (Statement : Guarded → Type 0) (So
         by false true = tt
         by false false = (steps.own round ls l r under fair is, tt)
 
-    placed_each : (p : Part) → Each Asked (tests_under ls p) → Each_of ls (placed n all round r p)
+    placed_each : (p : Part) → Each Asked (tests_under ls p) → Each_of ls (placed_loop n all round r p)
     placed_each p h = by (stands_behind (length n.symbols) all n.body r.variable)
       where
         by : (b : Bool) → Each_of ls (cond b (p ∷ []) (parts_before n.symbols n.line round r ++ p ∷ parts_behind n.symbols n.line round r))

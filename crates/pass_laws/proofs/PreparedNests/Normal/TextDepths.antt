@@ -14,7 +14,7 @@ use Rattle.tree.specs.declared.ops.Op.TheVariants.{Add, Div, Mul, Neg, Sub}
 use Rattle.linear_forms.specs.Expressed.{minus_term, plus_term, term, variables, with_constant, with_term, with_terms}
 use Rattle.linear_forms.specs.Texts.{places_behind, text_of, with_place, with_symbols}
 use Rattle.last_values.specs.normal_forms.NormalLoops.{counters_of}
-use Rattle.last_values.specs.normal_forms.Texts.{counter_first, quotient, trip_text, value_text}
+use Rattle.last_values.specs.normal_forms.Texts.{counter_first, quotient_text, trip_text, variable_text}
 use Rattle.last_values.specs.declared.normal_forms.loops.NormalLoop.{NormalLoop}
 use Rattle.nest.specs.declared.parts.Trip.{Trip}
 use Rattle.subscripts.specs.declared.affine.Affine.{Affine}
@@ -120,14 +120,14 @@ text_deep loops symbols trips a d s t =
     (Each-append (λ (t : Expression). depth_of t ≤ d) (variables symbols) trips (variables_deep symbols d) t)))
     (omega (arith, few, some))
 
-pub value_deep : (symbols : List (List ℕ)) (outer : List NormalLoop) (r : NormalLoop) → HasSizes r → depth_of (value_text symbols outer r) ≤ 34
-unfolding value_text
+pub value_deep : (symbols : List (List ℕ)) (outer : List NormalLoop) (r : NormalLoop) → HasSizes r → depth_of (variable_text symbols outer r) ≤ 34
+unfolding variable_text
 value_deep symbols outer r s =
     let some = s.below.symbols in
     let sized : IsSized (counter_first r.step r.below) = record { loops = omega arith; symbols = some } in
     text_deep (r.counter ∷ counters_of outer) symbols [] (counter_first r.step r.below) 0 sized tt
 
-pub quotient_deep : (e : Expression) (z : ℤ) (d : ℕ) → depth_of e ≤ d → depth_of (quotient e z) ≤ d + 2
+pub quotient_deep : (e : Expression) (z : ℤ) (d : ℕ) → depth_of e ≤ d → depth_of (quotient_text e z) ≤ d + 2
 quotient_deep e z d h = by (int_eq z (pos 1))
   where
     by : (b : Bool) → depth_of (cond b e (Binary Div e (Number z))) ≤ d + 2
@@ -137,5 +137,5 @@ quotient_deep e z d h = by (int_eq z (pos 1))
 pub trip_deep : (counters symbols : List (List ℕ)) (trips : List Expression) (t : Trip) (d : ℕ) → IsSized t.top → AreDeep d trips → depth_of (trip_text counters symbols trips t) ≤ d + 36
 unfolding trip_text
 trip_deep counters symbols trips t d s h =
-    more_deep (depth_of (quotient (text_of counters symbols trips t.top) t.by)) ((d + 34) + 2) (d + 36)
+    more_deep (depth_of (quotient_text (text_of counters symbols trips t.top) t.by)) ((d + 34) + 2) (d + 36)
     (quotient_deep (text_of counters symbols trips t.top) t.by (d + 34) (text_deep counters symbols trips t.top d s h)) (omega arith)

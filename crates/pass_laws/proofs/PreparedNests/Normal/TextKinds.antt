@@ -14,7 +14,7 @@ use Rattle.tree.specs.declared.ops.Op.TheVariants.{And, Div, Mul}
 use Rattle.linear_forms.specs.Expressed.{minus_term, plus_term, term, variables, with_constant, with_term, with_terms}
 use Rattle.linear_forms.specs.Texts.{places_behind, text_of, with_place, with_symbols}
 use Rattle.pass_laws.proofs.NormalFacts.StatementKinds.{IsNumber, IsSmallForm}
-use Rattle.last_values.specs.normal_forms.Texts.{at_least_one, quotient}
+use Rattle.last_values.specs.normal_forms.Texts.{at_least_one, quotient_text}
 use Rattle.subscripts.specs.Shapes.{IsSmall}
 use Rattle.subscripts.specs.declared.affine.Affine.{Affine}
 
@@ -115,7 +115,7 @@ module _ (es : List Declaration) where
       (terms_are None a.loops (variables loops) small.loops tt (variables_are loops l))
       (Each-append (IsNumber es) (variables symbols) trips (variables_are symbols s) t))
 
-  pub quotient_is : (e : Expression) (z : ℤ) (n : ℕ) → z ≡ pos n → n ≤ 2 ^ 40 → IsNumber es e → IsNumber es (quotient e z)
+  pub quotient_is : (e : Expression) (z : ℤ) (n : ℕ) → z ≡ pos n → n ≤ 2 ^ 40 → IsNumber es e → IsNumber es (quotient_text e z)
   quotient_is e z n same small h = by (int_eq z (pos 1))
     where
       divided : (y : ℤ) → y ≡ pos n → IsNumber es (Binary Div e (Number y))

@@ -4,7 +4,7 @@ use Rattle.tree.specs.declared.exprs.Turn.{out-Turn}
 use Rattle.tree.specs.View.{expression_of, subscript_of}
 use Rattle.rewrite.proofs.UseLaws.{more}
 use Rattle.std.proofs.Common.{map}
-use Rattle.tree.specs.View.{loop_of, loops}
+use Rattle.tree.specs.View.{loop_of, constructor_loops}
 use Rattle.reductions.specs.Reading.{read_in, read_in_subscript, read_under, without}
 use Rattle.reductions.proofs.LoopLaws.{under_end, under_more}
 use Rattle.reductions.proofs.reading.+reading.Goals as goal
@@ -22,10 +22,10 @@ add_subs-loop-sub-preserved t c =
 pub under_turns-loop-turn-preserved : goal.under_turns-loop-turn-preserved
 under_turns-loop-turn-preserved t c =
     let now : c.add_without.new.names ≡ c.add_turn.new.names ++ without (out-Turn c.turn-item.result).var c.loop-turn.inner = first_of (search rules, grind (arith, common_steps)) in
-    under_more (read_under (loops (map loop_of c.args.turns.now)) c.args.values)
+    under_more (read_under (constructor_loops (map loop_of c.args.turns.now)) c.args.values)
     c.as_slice-turn-items.result.now c.loop-turn.turn-index c.turn-item.result c.loop-turn.inner c.new-round.result c.add_turn.new.names c.add_without.new.names
     (omega arith) c.turn-item.is c.loop-turn.invariant c.new-round.ensures c.in_ok-add_turn.ensures now
 
 pub under_turns-returns : goal.under_turns-returns
 under_turns-returns t c =
-    under_end (read_under (loops (map loop_of c.args.turns.now)) c.args.values) c.as_slice-turn-items.result.now c.loop-turn.turn-index c.loop-turn.inner (omega arith) c.loop-turn.invariant
+    under_end (read_under (constructor_loops (map loop_of c.args.turns.now)) c.args.values) c.as_slice-turn-items.result.now c.loop-turn.turn-index c.loop-turn.inner (omega arith) c.loop-turn.invariant

@@ -1,6 +1,6 @@
 use Rattle.std.proofs.Common.{◌≡◌, ◌∙◌, map, arith}
 use Rattle.tree.specs.Plain.{expressions, subscripts}
-use Rattle.tree.specs.View.{expression_of, loop_of, loops, subscript_of}
+use Rattle.tree.specs.View.{expression_of, loop_of, constructor_loops, subscript_of}
 use Rattle.reductions.specs.Same.{same_each, same_loops, same_subscripts}
 use Rattle.reductions.proofs.LoopLaws.{expressions_end, loops_end, subscripts_end}
 use Rattle.reductions.proofs.sameness.+same.Goals as goal
@@ -17,5 +17,5 @@ same_subs-returns t c =
 
 pub same_turns-returns : goal.same_turns-returns
 same_turns-returns t c =
-    c.is_empty.ensures ∙ loops_end (same_loops (loops (map loop_of c.args.turns.now)) (loops (map loop_of c.args.others.now)))
+    c.is_empty.ensures ∙ loops_end (same_loops (constructor_loops (map loop_of c.args.turns.now)) (constructor_loops (map loop_of c.args.others.now)))
     c.as_slice-turn-items.result.now c.loop-turn.rest.now c.loop-turn.turn-index (omega arith) c.loop-turn.invariant

@@ -1,7 +1,7 @@
 -- The first ones are the same, and the rest is still to be told.
 use Rattle.std.proofs.Common.{◌≡◌, map, drop}
 use Rattle.tree.specs.Plain.{expressions, subscripts}
-use Rattle.tree.specs.View.{expression_of, loop_of, loops, subscript_of}
+use Rattle.tree.specs.View.{expression_of, loop_of, constructor_loops, subscript_of}
 use Rattle.reductions.specs.Same.{same_each, same_loops, same_subscripts}
 use Rattle.reductions.proofs.sameness.+same.Given as goal
 
@@ -17,5 +17,5 @@ invariant-same_subs-loop-sub l =
 
 abbrev pub invariant-same_turns-loop-turn : goal.invariant-same_turns-loop-turn
 invariant-same_turns-loop-turn l =
-    same_loops (loops (map loop_of l.turns)) (loops (map loop_of l.others))
-    ≡ same_loops (loops (map loop_of (drop l.turn-index l.turn-items))) (loops (map loop_of l.rest))
+    same_loops (constructor_loops (map loop_of l.turns)) (constructor_loops (map loop_of l.others))
+    ≡ same_loops (constructor_loops (map loop_of (drop l.turn-index l.turn-items))) (constructor_loops (map loop_of l.rest))

@@ -1,6 +1,6 @@
 use Rattle.std.proofs.Common.{◌≡◌, map, arith, ap, ◌∙◌}
 use Rattle.std.proofs.lemmas.Grind.{common_steps}
-use Rattle.tree.specs.View.{expression_of, subscript_of, loop_of, loops}
+use Rattle.tree.specs.View.{expression_of, subscript_of, loop_of, constructor_loops}
 use Rattle.tree.specs.Plain.{expressions, subscripts}
 use Rattle.rewrite.specs.Making as making
 use Rattle.rewrite.specs.MadeBlocks as made_blocks
@@ -17,7 +17,7 @@ pub rewrite_turns-returns-clause-made : goal.rewrite_turns-returns-clause-made
 rewrite_turns-returns-clause-made g t c =
     let m = g.R.NodeRule.making c.args.rule.now in
     let same : map loop_of c.loop-turn.made ≡ map (made_blocks.made_loop m) (map loop_of c.args.turns.now) = grind (arith, common_steps) in
-    ap loops same ∙ made_each_loop m (map loop_of c.args.turns.now)
+    ap constructor_loops same ∙ made_each_loop m (map loop_of c.args.turns.now)
 
 pub rewrite_subscripts-returns-clause-made : goal.rewrite_subscripts-returns-clause-made
 rewrite_subscripts-returns-clause-made g t c =

@@ -19,34 +19,34 @@ use Rattle.run90.proofs.statements.+statements.Given as goal
 -- what is done with the turns, the arms or the statements that are left is done with all
 abbrev pub invariant-statement-loop : goal.invariant-statement-loop
 invariant-statement-loop g l =
-    ((p : Program) (w : Surroundings) → IsStatement p.declarations (statement_of l.fn.stmt) w → Suits p (seen l.fn.moment) → Suits p (seen l.moment)
+    ((p : Program) (w : Surroundings) → IsStatement p.declarations (statement_of l.fn.stmt) w → Suits l.width p (seen l.fn.moment) → Suits l.width p (seen l.moment)
     × ((now : Option (List ℕ)) (last : Seen) (r : Result (Unit {0}) Left)
-    → Runs (λ limit. repeated (l.end - l.counter) (turn fortran90 limit l.line l.var l.turns.step (does_all fortran90 limit (block_of l.body)))) l.input (seen l.moment) (g.K.Sink.taken l.out) last now r
-    → Runs (λ limit. does fortran90 limit (statement_of l.fn.stmt)) l.input (seen l.fn.moment) (g.K.Sink.taken l.fn.out) last now r))
+    → Runs (λ limit. repeated (l.end - l.counter) (turn (fortran90 l.width) limit l.line l.var l.turns.step (does_all (fortran90 l.width) limit (block_of l.body)))) l.input (seen l.moment) (g.K.Sink.taken l.out) last now r
+    → Runs (λ limit. does (fortran90 l.width) limit (statement_of l.fn.stmt)) l.input (seen l.fn.moment) (g.K.Sink.taken l.fn.out) last now r))
     × (g.K.Sink.faults l.out ≡ g.K.Sink.faults l.fn.out)
-    × ((p : Program) (w : Surroundings) → IsStatement p.declarations (statement_of l.fn.stmt) w → Suits p (seen l.fn.moment) → (bytes : List ℕ) → IsTold (λ before mid. (now : Option (List ℕ)) (last : Seen) (r : Result (Unit {0}) Left)
-    → Runs (λ limit. repeated (l.end - l.counter) (turn fortran90 limit l.line l.var l.turns.step (does_all fortran90 limit (block_of l.body)))) l.input (seen l.moment) mid last now r
-    → Runs (λ limit. does fortran90 limit (statement_of l.fn.stmt)) l.input (seen l.fn.moment) before last now r) (l.out ≡ l.fn.out) bytes)
+    × ((p : Program) (w : Surroundings) → IsStatement p.declarations (statement_of l.fn.stmt) w → Suits l.width p (seen l.fn.moment) → (bytes : List ℕ) → IsTold (λ before mid. (now : Option (List ℕ)) (last : Seen) (r : Result (Unit {0}) Left)
+    → Runs (λ limit. repeated (l.end - l.counter) (turn (fortran90 l.width) limit l.line l.var l.turns.step (does_all (fortran90 l.width) limit (block_of l.body)))) l.input (seen l.moment) mid last now r
+    → Runs (λ limit. does (fortran90 l.width) limit (statement_of l.fn.stmt)) l.input (seen l.fn.moment) before last now r) (l.out ≡ l.fn.out) bytes)
 
 abbrev pub invariant-choose-loop-arm : goal.invariant-choose-loop-arm
 invariant-choose-loop-arm g l =
     ((other : LimitedAct) (now : Option (List ℕ)) (last : Seen) (r : Result (Unit {0}) Left)
-    → Runs (left_of_arms fortran90 l.line other (drop l.arm-index l.arm-items)) l.input (seen l.moment) (g.K.Sink.taken l.out) last now r
-    → Runs (left_of_arms fortran90 l.line other l.arms) l.input (seen l.fn.moment) (g.K.Sink.taken l.fn.out) last now r)
-    × ((p : Program) (w : Surroundings) → AreArms p.declarations (plain_arms l.arms) w → Suits p (seen l.fn.moment) → AreArms p.declarations (plain_arms (drop l.arm-index l.arm-items)) w × Suits p (seen l.moment))
+    → Runs (left_of_arms (fortran90 l.width) l.line other (drop l.arm-index l.arm-items)) l.input (seen l.moment) (g.K.Sink.taken l.out) last now r
+    → Runs (left_of_arms (fortran90 l.width) l.line other l.arms) l.input (seen l.fn.moment) (g.K.Sink.taken l.fn.out) last now r)
+    × ((p : Program) (w : Surroundings) → AreArms p.declarations (plain_arms l.arms) w → Suits l.width p (seen l.fn.moment) → AreArms p.declarations (plain_arms (drop l.arm-index l.arm-items)) w × Suits l.width p (seen l.moment))
     × (g.K.Sink.faults l.out ≡ g.K.Sink.faults l.fn.out)
     × ((bytes : List ℕ) → IsTold (λ before mid. (other : LimitedAct) (now : Option (List ℕ)) (last : Seen) (r : Result (Unit {0}) Left)
-    → Runs (left_of_arms fortran90 l.line other (drop l.arm-index l.arm-items)) l.input (seen l.moment) mid last now r
-    → Runs (left_of_arms fortran90 l.line other l.arms) l.input (seen l.fn.moment) before last now r) (l.out ≡ l.fn.out) bytes)
+    → Runs (left_of_arms (fortran90 l.width) l.line other (drop l.arm-index l.arm-items)) l.input (seen l.moment) mid last now r
+    → Runs (left_of_arms (fortran90 l.width) l.line other l.arms) l.input (seen l.fn.moment) before last now r) (l.out ≡ l.fn.out) bytes)
 
 abbrev pub invariant-block-loop-stmt : goal.invariant-block-loop-stmt
 invariant-block-loop-stmt g l =
-    ((p : Program) (w : Surroundings) → IsBlock p.declarations (block_of l.block) w → Suits p (seen l.fn.moment)
-    → IsBlock p.declarations (block (map statement_of (drop l.stmt-index l.stmt-items))) w × Suits p (seen l.moment)
+    ((p : Program) (w : Surroundings) → IsBlock p.declarations (block_of l.block) w → Suits l.width p (seen l.fn.moment)
+    → IsBlock p.declarations (block (map statement_of (drop l.stmt-index l.stmt-items))) w × Suits l.width p (seen l.moment)
     × ((now : Option (List ℕ)) (last : Seen) (r : Result (Unit {0}) Left)
-    → RunsOn (way_at l.jump) (left_of_block fortran90 (drop l.stmt-index l.stmt-items)) l.input (seen l.moment) (g.K.Sink.taken l.out) last now r
-    → Runs (λ limit. does_all fortran90 limit (block_of l.block)) l.input (seen l.fn.moment) (g.K.Sink.taken l.fn.out) last now r))
+    → RunsOn (way_at l.jump) (left_of_block (fortran90 l.width) (drop l.stmt-index l.stmt-items)) l.input (seen l.moment) (g.K.Sink.taken l.out) last now r
+    → Runs (λ limit. does_all (fortran90 l.width) limit (block_of l.block)) l.input (seen l.fn.moment) (g.K.Sink.taken l.fn.out) last now r))
     × (g.K.Sink.faults l.out ≡ g.K.Sink.faults l.fn.out)
-    × ((p : Program) (w : Surroundings) → IsBlock p.declarations (block_of l.block) w → Suits p (seen l.fn.moment) → (bytes : List ℕ) → IsTold (λ before mid. (now : Option (List ℕ)) (last : Seen) (r : Result (Unit {0}) Left)
-    → RunsOn (way_at l.jump) (left_of_block fortran90 (drop l.stmt-index l.stmt-items)) l.input (seen l.moment) mid last now r
-    → Runs (λ limit. does_all fortran90 limit (block_of l.block)) l.input (seen l.fn.moment) before last now r) (l.out ≡ l.fn.out) bytes)
+    × ((p : Program) (w : Surroundings) → IsBlock p.declarations (block_of l.block) w → Suits l.width p (seen l.fn.moment) → (bytes : List ℕ) → IsTold (λ before mid. (now : Option (List ℕ)) (last : Seen) (r : Result (Unit {0}) Left)
+    → RunsOn (way_at l.jump) (left_of_block (fortran90 l.width) (drop l.stmt-index l.stmt-items)) l.input (seen l.moment) mid last now r
+    → Runs (λ limit. does_all (fortran90 l.width) limit (block_of l.block)) l.input (seen l.fn.moment) before last now r) (l.out ≡ l.fn.out) bytes)

@@ -6,9 +6,9 @@ use Rattle.array_expressions.specs.assignments.Moments.{seen}
 use Rattle.run90.proofs.statements.go.Goals as goal
 
 pub returns-in_err-count_step : goal.returns-in_err-count_step
-returns-in_err-count_step c = λ input bytes.
+returns-in_err-count_step c = λ w input bytes.
     rw (residual c.from_residual.ensures.1)
-    (Runs-cut fortran90 _ input (seen c.args.moment.now) (seen c.count_step.new.self) bytes c.in_err-count_step.field-0.0 c.in_err-count_step.ensures.counted)
+    (Runs-cut (fortran90 w) _ input (seen c.args.moment.now) (seen c.count_step.new.self) bytes c.in_err-count_step.field-0.0 c.in_err-count_step.ensures.counted)
 
 pub returns : goal.returns
-returns c = λ input bytes. Runs-counts_step fortran90 _ input (seen c.args.moment.now) (seen c.count_step.new.self) _ bytes bytes _ c.in_ok-count_step.ensures.counted (Runs-goes input (seen c.count_step.new.self) bytes (Jump c.args.label))
+returns c = λ w input bytes. Runs-counts_step (fortran90 w) _ input (seen c.args.moment.now) (seen c.count_step.new.self) _ bytes bytes _ c.in_ok-count_step.ensures.counted (Runs-goes input (seen c.count_step.new.self) bytes (Jump c.args.label))

@@ -2,7 +2,7 @@ use Rattle.std.proofs.Common.{◌≡◌, ◌+◌, ◌++◌, IfOk, List, map, sym
 use Rattle.nest.specs.Plain as plain
 use Rattle.nest.specs.View.{loop_of, part_of}
 use Rattle.nest.specs.declared.parts.Part.{Part}
-use Rattle.nest_steps.specs.Mapped.{count_of, mapped, mapped_in}
+use Rattle.nest_steps.specs.Mapped.{count_of, mapped_parts_of, mapped_in}
 use Rattle.statement_passes.proofs.PassLaws.{added-more, counted-more, counted-run, counted-turns, mapped-run, on-ok, turns-added}
 use Rattle.statement_passes.proofs.passes.+mapping.Goals as goal
 
@@ -10,7 +10,7 @@ pub add_part-returns-in_ok-add_each-in-Run-clause-added : goal.add_part-returns-
 add_part-returns-in_ok-add_each-in-Run-clause-added g t c =
     let e = g.S.StatementPass.each c.args.pass.now in
     on-ok c.one_more.result
-    (subst (λ (p : Part). map part_of c.add_each.new.made ≡ map part_of c.args.made.now ++ mapped e (map loop_of c.args.loops.now) c.args.number (part_of p)) (sym c.in-Run.is)
+    (subst (λ (p : Part). map part_of c.add_each.new.made ≡ map part_of c.args.made.now ++ mapped_parts_of e (map loop_of c.args.loops.now) c.args.number (part_of p)) (sym c.in-Run.is)
     (c.in_ok-add_each-in-Run.ensures.added ∙ ap (λ (xs : List plain.Part). map part_of c.args.made.now ++ xs) (sym (mapped-run e (map loop_of c.args.loops.now) c.args.number c.in-Run.stmt))))
 
 pub add_part-returns-in_ok-add_each-in-Run-clause-counted : goal.add_part-returns-in_ok-add_each-in-Run-clause-counted
@@ -22,7 +22,7 @@ add_part-returns-in_ok-add_turns-in-Turns-clause-added g t c =
     let e = g.S.StatementPass.each c.args.pass.now in
     let are : map part_of c.add_parts.new.made ≡ mapped_in e (map loop_of c.in_ok-inner-in-Turns.inner) c.args.number (plain.parts (map part_of c.in-Turns.body))
     = c.in_ok-next-in-Turns.ensures.added ∙ ap (λ (xs : List Part). map part_of xs ++ mapped_in e (map loop_of c.in_ok-inner-in-Turns.inner) c.args.number (plain.parts (map part_of c.in-Turns.body))) c.new-parts.ensures in
-    subst (λ (p : Part). map part_of c.add_turns.new.made ≡ map part_of c.args.made.now ++ mapped e (map loop_of c.args.loops.now) c.args.number (part_of p)) (sym c.in-Turns.is)
+    subst (λ (p : Part). map part_of c.add_turns.new.made ≡ map part_of c.args.made.now ++ mapped_parts_of e (map loop_of c.args.loops.now) c.args.number (part_of p)) (sym c.in-Turns.is)
     (turns-added e (map loop_of c.args.loops.now) (map loop_of c.in_ok-inner-in-Turns.inner) c.args.number c.in-Turns.turns c.in-Turns.body (map part_of c.add_parts.new.made)
     (map part_of c.args.made.now) (map part_of c.add_turns.new.made) c.in_ok-inner-in-Turns.ensures are c.in_ok-add_turns-in-Turns.ensures)
 

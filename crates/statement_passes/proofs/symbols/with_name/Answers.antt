@@ -1,5 +1,5 @@
 use Rattle.std.proofs.Common.{◌≡◌, ◌≤◌, ◌∙◌, List, ℕ, insert, length, ap, subst, arith}
-use Rattle.statement_passes.specs.Symbols.{place_of}
+use Rattle.statement_passes.specs.Symbols.{place_among}
 use Rattle.statement_passes.proofs.symbols.with_name.Goals as goal
 
 pub insert-requires : goal.insert-requires
@@ -12,5 +12,5 @@ insert-requires c =
 pub returns : goal.returns
 returns c =
     let are = c.in_ok-all.ensures.items ∙ c.as_slice-2.ensures in
-    let place = c.place_of-place.ensures.place ∙ ap (λ (xs : List (List ℕ)). place_of xs c.args.name) c.as_slice.ensures in
+    let place = c.place_of-place.ensures.place ∙ ap (λ (xs : List (List ℕ)). place_among xs c.args.name) c.as_slice.ensures in
     c.from_vec.ensures ∙ c.in_ok-insert.ensures.items ∙ (λ i. insert (are i) (place i) c.args.name)

@@ -1,5 +1,5 @@
 use Rattle.std.proofs.Common.{sym}
-use Rattle.tool.specs.ArrayMarks.{is_blank}
+use Rattle.reading.specs.Characters.{is_blank}
 use Rattle.tool.proofs.MarkLaws.{cut_found, cut_missed}
 use Rattle.tool.proofs.marks.cut.Goals as goal
 

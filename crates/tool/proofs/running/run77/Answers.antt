@@ -27,5 +27,5 @@ returns-in-Ok-new-clause-textless g c p reads none =
     let same : p ≡ program_of c.in-Ok.program =
     only_program (Run77 c.args.options) c.args.deck.now c.source_and_input.result.0.now c.read77.result c.in-Ok.program c.source_and_input.ensures.source c.in-Ok.is c.read77.ensures.only_read p reads in
     c.run_machine77.ensures.textless (program_of c.in-Ok.program) c.in-Ok.ensures.program c.in-Ok-new.ensures.machine
-    (subst (λ (q : Program). run_text c.args.options q (run fortran77 c.args.options.steps q c.bytes_of.result.now) ≡ []) same
-    (subst (λ (t : List ℕ). run_text c.args.options p (run fortran77 c.args.options.steps p t) ≡ []) (sym (c.bytes_of.ensures ∙ c.source_and_input.ensures.input)) none))
+    (subst (λ (q : Program). run_text c.args.options q (run (fortran77 c.args.options.width) c.args.options.steps q c.bytes_of.result.now) ≡ []) same
+    (subst (λ (t : List ℕ). run_text c.args.options p (run (fortran77 c.args.options.width) c.args.options.steps p t) ≡ []) (sym (c.bytes_of.ensures ∙ c.source_and_input.ensures.input)) none))

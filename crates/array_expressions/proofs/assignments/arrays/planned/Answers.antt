@@ -10,7 +10,7 @@ pub returns-in_err-writes-clause-plans : goal.returns-in_err-writes-clause-plans
 returns-in_err-writes-clause-plans c =
     let t = c.in_ok-target.ensures in
     rw (residual c.from_residual-in_err-writes.ensures.1)
-    (writes_fail (slots_in c.args.scope.now.storage.now) (expression_of c.args.mask.now) (reference_of c.args.left.now) (expression_of c.args.right.now) (store_in c.args.scope.now.storage.now)
+    (writes_fail c.args.width (slots_in c.args.scope.now.storage.now) (expression_of c.args.mask.now) (reference_of c.args.left.now) (expression_of c.args.right.now) (store_in c.args.scope.now.storage.now)
     c.in_ok-mask.mask c.in_ok-mask.ensures c.in_ok-target.target t c.extents.result.now c.as_slice-extents.result.now c.extents.ensures c.as_slice-extents.ensures c.in_ok-check_conform.ensures
     c.in_ok-right.right c.in_ok-right.ensures c.wider.result.now c.extents-3.result.now (c.wider.ensures ∙ ap (λ xs. wider xs c.as_slice-extents.result.now) (c.extents-2.ensures ∙ sym c.extents.ensures)) c.extents-3.ensures
     _ c.in_ok-check_conform-2.ensures c.in_err-writes.field-0.0
@@ -19,7 +19,7 @@ returns-in_err-writes-clause-plans c =
 pub returns-clause-plans : goal.returns-clause-plans
 returns-clause-plans c =
     let t = c.in_ok-target.ensures in
-    plan_is (slots_in c.args.scope.now.storage.now) (expression_of c.args.mask.now) (reference_of c.args.left.now) (expression_of c.args.right.now) (store_in c.args.scope.now.storage.now)
+    plan_is c.args.width (slots_in c.args.scope.now.storage.now) (expression_of c.args.mask.now) (reference_of c.args.left.now) (expression_of c.args.right.now) (store_in c.args.scope.now.storage.now)
     c.in_ok-mask.mask c.in_ok-mask.ensures c.in_ok-target.target t c.extents.result.now c.as_slice-extents.result.now c.extents.ensures c.as_slice-extents.ensures c.in_ok-check_conform.ensures
     c.in_ok-right.right c.in_ok-right.ensures c.wider.result.now c.extents-3.result.now (c.wider.ensures ∙ ap (λ xs. wider xs c.as_slice-extents.result.now) (c.extents-2.ensures ∙ sym c.extents.ensures)) c.extents-3.ensures
     _ c.in_ok-check_conform-2.ensures _ refl
@@ -28,7 +28,7 @@ returns-clause-plans c =
 pub returns-clause-sound : goal.returns-clause-sound
 returns-clause-sound c =
     let t = c.in_ok-target.ensures in
-    plan_sound (slots_in c.args.scope.now.storage.now) (expression_of c.args.mask.now) (reference_of c.args.left.now) (expression_of c.args.right.now) (store_in c.args.scope.now.storage.now)
+    plan_sound c.args.width (slots_in c.args.scope.now.storage.now) (expression_of c.args.mask.now) (reference_of c.args.left.now) (expression_of c.args.right.now) (store_in c.args.scope.now.storage.now)
     c.in_ok-mask.mask c.in_ok-mask.ensures c.in_ok-target.target t c.extents.result.now c.as_slice-extents.result.now c.extents.ensures c.as_slice-extents.ensures c.in_ok-check_conform.ensures
     c.in_ok-right.right c.in_ok-right.ensures c.wider.result.now c.extents-3.result.now (c.wider.ensures ∙ ap (λ xs. wider xs c.as_slice-extents.result.now) (c.extents-2.ensures ∙ sym c.extents.ensures)) c.extents-3.ensures
     _ c.in_ok-check_conform-2.ensures _ refl

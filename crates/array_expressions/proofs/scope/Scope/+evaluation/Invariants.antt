@@ -1,6 +1,6 @@
 use Rattle.std.proofs.Common.{◌≡◌, ◌+◌, [], drop, map, pos, ◌+ℤ◌, ◌-ℤ◌}
 use Rattle.tree.specs.Plain.{expressions, subscripts}
-use Rattle.tree.specs.View.{expression_of, subscript_of, loop_of, loops}
+use Rattle.tree.specs.View.{expression_of, subscript_of, loop_of, constructor_loops}
 use Rattle.tree.specs.declared.exprs.Ref.{out-Ref}
 use Rattle.meaning.specs.Dialect.{fortran90}
 use Rattle.meaning.specs.Sections.{not_negative}
@@ -65,26 +65,26 @@ decreases-push_numbers l = weight_in_each l.values.now + weight_in_turns l.inner
 
 abbrev pub invariant-push_values-loop-expr : goal.invariant-push_values-loop-expr
 invariant-push_values-loop-expr l =
-    HaveValues (store_at l.self l.locals) l.initial.all l.all (values_of fortran90 (expressions (map expression_of l.exprs)) (store_at l.self l.locals)) (drop l.expr-index l.expr-items)
+    HaveValues l.width (store_at l.self l.locals) l.initial.all l.all (values_of (fortran90 l.width) (expressions (map expression_of l.exprs)) (store_at l.self l.locals)) (drop l.expr-index l.expr-items)
 
 abbrev pub invariant-numbers-loop-sub : goal.invariant-numbers-loop-sub
 invariant-numbers-loop-sub l =
-    subscript_values fortran90 (subscripts (map subscript_of l.subs)) (store_at l.self l.locals)
-    ≡ left_of (λ p. subscript_value fortran90 (subscript_of p) (store_at l.self l.locals)) l.numbers (drop l.sub-index l.sub-items)
+    subscript_values (fortran90 l.width) (subscripts (map subscript_of l.subs)) (store_at l.self l.locals)
+    ≡ left_of (λ p. subscript_value (fortran90 l.width) (subscript_of p) (store_at l.self l.locals)) l.numbers (drop l.sub-index l.sub-items)
 
 abbrev pub invariant-selectors-loop-sub : goal.invariant-selectors-loop-sub
 invariant-selectors-loop-sub l =
-    selectors fortran90 (subscripts (map subscript_of l.subs)) (store_at l.self l.locals)
-    ≡ left_of (λ p. selector fortran90 (subscript_of p) (store_at l.self l.locals)) (map selector_in l.selectors) (drop l.sub-index l.sub-items)
+    selectors (fortran90 l.width) (subscripts (map subscript_of l.subs)) (store_at l.self l.locals)
+    ≡ left_of (λ p. selector (fortran90 l.width) (subscript_of p) (store_at l.self l.locals)) (map selector_in l.selectors) (drop l.sub-index l.sub-items)
 
 abbrev pub invariant-arguments-loop-expr : goal.invariant-arguments-loop-expr
 invariant-arguments-loop-expr l =
-    arguments_of fortran90 (expressions (map expression_of l.exprs)) [] (store_at l.self l.locals)
-    ≡ args_left (store_at l.self l.locals) (map elements_in l.parts) (drop l.expr-index l.expr-items)
+    arguments_of (fortran90 l.width) (expressions (map expression_of l.exprs)) [] (store_at l.self l.locals)
+    ≡ args_left l.width (store_at l.self l.locals) (map elements_in l.parts) (drop l.expr-index l.expr-items)
 
 abbrev pub invariant-push_numbers-loop-number : goal.invariant-push_numbers-loop-number
 invariant-push_numbers-loop-number l =
-    HaveNumbers (constructed (expressions (map expression_of l.values)) (loops (map loop_of l.inner))) (store_at l.self l.locals) l.initial.all l.all
+    HaveNumbers l.width (constructed l.width (expressions (map expression_of l.values)) (constructor_loops (map loop_of l.inner))) (store_at l.self l.locals) l.initial.all l.all
     l.fn.numbers.name l.fn.numbers.first l.number l.fn.numbers.last
 
 abbrev pub decreases-push_numbers-loop-number : goal.decreases-push_numbers-loop-number

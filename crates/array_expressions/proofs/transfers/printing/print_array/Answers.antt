@@ -31,10 +31,10 @@ returns-in_err-known-clause-run g c = λ input.
     let s = store_in c.args.moment.now.storage in
     let m = seen c.args.moment.now in
     (rw (residual c.from_residual.ensures.1)
-    (left_so (λ limit. prints_array line e) input m m (g.K.Sink.taken c.args.out.now) (g.K.Sink.taken c.args.out.now) c.in_err-known.field-0.0
-    (Runs-stuck line (λ (k : Known). k.values) (all_elements fortran90 e) (λ vs limit. writes (output_text vs)) input m c.in_err-known.field-0.0 (g.K.Sink.taken c.args.out.now)
-    (asked line (λ (k : Known). k.values) (all_elements fortran90 e s) c.in_whole.result _ (sym c.in_err-known.was ∙ c.at.ensures) (elements_answered e s c.in_whole.result (subst (λ st. Answers array_in (whole_of e (store_in st)) c.in_whole.result) c.scope.ensures c.in_whole.ensures)))
-    (Extends-written line (all_elements fortran90 e)))))
+    (left_so (λ limit. prints_array c.args.width line e) input m m (g.K.Sink.taken c.args.out.now) (g.K.Sink.taken c.args.out.now) c.in_err-known.field-0.0
+    (Runs-stuck line (λ (k : Known). k.values) (all_elements (fortran90 c.args.width) e) (λ vs limit. writes (output_text vs)) input m c.in_err-known.field-0.0 (g.K.Sink.taken c.args.out.now)
+    (asked line (λ (k : Known). k.values) (all_elements (fortran90 c.args.width) e s) c.in_whole.result _ (sym c.in_err-known.was ∙ c.at.ensures) (elements_answered c.args.width e s c.in_whole.result (subst (λ st. Answers array_in (whole_of c.args.width e (store_in st)) c.in_whole.result) c.scope.ensures c.in_whole.ensures)))
+    (Extends-written line (all_elements (fortran90 c.args.width) e)))))
 
 pub returns-in_err-known-clause-told : goal.returns-in_err-known-clause-told
 returns-in_err-known-clause-told g c = λ input bytes.
@@ -44,10 +44,10 @@ returns-in_err-known-clause-told g c = λ input bytes.
     let m = seen c.args.moment.now in
     still _ bytes
     (rw (residual c.from_residual.ensures.1)
-    (left_so (λ limit. prints_array line e) input m m (Some bytes) (Some bytes) c.in_err-known.field-0.0
-    (Runs-stuck line (λ (k : Known). k.values) (all_elements fortran90 e) (λ vs limit. writes (output_text vs)) input m c.in_err-known.field-0.0 (Some bytes)
-    (asked line (λ (k : Known). k.values) (all_elements fortran90 e s) c.in_whole.result _ (sym c.in_err-known.was ∙ c.at.ensures) (elements_answered e s c.in_whole.result (subst (λ st. Answers array_in (whole_of e (store_in st)) c.in_whole.result) c.scope.ensures c.in_whole.ensures)))
-    (Extends-written line (all_elements fortran90 e)))))
+    (left_so (λ limit. prints_array c.args.width line e) input m m (Some bytes) (Some bytes) c.in_err-known.field-0.0
+    (Runs-stuck line (λ (k : Known). k.values) (all_elements (fortran90 c.args.width) e) (λ vs limit. writes (output_text vs)) input m c.in_err-known.field-0.0 (Some bytes)
+    (asked line (λ (k : Known). k.values) (all_elements (fortran90 c.args.width) e s) c.in_whole.result _ (sym c.in_err-known.was ∙ c.at.ensures) (elements_answered c.args.width e s c.in_whole.result (subst (λ st. Answers array_in (whole_of c.args.width e (store_in st)) c.in_whole.result) c.scope.ensures c.in_whole.ensures)))
+    (Extends-written line (all_elements (fortran90 c.args.width) e)))))
 
 pub returns-in_err-known-clause-fault : goal.returns-in_err-known-clause-fault
 returns-in_err-known-clause-fault g c = λ e. absurd (no_write _ c.in_err-known.field-0.0 (residual c.from_residual.ensures.1) e)
@@ -59,8 +59,8 @@ returns-then-is_empty-clause-run g c = λ input.
     let s = store_in c.args.moment.now.storage in
     let m = seen c.args.moment.now in
     let none = no_values c.in_ok-known.known.values c.is_empty.result (c.is_empty.ensures ∙ ap (λ (xs : List Value). length xs == 0) c.as_slice-values.ensures) c.if-is_empty.true in
-    (Runs-answers line (λ (k : Known). k.values) (all_elements fortran90 e) (λ vs limit. writes (output_text vs)) input m c.in_ok-known.known m (g.K.Sink.taken c.args.out.now) (g.K.Sink.taken c.args.out.now) (Ok tt)
-    (asked line (λ (k : Known). k.values) (all_elements fortran90 e s) c.in_whole.result _ (sym c.in_ok-known.was ∙ c.at.ensures) (elements_answered e s c.in_whole.result (subst (λ st. Answers array_in (whole_of e (store_in st)) c.in_whole.result) c.scope.ensures c.in_whole.ensures)))
+    (Runs-answers line (λ (k : Known). k.values) (all_elements (fortran90 c.args.width) e) (λ vs limit. writes (output_text vs)) input m c.in_ok-known.known m (g.K.Sink.taken c.args.out.now) (g.K.Sink.taken c.args.out.now) (Ok tt)
+    (asked line (λ (k : Known). k.values) (all_elements (fortran90 c.args.width) e s) c.in_whole.result _ (sym c.in_ok-known.was ∙ c.at.ensures) (elements_answered c.args.width e s c.in_whole.result (subst (λ st. Answers array_in (whole_of c.args.width e (store_in st)) c.in_whole.result) c.scope.ensures c.in_whole.ensures)))
     (Runs-writes (output_text c.in_ok-known.known.values) input m (g.K.Sink.taken c.args.out.now) (g.K.Sink.taken c.args.out.now) (Ok tt) (no_output c.in_ok-known.known.values (g.K.Sink.taken c.args.out.now) none)))
 
 pub returns-then-is_empty-clause-told : goal.returns-then-is_empty-clause-told
@@ -71,8 +71,8 @@ returns-then-is_empty-clause-told g c = λ input bytes.
     let m = seen c.args.moment.now in
     let none = no_values c.in_ok-known.known.values c.is_empty.result (c.is_empty.ensures ∙ ap (λ (xs : List Value). length xs == 0) c.as_slice-values.ensures) c.if-is_empty.true in
     still _ bytes
-    (Runs-answers line (λ (k : Known). k.values) (all_elements fortran90 e) (λ vs limit. writes (output_text vs)) input m c.in_ok-known.known m (Some bytes) (Some bytes) (Ok tt)
-    (asked line (λ (k : Known). k.values) (all_elements fortran90 e s) c.in_whole.result _ (sym c.in_ok-known.was ∙ c.at.ensures) (elements_answered e s c.in_whole.result (subst (λ st. Answers array_in (whole_of e (store_in st)) c.in_whole.result) c.scope.ensures c.in_whole.ensures)))
+    (Runs-answers line (λ (k : Known). k.values) (all_elements (fortran90 c.args.width) e) (λ vs limit. writes (output_text vs)) input m c.in_ok-known.known m (Some bytes) (Some bytes) (Ok tt)
+    (asked line (λ (k : Known). k.values) (all_elements (fortran90 c.args.width) e s) c.in_whole.result _ (sym c.in_ok-known.was ∙ c.at.ensures) (elements_answered c.args.width e s c.in_whole.result (subst (λ st. Answers array_in (whole_of c.args.width e (store_in st)) c.in_whole.result) c.scope.ensures c.in_whole.ensures)))
     (Runs-writes (output_text c.in_ok-known.known.values) input m (Some bytes) (Some bytes) (Ok tt) (no_output c.in_ok-known.known.values (Some bytes) none)))
 
 pub returns-in_err-write_outputs-clause-run : goal.returns-in_err-write_outputs-clause-run
@@ -82,8 +82,8 @@ returns-in_err-write_outputs-clause-run g c = λ input.
     let s = store_in c.args.moment.now.storage in
     let m = seen c.args.moment.now in
     (rw (residual c.from_residual-in_err-write_outputs.ensures.1)
-    (Runs-answers line (λ (k : Known). k.values) (all_elements fortran90 e) (λ vs limit. writes (output_text vs)) input m c.in_ok-known.known m (g.K.Sink.taken c.args.out.now) (g.K.Sink.taken c.write_outputs.new.out) (Err Unwritten)
-    (asked line (λ (k : Known). k.values) (all_elements fortran90 e s) c.in_whole.result _ (sym c.in_ok-known.was ∙ c.at.ensures) (elements_answered e s c.in_whole.result (subst (λ st. Answers array_in (whole_of e (store_in st)) c.in_whole.result) c.scope.ensures c.in_whole.ensures)))
+    (Runs-answers line (λ (k : Known). k.values) (all_elements (fortran90 c.args.width) e) (λ vs limit. writes (output_text vs)) input m c.in_ok-known.known m (g.K.Sink.taken c.args.out.now) (g.K.Sink.taken c.write_outputs.new.out) (Err Unwritten)
+    (asked line (λ (k : Known). k.values) (all_elements (fortran90 c.args.width) e s) c.in_whole.result _ (sym c.in_ok-known.was ∙ c.at.ensures) (elements_answered c.args.width e s c.in_whole.result (subst (λ st. Answers array_in (whole_of c.args.width e (store_in st)) c.in_whole.result) c.scope.ensures c.in_whole.ensures)))
     (Runs-writes (output_text c.in_ok-known.known.values) input m (g.K.Sink.taken c.args.out.now) (g.K.Sink.taken c.write_outputs.new.out) (Err c.in_err-write_outputs.field-0.0) (subst (λ (xs : List Value). WritesText (g.K.Sink.taken c.args.out.now) (output_text xs) (g.K.Sink.taken c.write_outputs.new.out) (let r : Result (Unit {0}) WriteFault = (Err c.in_err-write_outputs.field-0.0) in r)) c.as_slice-values.ensures c.in_err-write_outputs.ensures.text))))
 
 pub returns-in_err-write_outputs-clause-told : goal.returns-in_err-write_outputs-clause-told
@@ -94,8 +94,8 @@ returns-in_err-write_outputs-clause-told g c = λ input bytes.
     let m = seen c.args.moment.now in
     given (output_text c.in_ok-known.known.values) bytes (λ x. absurd (some_output c.in_ok-known.known.values (values_there c.in_ok-known.known.values c.is_empty.result (c.is_empty.ensures ∙ ap (λ (xs : List Value). length xs == 0) c.as_slice-values.ensures) c.if-is_empty.false) x))
     (rw (residual c.from_residual-in_err-write_outputs.ensures.1)
-    (Runs-answers line (λ (k : Known). k.values) (all_elements fortran90 e) (λ vs limit. writes (output_text vs)) input m c.in_ok-known.known m (Some bytes) (Some (bytes ++ output_text c.in_ok-known.known.values)) (Err Unwritten)
-    (asked line (λ (k : Known). k.values) (all_elements fortran90 e s) c.in_whole.result _ (sym c.in_ok-known.was ∙ c.at.ensures) (elements_answered e s c.in_whole.result (subst (λ st. Answers array_in (whole_of e (store_in st)) c.in_whole.result) c.scope.ensures c.in_whole.ensures)))
+    (Runs-answers line (λ (k : Known). k.values) (all_elements (fortran90 c.args.width) e) (λ vs limit. writes (output_text vs)) input m c.in_ok-known.known m (Some bytes) (Some (bytes ++ output_text c.in_ok-known.known.values)) (Err Unwritten)
+    (asked line (λ (k : Known). k.values) (all_elements (fortran90 c.args.width) e s) c.in_whole.result _ (sym c.in_ok-known.was ∙ c.at.ensures) (elements_answered c.args.width e s c.in_whole.result (subst (λ st. Answers array_in (whole_of c.args.width e (store_in st)) c.in_whole.result) c.scope.ensures c.in_whole.ensures)))
     (Runs-writes (output_text c.in_ok-known.known.values) input m (Some bytes) (Some (bytes ++ output_text c.in_ok-known.known.values)) (Err c.in_err-write_outputs.field-0.0) (taken_whole (output_text c.in_ok-known.known.values) bytes (Err c.in_err-write_outputs.field-0.0)))))
 
 pub returns-clause-run : goal.returns-clause-run
@@ -104,8 +104,8 @@ returns-clause-run g c = λ input.
     let e = expression_of c.args.expr.now in
     let s = store_in c.args.moment.now.storage in
     let m = seen c.args.moment.now in
-    (Runs-answers line (λ (k : Known). k.values) (all_elements fortran90 e) (λ vs limit. writes (output_text vs)) input m c.in_ok-known.known m (g.K.Sink.taken c.args.out.now) (g.K.Sink.taken c.write_outputs.new.out) (Ok tt)
-    (asked line (λ (k : Known). k.values) (all_elements fortran90 e s) c.in_whole.result _ (sym c.in_ok-known.was ∙ c.at.ensures) (elements_answered e s c.in_whole.result (subst (λ st. Answers array_in (whole_of e (store_in st)) c.in_whole.result) c.scope.ensures c.in_whole.ensures)))
+    (Runs-answers line (λ (k : Known). k.values) (all_elements (fortran90 c.args.width) e) (λ vs limit. writes (output_text vs)) input m c.in_ok-known.known m (g.K.Sink.taken c.args.out.now) (g.K.Sink.taken c.write_outputs.new.out) (Ok tt)
+    (asked line (λ (k : Known). k.values) (all_elements (fortran90 c.args.width) e s) c.in_whole.result _ (sym c.in_ok-known.was ∙ c.at.ensures) (elements_answered c.args.width e s c.in_whole.result (subst (λ st. Answers array_in (whole_of c.args.width e (store_in st)) c.in_whole.result) c.scope.ensures c.in_whole.ensures)))
     (Runs-writes (output_text c.in_ok-known.known.values) input m (g.K.Sink.taken c.args.out.now) (g.K.Sink.taken c.write_outputs.new.out) (Ok tt) (subst (λ (xs : List Value). WritesText (g.K.Sink.taken c.args.out.now) (output_text xs) (g.K.Sink.taken c.write_outputs.new.out) (let r : Result (Unit {0}) WriteFault = (Ok tt) in r)) c.as_slice-values.ensures c.in_ok-write_outputs.ensures.text)))
 
 pub returns-clause-told : goal.returns-clause-told
@@ -115,6 +115,6 @@ returns-clause-told g c = λ input bytes.
     let s = store_in c.args.moment.now.storage in
     let m = seen c.args.moment.now in
     given (output_text c.in_ok-known.known.values) bytes (λ x. absurd (some_output c.in_ok-known.known.values (values_there c.in_ok-known.known.values c.is_empty.result (c.is_empty.ensures ∙ ap (λ (xs : List Value). length xs == 0) c.as_slice-values.ensures) c.if-is_empty.false) x))
-    (Runs-answers line (λ (k : Known). k.values) (all_elements fortran90 e) (λ vs limit. writes (output_text vs)) input m c.in_ok-known.known m (Some bytes) (Some (bytes ++ output_text c.in_ok-known.known.values)) (Ok tt)
-    (asked line (λ (k : Known). k.values) (all_elements fortran90 e s) c.in_whole.result _ (sym c.in_ok-known.was ∙ c.at.ensures) (elements_answered e s c.in_whole.result (subst (λ st. Answers array_in (whole_of e (store_in st)) c.in_whole.result) c.scope.ensures c.in_whole.ensures)))
+    (Runs-answers line (λ (k : Known). k.values) (all_elements (fortran90 c.args.width) e) (λ vs limit. writes (output_text vs)) input m c.in_ok-known.known m (Some bytes) (Some (bytes ++ output_text c.in_ok-known.known.values)) (Ok tt)
+    (asked line (λ (k : Known). k.values) (all_elements (fortran90 c.args.width) e s) c.in_whole.result _ (sym c.in_ok-known.was ∙ c.at.ensures) (elements_answered c.args.width e s c.in_whole.result (subst (λ st. Answers array_in (whole_of c.args.width e (store_in st)) c.in_whole.result) c.scope.ensures c.in_whole.ensures)))
     (Runs-writes (output_text c.in_ok-known.known.values) input m (Some bytes) (Some (bytes ++ output_text c.in_ok-known.known.values)) (Ok tt) (taken_whole (output_text c.in_ok-known.known.values) bytes (Ok tt))))

@@ -11,20 +11,20 @@ use Rattle.array_expressions.proofs.transfers.printing.print_statement.Goals as 
 pub returns-in_err-count_step-clause-run : goal.returns-in_err-count_step-clause-run
 returns-in_err-count_step-clause-run g c = λ input.
     rw (residual c.from_residual.ensures.1)
-    (Runs-cut fortran90 (λ limit. prints fortran90 limit c.args.line (plain_items c.args.items.now)) input (seen c.args.moment.now) (seen c.count_step.new.self) (g.K.Sink.taken c.args.out.now) c.in_err-count_step.field-0.0 c.in_err-count_step.ensures.counted)
+    (Runs-cut (fortran90 c.args.width) (λ limit. prints (fortran90 c.args.width) limit c.args.line (plain_items c.args.items.now)) input (seen c.args.moment.now) (seen c.count_step.new.self) (g.K.Sink.taken c.args.out.now) c.in_err-count_step.field-0.0 c.in_err-count_step.ensures.counted)
 
 pub returns-clause-run : goal.returns-clause-run
 returns-clause-run g c = λ input.
-    Runs-counts_step fortran90 (λ limit. prints fortran90 limit c.args.line (plain_items c.args.items.now)) input (seen c.args.moment.now) (seen c.count_step.new.self) (seen c.print.new.moment) (g.K.Sink.taken c.args.out.now) (g.K.Sink.taken c.print.new.out) (ended_by c.print.result) c.in_ok-count_step.ensures.counted (c.print.ensures.run input)
+    Runs-counts_step (fortran90 c.args.width) (λ limit. prints (fortran90 c.args.width) limit c.args.line (plain_items c.args.items.now)) input (seen c.args.moment.now) (seen c.count_step.new.self) (seen c.print.new.moment) (g.K.Sink.taken c.args.out.now) (g.K.Sink.taken c.print.new.out) (ended_by c.print.result) c.in_ok-count_step.ensures.counted (c.print.ensures.run input)
 
 pub returns-in_err-count_step-clause-told : goal.returns-in_err-count_step-clause-told
 returns-in_err-count_step-clause-told g c = λ input bytes.
     still _ bytes
     (rw (residual c.from_residual.ensures.1)
-    (Runs-cut fortran90 (λ limit. prints fortran90 limit c.args.line (plain_items c.args.items.now)) input (seen c.args.moment.now) (seen c.count_step.new.self) (Some bytes) c.in_err-count_step.field-0.0 c.in_err-count_step.ensures.counted))
+    (Runs-cut (fortran90 c.args.width) (λ limit. prints (fortran90 c.args.width) limit c.args.line (plain_items c.args.items.now)) input (seen c.args.moment.now) (seen c.count_step.new.self) (Some bytes) c.in_err-count_step.field-0.0 c.in_err-count_step.ensures.counted))
 
 pub returns-clause-told : goal.returns-clause-told
 returns-clause-told g c = λ input bytes.
     let k = c.print.ensures.told input bytes in
     kept k
-    (Runs-counts_step fortran90 (λ limit. prints fortran90 limit c.args.line (plain_items c.args.items.now)) input (seen c.args.moment.now) (seen c.count_step.new.self) (seen c.print.new.moment) (Some bytes) (Some k.after) (ended_by c.print.result) c.in_ok-count_step.ensures.counted k.does)
+    (Runs-counts_step (fortran90 c.args.width) (λ limit. prints (fortran90 c.args.width) limit c.args.line (plain_items c.args.items.now)) input (seen c.args.moment.now) (seen c.count_step.new.self) (seen c.print.new.moment) (Some bytes) (Some k.after) (ended_by c.print.result) c.in_ok-count_step.ensures.counted k.does)

@@ -17,16 +17,16 @@ use Rattle.array_expressions.proofs.transfers.reading.read.Goals as goal
 pub returns-in_err-begin_line : goal.returns-in_err-begin_line
 returns-in_err-begin_line c = λ bytes.
     rw (residual c.from_residual.ensures.1)
-    (Runs-halted (λ limit. begins_line c.args.line) (λ limit. then (reads_items fortran90 limit (plain_items c.args.items.now) c.args.line) skips_line) c.args.input.now (seen c.args.moment.now) (seen_at (map declaration_of c.args.moment.now.decls) (store_in c.args.moment.now.storage) c.begin_line.new.self) bytes bytes c.in_err-begin_line.field-0.0 (c.in_err-begin_line.ensures (map declaration_of c.args.moment.now.decls) (store_in c.args.moment.now.storage) bytes) (Stays-rest fortran90 (plain_items c.args.items.now) c.args.line))
+    (Runs-halted (λ limit. begins_line c.args.line) (λ limit. then (reads_items (fortran90 c.args.width) limit (plain_items c.args.items.now) c.args.line) skips_line) c.args.input.now (seen c.args.moment.now) (seen_at (map declaration_of c.args.moment.now.decls) (store_in c.args.moment.now.storage) c.begin_line.new.self) bytes bytes c.in_err-begin_line.field-0.0 (c.in_err-begin_line.ensures (map declaration_of c.args.moment.now.decls) (store_in c.args.moment.now.storage) bytes) (Stays-rest (fortran90 c.args.width) (plain_items c.args.items.now) c.args.line))
 
 pub returns-in_err-read_items : goal.returns-in_err-read_items
 returns-in_err-read_items c = λ bytes.
     rw (residual c.from_residual-in_err-read_items.ensures.1)
-    (Runs-then (λ limit. begins_line c.args.line) (λ limit. then (reads_items fortran90 limit (plain_items c.args.items.now) c.args.line) skips_line) c.args.input.now (seen c.args.moment.now) (seen_at (map declaration_of c.args.moment.now.decls) (store_in c.args.moment.now.storage) c.begin_line.new.self) bytes bytes (seen c.read_items.new.moment) bytes (Err (left_by c.in_err-read_items.field-0.0)) (c.in_ok-begin_line.ensures (map declaration_of c.args.moment.now.decls) (store_in c.args.moment.now.storage) bytes)
-    (Runs-left (λ limit. reads_items fortran90 limit (plain_items c.args.items.now) c.args.line) (λ limit. skips_line) c.args.input.now (seen_at (map declaration_of c.args.moment.now.decls) (store_in c.args.moment.now.storage) c.begin_line.new.self) (seen c.read_items.new.moment) bytes bytes (left_by c.in_err-read_items.field-0.0) (c.in_err-read_items.ensures bytes) Stays-skips Extends-skips_line))
+    (Runs-then (λ limit. begins_line c.args.line) (λ limit. then (reads_items (fortran90 c.args.width) limit (plain_items c.args.items.now) c.args.line) skips_line) c.args.input.now (seen c.args.moment.now) (seen_at (map declaration_of c.args.moment.now.decls) (store_in c.args.moment.now.storage) c.begin_line.new.self) bytes bytes (seen c.read_items.new.moment) bytes (Err (left_by c.in_err-read_items.field-0.0)) (c.in_ok-begin_line.ensures (map declaration_of c.args.moment.now.decls) (store_in c.args.moment.now.storage) bytes)
+    (Runs-left (λ limit. reads_items (fortran90 c.args.width) limit (plain_items c.args.items.now) c.args.line) (λ limit. skips_line) c.args.input.now (seen_at (map declaration_of c.args.moment.now.decls) (store_in c.args.moment.now.storage) c.begin_line.new.self) (seen c.read_items.new.moment) bytes bytes (left_by c.in_err-read_items.field-0.0) (c.in_err-read_items.ensures bytes) Stays-skips Extends-skips_line))
 
 pub returns : goal.returns
 returns c = λ bytes.
-    Runs-then (λ limit. begins_line c.args.line) (λ limit. then (reads_items fortran90 limit (plain_items c.args.items.now) c.args.line) skips_line) c.args.input.now (seen c.args.moment.now) (seen_at (map declaration_of c.args.moment.now.decls) (store_in c.args.moment.now.storage) c.begin_line.new.self) bytes bytes _ bytes (Ok tt) (c.in_ok-begin_line.ensures (map declaration_of c.args.moment.now.decls) (store_in c.args.moment.now.storage) bytes)
-    (Runs-then (λ limit. reads_items fortran90 limit (plain_items c.args.items.now) c.args.line) (λ limit. skips_line) c.args.input.now (seen_at (map declaration_of c.args.moment.now.decls) (store_in c.args.moment.now.storage) c.begin_line.new.self) (seen c.read_items.new.moment) bytes bytes _ bytes (Ok tt) (c.in_ok-read_items.ensures bytes)
+    Runs-then (λ limit. begins_line c.args.line) (λ limit. then (reads_items (fortran90 c.args.width) limit (plain_items c.args.items.now) c.args.line) skips_line) c.args.input.now (seen c.args.moment.now) (seen_at (map declaration_of c.args.moment.now.decls) (store_in c.args.moment.now.storage) c.begin_line.new.self) bytes bytes _ bytes (Ok tt) (c.in_ok-begin_line.ensures (map declaration_of c.args.moment.now.decls) (store_in c.args.moment.now.storage) bytes)
+    (Runs-then (λ limit. reads_items (fortran90 c.args.width) limit (plain_items c.args.items.now) c.args.line) (λ limit. skips_line) c.args.input.now (seen_at (map declaration_of c.args.moment.now.decls) (store_in c.args.moment.now.storage) c.begin_line.new.self) (seen c.read_items.new.moment) bytes bytes _ bytes (Ok tt) (c.in_ok-read_items.ensures bytes)
     (c.skip_line.ensures (map declaration_of c.read_items.new.moment.decls) (store_in c.read_items.new.moment.storage) bytes))

@@ -28,11 +28,11 @@ returns-in_err-read_into c = λ cs p bytes.
     let slot = c.args.target.now.slot in
     let q = subst (StandAt vs slot cs) (sym c.as_slice-places.ensures) p in
     let d : Cell = record { name = []; subscripts = [] } in
-    let count = stand_count vs slot cs c.as_slice-places.result.now q in
+    let count = stand_count c.args.width vs slot cs c.as_slice-places.result.now q in
     rw (residual c.from_residual.ensures.1)
     (c.loop-k.invariant.1 cs p bytes (seen c.read_into.new.moment) (Err (Halted c.in_err-read_into.field-0.0))
-    (cells_left fortran90 c.args.line cs c.loop-k.k d (omega (arith, count, c.loop-k-test.true)) c.args.input.now (seen c.loop-k.moment) (seen c.read_into.new.moment) bytes c.in_err-read_into.field-0.0
-    (read_element vs slot c.args.input.now c.args.line cs c.as_slice-places.result.now c.loop-k.k d 0 q c.loop-k-test.true c.loop-k.moment c.read_into.new.moment c.loop-k.invariant.0 (Err c.in_err-read_into.field-0.0) c.in_err-read_into.ensures.read bytes)))
+    (cells_left (fortran90 c.args.width) c.args.line cs c.loop-k.k d (omega (arith, count, c.loop-k-test.true)) c.args.input.now (seen c.loop-k.moment) (seen c.read_into.new.moment) bytes c.in_err-read_into.field-0.0
+    (read_element c.args.width vs slot c.args.input.now c.args.line cs c.as_slice-places.result.now c.loop-k.k d 0 q c.loop-k-test.true c.loop-k.moment c.read_into.new.moment c.loop-k.invariant.0 (Err c.in_err-read_into.field-0.0) c.in_err-read_into.ensures.read bytes)))
 
 pub loop-k-preserved : goal.loop-k-preserved
 loop-k-preserved c = (
@@ -42,15 +42,15 @@ loop-k-preserved c = (
       let slot = c.args.target.now.slot in
       let q = subst (StandAt vs slot cs) (sym c.as_slice-places.ensures) p in
       let d : Cell = record { name = []; subscripts = [] } in
-      let count = stand_count vs slot cs c.as_slice-places.result.now q in
+      let count = stand_count c.args.width vs slot cs c.as_slice-places.result.now q in
       c.loop-k.invariant.1 cs p bytes last r
-      (cells_more fortran90 c.args.line cs c.loop-k.k d (omega (arith, count, c.loop-k-test.true)) c.args.input.now (seen c.loop-k.moment) (seen c.read_into.new.moment) bytes last r
-      (read_element vs slot c.args.input.now c.args.line cs c.as_slice-places.result.now c.loop-k.k d 0 q c.loop-k-test.true c.loop-k.moment c.read_into.new.moment c.loop-k.invariant.0 (Ok tt) c.in_ok-read_into.ensures.read bytes) h),
+      (cells_more (fortran90 c.args.width) c.args.line cs c.loop-k.k d (omega (arith, count, c.loop-k-test.true)) c.args.input.now (seen c.loop-k.moment) (seen c.read_into.new.moment) bytes last r
+      (read_element c.args.width vs slot c.args.input.now c.args.line cs c.as_slice-places.result.now c.loop-k.k d 0 q c.loop-k-test.true c.loop-k.moment c.read_into.new.moment c.loop-k.invariant.0 (Ok tt) c.in_ok-read_into.ensures.read bytes) h),
 )
 
 pub returns : goal.returns
 returns c = λ cs p bytes.
     let vs = slots_of c.args.moment.now in
-    let count = stand_count vs c.args.target.now.slot cs c.args.target.now.selected.places p in
+    let count = stand_count c.args.width vs c.args.target.now.slot cs c.args.target.now.selected.places p in
     c.loop-k.invariant.1 cs p bytes (seen c.loop-k.moment) (Ok tt)
-    (cells_done fortran90 c.args.line cs c.loop-k.k c.args.input.now (seen c.loop-k.moment) bytes (omega (arith, count, ap length c.as_slice-places.ensures, c.loop-k-test.false)))
+    (cells_done (fortran90 c.args.width) c.args.line cs c.loop-k.k c.args.input.now (seen c.loop-k.moment) bytes (omega (arith, count, ap length c.as_slice-places.ensures, c.loop-k-test.false)))

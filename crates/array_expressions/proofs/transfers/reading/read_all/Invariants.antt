@@ -15,5 +15,5 @@ abbrev pub invariant-loop-k : goal.invariant-loop-k
 invariant-loop-k l =
     SamePlaces (slots_of l.fn.moment) (slots_of l.moment)
     × ((cs : List Cell) → StandAt (slots_of l.fn.moment) l.fn.target.slot cs l.fn.target.selected.places → (bytes : Option (List ℕ)) (last : Seen) (r : Result (Unit {0}) Left)
-    → Runs (left_of_cells fortran90 l.line (drop l.k cs)) l.input (seen l.moment) bytes last bytes r
-    → Runs (left_of_cells fortran90 l.line cs) l.input (seen l.fn.moment) bytes last bytes r)
+    → Runs (left_of_cells (fortran90 l.width) l.line (drop l.k cs)) l.input (seen l.moment) bytes last bytes r
+    → Runs (left_of_cells (fortran90 l.width) l.line cs) l.input (seen l.fn.moment) bytes last bytes r)

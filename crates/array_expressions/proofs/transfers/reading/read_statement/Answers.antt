@@ -10,7 +10,7 @@ use Rattle.array_expressions.proofs.transfers.reading.read_statement.Goals as go
 pub returns-in_err-count_step : goal.returns-in_err-count_step
 returns-in_err-count_step c = λ bytes.
     rw (residual c.from_residual.ensures.1)
-    (Runs-cut fortran90 (λ limit. reads fortran90 limit c.args.line (plain_items c.args.items.now)) c.args.input.now (seen c.args.moment.now) (seen c.count_step.new.self) bytes c.in_err-count_step.field-0.0 c.in_err-count_step.ensures.counted)
+    (Runs-cut (fortran90 c.args.width) (λ limit. reads (fortran90 c.args.width) limit c.args.line (plain_items c.args.items.now)) c.args.input.now (seen c.args.moment.now) (seen c.count_step.new.self) bytes c.in_err-count_step.field-0.0 c.in_err-count_step.ensures.counted)
 
 pub returns : goal.returns
-returns c = λ bytes. Runs-counts_step fortran90 (λ limit. reads fortran90 limit c.args.line (plain_items c.args.items.now)) c.args.input.now (seen c.args.moment.now) (seen c.count_step.new.self) (seen c.read.new.moment) bytes bytes (outcome c.read.result) c.in_ok-count_step.ensures.counted (c.read.ensures bytes)
+returns c = λ bytes. Runs-counts_step (fortran90 c.args.width) (λ limit. reads (fortran90 c.args.width) limit c.args.line (plain_items c.args.items.now)) c.args.input.now (seen c.args.moment.now) (seen c.count_step.new.self) (seen c.read.new.moment) bytes bytes (outcome c.read.result) c.in_ok-count_step.ensures.counted (c.read.ensures bytes)

@@ -1,6 +1,6 @@
 use Rattle.std.proofs.Common.{◌≡◌, ◌++◌, ◌∷◌, [], List, ℕ, length, set, ap, arith, ◌∙◌}
 use Rattle.std.proofs.lemmas.List.{get_or_read}
-use Rattle.components.specs.declared.walk.Mark.TheVariants.{At}
+use Rattle.components.specs.declared.walk.NodeState.TheVariants.{At}
 use Rattle.components.specs.Targets.{row}
 use Rattle.components.proofs.Parts.{entered}
 use Rattle.components.proofs.walk.Walk.enter.Goals as goal

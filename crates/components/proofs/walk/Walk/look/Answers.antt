@@ -1,6 +1,6 @@
 use Rattle.std.proofs.Common.{◌≡◌, ◌<◌, ◌∙◌, length, subst, sym}
 use Rattle.std.proofs.lemmas.List.{get_or_read}
-use Rattle.components.specs.declared.walk.Mark.TheVariants.{New, At, Done}
+use Rattle.components.specs.declared.walk.NodeState.TheVariants.{New, At, Done}
 use Rattle.components.specs.Walking.{mark}
 use Rattle.components.proofs.Parts.{joined, passed}
 use Rattle.components.proofs.walk.Walk.look.Goals as goal

@@ -1,6 +1,6 @@
 use Rattle.std.proofs.Common.{◌≡◌, ◌<◌, ℕ, List, length, sym, subst}
 use Rattle.std.specs.Prelude.{All}
-use Rattle.components.specs.Emission.{statements_of}
+use Rattle.components.specs.Emission.{statements_of_classes}
 use Rattle.components.specs.Reachability.{AreBelow}
 use Rattle.emission.specs.emission_pieces.Levels.{AreComponents}
 use Rattle.emission.proofs.nest_emission.BlockLaws.{weaker}
@@ -21,7 +21,7 @@ statements_of-requires c =
 
 pub returns : goal.returns
 returns c =
-    weaker (λ (classes : List (List ℕ)). classes ≡ statements_of c.args.part.now c.as_slice-2.result.now) (AreComponents c.args.edges.now c.args.level c.args.part.now)
+    weaker (λ (classes : List (List ℕ)). classes ≡ statements_of_classes c.args.part.now c.as_slice-2.result.now) (AreComponents c.args.edges.now c.args.level c.args.part.now)
     (λ classes e. components_are c.args.edges.now c.args.level c.args.part.now c.in_ok-pairs.pairs.items c.as_slice.result.now c.in_ok-order.order.members c.as_slice-2.result.now classes
     c.in_ok-pairs.ensures c.as_slice.ensures.value c.in_ok-order.ensures.classes c.as_slice-2.ensures e)
     c.statements_of.result c.statements_of.ensures

@@ -3,7 +3,7 @@ use Rattle.std.proofs.Common.{◌≡◌, ◌⊎◌, inl, inr, List, [], refl, Co
 use Rattle.tree.specs.Plain.{Program}
 use Rattle.tree.specs.declared.refusals.Refusal.{Refusal}
 use Rattle.meaning.specs.Dialect.{Dialect}
-use Rattle.f77_grammar.specs.Answered.{IsAnswered}
+use Rattle.reading.specs.refusal_order.Answered.{IsAnswered}
 use Rattle.f77_grammar.specs.Statement77.{Labelled}
 use Rattle.f77_grammar.specs.program.Program77.{ReadsStatements, RefusedStatements, findings}
 use Rattle.f77_laws.specs.trees.Steps.{tree_of}

@@ -1,5 +1,5 @@
 use Rattle.std.proofs.Common.{◌≡◌}
-use Rattle.f77_grammar.specs.program.Limits.{all_elements, has_many_elements}
+use Rattle.f77_grammar.specs.program.Limits.{declared_elements, has_many_elements}
 use Rattle.f77_grammar.specs.syntax.Views.{text_of}
 use Rattle.f77_grammar.specs.syntax.Walk.{passed, IsSearched}
 use Rattle.f77_names.specs.constants.Constants.{store_of}
@@ -9,6 +9,6 @@ use Rattle.f77_names.proofs.constants.checks.many_elements.Given as goal
 
 abbrev pub invariant-loop-i : goal.invariant-loop-i
 invariant-loop-i l = record {
-  searched : IsSearched (has_many_elements fortran77 (store_of l.constants)) (text_of l.text) l.i;
-  count : l.count ≡ capped (all_elements fortran77 (store_of l.constants) (passed (text_of l.text) l.i));
+  searched : IsSearched (has_many_elements (fortran77 l.constants.width) (store_of l.constants)) (text_of l.text) l.i;
+  count : l.count ≡ capped (declared_elements (fortran77 l.constants.width) (store_of l.constants) (passed (text_of l.text) l.i));
 }

@@ -11,18 +11,18 @@ use Rattle.f77_names.proofs.constants.checks.reversed_bounds.Goals as goal
 
 pub returns-then-branch : goal.returns-then-branch
 returns-then-branch c = λ s h.
-    search_stops_at (has_reversed_bounds fortran77 (store_of c.args.constants.now)) c.args.text.now c.loop-i.i c.index-text-i.result (omega arith) c.index-text-i.is
-    (sym (c.in_ok-any_reversed.ensures ∙ ap (λ es. list_any (has_reversed (store_of c.args.constants.now)) (bounds_in es)) c.entities.ensures) ∙ c.if-branch.true)
+    search_stops_at (has_reversed_bounds (fortran77 c.args.constants.now.width) (store_of c.args.constants.now)) c.args.text.now c.loop-i.i c.index-text-i.result (omega arith) c.index-text-i.is
+    (sym (c.in_ok-any_reversed.ensures ∙ ap (λ es. list_any (has_reversed c.args.constants.now.width (store_of c.args.constants.now)) (bounds_in es)) c.entities.ensures) ∙ c.if-branch.true)
     c.loop-i.invariant
-    ∙ ap (λ t. first_index (has_reversed_bounds fortran77 t) (text_of c.args.text.now)) (sym h.same)
+    ∙ ap (λ t. first_index (has_reversed_bounds (fortran77 c.args.constants.now.width) t) (text_of c.args.text.now)) (sym h.same)
 
 pub loop-i-preserved : goal.loop-i-preserved
 loop-i-preserved c =
-    search_goes_on (has_reversed_bounds fortran77 (store_of c.args.constants.now)) c.args.text.now c.loop-i.i c.index-text-i.result (omega arith) c.index-text-i.is
-    (sym (c.in_ok-any_reversed.ensures ∙ ap (λ es. list_any (has_reversed (store_of c.args.constants.now)) (bounds_in es)) c.entities.ensures) ∙ c.if-branch.false)
+    search_goes_on (has_reversed_bounds (fortran77 c.args.constants.now.width) (store_of c.args.constants.now)) c.args.text.now c.loop-i.i c.index-text-i.result (omega arith) c.index-text-i.is
+    (sym (c.in_ok-any_reversed.ensures ∙ ap (λ es. list_any (has_reversed c.args.constants.now.width (store_of c.args.constants.now)) (bounds_in es)) c.entities.ensures) ∙ c.if-branch.false)
     c.loop-i.invariant
 
 pub returns : goal.returns
 returns c = λ s h.
-    search_ends (has_reversed_bounds fortran77 (store_of c.args.constants.now)) c.args.text.now c.loop-i.i (omega arith) c.loop-i.invariant
-    ∙ ap (λ t. first_index (has_reversed_bounds fortran77 t) (text_of c.args.text.now)) (sym h.same)
+    search_ends (has_reversed_bounds (fortran77 c.args.constants.now.width) (store_of c.args.constants.now)) c.args.text.now c.loop-i.i (omega arith) c.loop-i.invariant
+    ∙ ap (λ t. first_index (has_reversed_bounds (fortran77 c.args.constants.now.width) t) (text_of c.args.text.now)) (sym h.same)

@@ -6,4 +6,4 @@ use Rattle.meaning.specs.Dialect.{fortran77}
 use Rattle.f77_names.proofs.constants.checks.reversed_bounds.Given as goal
 
 abbrev pub invariant-loop-i : goal.invariant-loop-i
-invariant-loop-i l = IsSearched (has_reversed_bounds fortran77 (store_of l.constants)) (text_of l.text) l.i
+invariant-loop-i l = IsSearched (has_reversed_bounds (fortran77 l.constants.width) (store_of l.constants)) (text_of l.text) l.i

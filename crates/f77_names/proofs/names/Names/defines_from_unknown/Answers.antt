@@ -15,7 +15,7 @@ returns-then-has_unknown c defined h =
     sym (unknown_ahead c.args.self.now c.loop-constant.own defined (defined_after c.args.constants.now c.loop-constant.constant-index defined) c.args.constants.now c.loop-constant.constant-index c.constant-item.result
     (omega arith) c.constant-item.is (c.loop-constant.invariant.own defined h) (c.loop-constant.invariant.left defined h)
     ∙ ap (λ us. list_any (is_unknown_use c.args.self.now c.loop-constant.own) us || defines_from_unknown (c.constant-item.result.0 ∷ defined_after c.args.constants.now c.loop-constant.constant-index defined) (map constant_of (drop (c.loop-constant.constant-index + 1) c.args.constants.now)))
-    (sym (ap (map plain_use) c.as_slice.ensures ∙ c.in_ok-add_expr.ensures ∙ ap (λ us. us ++ plain.uses_in (expression_of c.constant-item.result.1)) c.new-value.ensures))
+    (sym (ap (map plain_use) c.as_slice.ensures ∙ c.in_ok-add_expr.ensures ∙ ap (λ us. us ++ plain.uses77_in (expression_of c.constant-item.result.1)) c.new-value.ensures))
     ∙ ap (λ b. b || defines_from_unknown (c.constant-item.result.0 ∷ defined_after c.args.constants.now c.loop-constant.constant-index defined) (map constant_of (drop (c.loop-constant.constant-index + 1) c.args.constants.now)))
     (sym c.has_unknown.ensures ∙ c.if-has_unknown.true))
 
@@ -28,7 +28,7 @@ loop-constant-preserved c = record {
       unknown_ahead c.args.self.now c.loop-constant.own defined (defined_after c.args.constants.now c.loop-constant.constant-index defined) c.args.constants.now c.loop-constant.constant-index c.constant-item.result
       (omega arith) c.constant-item.is (c.loop-constant.invariant.own defined h) (c.loop-constant.invariant.left defined h)
       ∙ ap (λ us. list_any (is_unknown_use c.args.self.now c.loop-constant.own) us || defines_from_unknown (c.constant-item.result.0 ∷ defined_after c.args.constants.now c.loop-constant.constant-index defined) (map constant_of (drop (c.loop-constant.constant-index + 1) c.args.constants.now)))
-      (sym (ap (map plain_use) c.as_slice.ensures ∙ c.in_ok-add_expr.ensures ∙ ap (λ us. us ++ plain.uses_in (expression_of c.constant-item.result.1)) c.new-value.ensures))
+      (sym (ap (map plain_use) c.as_slice.ensures ∙ c.in_ok-add_expr.ensures ∙ ap (λ us. us ++ plain.uses77_in (expression_of c.constant-item.result.1)) c.new-value.ensures))
       ∙ ap (λ b. b || defines_from_unknown (c.constant-item.result.0 ∷ defined_after c.args.constants.now c.loop-constant.constant-index defined) (map constant_of (drop (c.loop-constant.constant-index + 1) c.args.constants.now)))
       (sym c.has_unknown.ensures ∙ c.if-has_unknown.false)
       ∙ ap (λ names. defines_from_unknown names (map constant_of (drop (c.loop-constant.constant-index + 1) c.args.constants.now)))

@@ -39,7 +39,7 @@ returns c =
           (title_here c.args.self.now c.args.names.now us seen (statement_of c.args.statement.now) c.as_slice-uses.result.now k h (ap (map plain_use) c.as_slice-uses.ensures ∙ c.in_ok-here.ensures) ∙ sym c.bear_title.ensures ∙ c.if-bear_title.false)
           (sym (c.in_ok-has_unknown_constant.ensures (plain.names_that plain.is_defined seen) (seen_defined c.args.self.now seen k)) ∙ c.if-branch.false)
           (misused_here c.args.names.now us (statement_of c.args.statement.now) c.as_slice-uses.result.now h (ap (map plain_use) c.as_slice-uses.ensures ∙ c.in_ok-here.ensures) ∙ sym c.has_misused_name.ensures ∙ c.if-has_misused_name.false),
-      λ e. seen_same c.declares_again.new.self (map plain_use c.as_slice-uses.result.now ++ seen) (plain.uses_of (statement_of c.args.statement.now) ++ seen)
+      λ e. seen_same c.declares_again.new.self (map plain_use c.as_slice-uses.result.now ++ seen) (plain.uses77_of (statement_of c.args.statement.now) ++ seen)
           (ap (λ vs. vs ++ seen) (ap (map plain_use) c.as_slice-uses.ensures ∙ c.in_ok-here.ensures)) ((declares seen k).1 e),
     ))
     c.declares_again.ensures

@@ -9,4 +9,4 @@ abbrev pub invariant-add_exprs-loop-expr : goal.invariant-add_exprs-loop-expr
 invariant-add_exprs-loop-expr l = listed l.self ≡ listed l.initial.self ++ plain.uses_in_arguments (expressions (map expression_of (take l.expr-index l.expr-items)))
 
 abbrev pub invariant-add_subs-loop-sub : goal.invariant-add_subs-loop-sub
-invariant-add_subs-loop-sub l = listed l.self ≡ listed l.initial.self ++ plain.uses_in_subscripts (subscripts (map subscript_of (take l.sub-index l.sub-items)))
+invariant-add_subs-loop-sub l = listed l.self ≡ listed l.initial.self ++ plain.uses77_in_subscripts (subscripts (map subscript_of (take l.sub-index l.sub-items)))

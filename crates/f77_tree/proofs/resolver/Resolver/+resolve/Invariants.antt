@@ -3,6 +3,7 @@ use Rattle.tree.specs.View.{expression_of, subscript_of}
 use Rattle.f77_grammar.specs.program.Tree as tree
 use Rattle.f77_tree.specs.Parts.{known_uses, known_store}
 use Rattle.f77_tree.proofs.resolver.Resolver.+resolve.Given as goal
+use Rattle.reading.specs.Signs as signs
 
 abbrev pub invariant-resolve_all-loop-expr : goal.invariant-resolve_all-loop-expr
 invariant-resolve_all-loop-expr l =
@@ -10,7 +11,7 @@ invariant-resolve_all-loop-expr l =
 
 abbrev pub invariant-arguments-loop-sub : goal.invariant-arguments-loop-sub
 invariant-arguments-loop-sub l =
-    map expression_of l.arguments ≡ map (λ p. tree.argument_of (tree.resolved_subscript (known_uses l.self) (known_store l.self) (subscript_of p))) (take l.sub-index l.sub-items)
+    map expression_of l.arguments ≡ map (λ p. signs.argument_of (tree.resolved_subscript (known_uses l.self) (known_store l.self) (subscript_of p))) (take l.sub-index l.sub-items)
 
 abbrev pub invariant-resolve_subs-loop-sub : goal.invariant-resolve_subs-loop-sub
 invariant-resolve_subs-loop-sub l =

@@ -1,6 +1,6 @@
 use Rattle.std.proofs.Common.{◌≡◌, ℕ, ◌-◌, nat_lt, false, length, sym, subst, arith}
 use Rattle.std.proofs.lemmas.Bool.Decides.{nat_tests}
-use Rattle.f90_grammar.specs.Forms.{Form}
+use Rattle.f90_grammar.specs.Forms.{Form90}
 use Rattle.f90_blocks.specs.declared.places.forms.placing.Placed.{Placed as Made}
 use Rattle.f90_statement.specs.Views.{IsStatementOf}
 use Rattle.f90_blocks.specs.structure.Ends.{AreFree}
@@ -10,7 +10,7 @@ use Rattle.f90_blocks.proofs.structure.ends.first_open.Goals as goal
 none_below : (n : ℕ) → false ≡ nat_lt n 0
 none_below n = grind (arith, nat_tests)
 
-statement_at : {x y : Made} (f : Form) → x ≡ y → IsStatementOf x.statement f → IsStatementOf y.statement f
+statement_at : {x y : Made} (f : Form90) → x ≡ y → IsStatementOf x.statement f → IsStatementOf y.statement f
 statement_at f e h = subst (λ (z : Made). IsStatementOf z.statement f) e h
 
 pub loop-i-init : goal.loop-i-init

@@ -1,6 +1,6 @@
 use Rattle.std.proofs.Common.{List}
 use Rattle.f90_grammar.specs.Blocks.{Placed}
-use Rattle.f90_grammar.specs.Order.{Place, is_late}
+use Rattle.f90_grammar.specs.Order.{Place90, is_late90}
 use Rattle.f90_blocks.specs.places.forms.Places.{IsPlacedOf}
 use Rattle.f90_statement.specs.Views.{AreOf}
 use Rattle.f90_blocks.specs.structure.Order.{IsPassed}
@@ -10,4 +10,4 @@ use Rattle.f90_blocks.proofs.structure.order.first_late.Given as goal
 abbrev pub invariant-loop-i : goal.invariant-loop-i
 invariant-loop-i l =
     (ps : List Placed) → AreOf IsPlacedOf l.text ps
-    → IsWalked (λ (p : Place). is_late p.here.form p.before) (IsPassed l.passed) ps l.i
+    → IsWalked (λ (p : Place90). is_late90 p.here.form p.before) (IsPassed l.passed) ps l.i

@@ -1,5 +1,5 @@
 use Rattle.std.proofs.Common.{length}
-use Rattle.f90_grammar.specs.Words.{is_digit}
+use Rattle.reading.specs.Characters.{is_digit}
 use Rattle.f90_expressions.specs.words.Symbols.{symbols_of}
 use Rattle.f90_expressions.proofs.OfWords.RunLaws.{IsReadTo}
 use Rattle.f90_expressions.proofs.words.lexer.digits.Given as goal

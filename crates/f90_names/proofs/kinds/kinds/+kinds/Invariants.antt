@@ -1,7 +1,7 @@
 -- What is still to come goes on from what was found so far.
 use Rattle.std.proofs.Common.{◌≡◌, ◌≤◌, map, drop, None}
 use Rattle.tree.specs.Plain.{subscripts, expressions}
-use Rattle.tree.specs.View.{expression_of, subscript_of, loop_of, loops}
+use Rattle.tree.specs.View.{expression_of, subscript_of, loop_of, constructor_loops}
 use Rattle.f90_names.specs.kinds.declarations.Names.{found}
 use Rattle.f90_names.specs.kinds.Found.{common_rank, common_kind, are_scalars, are_loops, rank_of_all}
 use Rattle.f90_names.proofs.kinds.kinds.+kinds.Given as goal
@@ -23,8 +23,8 @@ invariant-are_scalars-loop-expr l =
 
 abbrev pub invariant-are_loops-loop-turn : goal.invariant-are_loops-loop-turn
 invariant-are_loops-loop-turn l =
-    are_loops (found l.names) (loops (map loop_of l.turn-items)) ≡ are_loops (found l.names)
-    (loops (map loop_of (drop l.turn-index l.turn-items)))
+    are_loops (found l.names) (constructor_loops (map loop_of l.turn-items)) ≡ are_loops (found l.names)
+    (constructor_loops (map loop_of (drop l.turn-index l.turn-items)))
 
 abbrev pub invariant-rank_of_all-loop-sub : goal.invariant-rank_of_all-loop-sub
 invariant-rank_of_all-loop-sub l = record {

@@ -1,6 +1,6 @@
 use Rattle.std.proofs.Common.{◌≡◌, map, drop}
 use Rattle.tree.specs.Plain.{subscripts, expressions}
-use Rattle.tree.specs.View.{expression_of, subscript_of, loop_of, loops}
+use Rattle.tree.specs.View.{expression_of, subscript_of, loop_of, constructor_loops}
 use Rattle.f90_names.specs.kinds.declarations.Names.{found}
 use Rattle.f90_names.specs.kinds.FoundNames as plain
 use Rattle.f90_names.proofs.kinds.known.+names.Given as goal
@@ -12,8 +12,8 @@ invariant-knows_all-loop-expr l =
 
 abbrev pub invariant-knows_loops-loop-turn : goal.invariant-knows_loops-loop-turn
 invariant-knows_loops-loop-turn l =
-    plain.knows_loops (found l.names) (loops (map loop_of l.turn-items)) ≡ plain.knows_loops (found l.names)
-    (loops (map loop_of (drop l.turn-index l.turn-items)))
+    plain.knows_loops (found l.names) (constructor_loops (map loop_of l.turn-items)) ≡ plain.knows_loops (found l.names)
+    (constructor_loops (map loop_of (drop l.turn-index l.turn-items)))
 
 abbrev pub invariant-knows_subs-loop-sub : goal.invariant-knows_subs-loop-sub
 invariant-knows_subs-loop-sub l =

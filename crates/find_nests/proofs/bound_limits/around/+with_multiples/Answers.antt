@@ -1,6 +1,6 @@
 use Rattle.std.proofs.Common.{◌≡◌, ◌∙◌, ◌+◌, ◌-◌, ◌*◌, ◌≤◌, ◌<◌, ◌^◌, ap, sym, subst, rules, arith, ℤ, pos, nat_abs, Bool, true, false, not, Some, List, [], ◌∷◌, ◌++◌, map, filter, length, SFits, to_z, of_z, option_map, IfSome}
 use Rattle.linear_forms.specs.Linear.{sum, multiple}
-use Rattle.find_nests.specs.bound_limits.Composed.{is_among}
+use Rattle.find_nests.specs.bound_limits.Composed.{is_loop_among}
 use Rattle.find_nests.specs.bound_limits.View.{wide_form_of, outer_of, IsSized}
 use Rattle.find_nests.proofs.BoundLimits.AroundLaws.{with_one}
 use Rattle.find_nests.proofs.BoundLimits.SizeLaws.{sized_one_more, small_first, small_rest}
@@ -34,6 +34,6 @@ returns-clause-value t c =
     let more : wide_form_of c.in_ok-more.more ≡ sum (wide_form_of c.args.sum) (multiple c.widened.result (wide_form_of outer.form)) = search rules in
     let added : wide_form_of c.in_ok-more.more ≡ sum (wide_form_of c.args.sum) (multiple first (wide_form_of outer.form)) =
     more ∙ ap (λ k. sum (wide_form_of c.args.sum) (multiple k (wide_form_of outer.form))) number in
-    let stands : is_among c.args.names.now (outer_of outer) ≡ true = search rules in
+    let stands : is_loop_among c.args.names.now (outer_of outer) ≡ true = search rules in
     with_one c.args.names.now (wide_form_of c.args.sum) (wide_form_of c.in_ok-more.more) (wide_form_of c.in_ok-whole.whole) c.args.times.now rest first
     (outer_of outer) (map outer_of inner) (map outer_of c.args.around.now) outers stands times added c.in_ok-whole.ensures.value

@@ -4,7 +4,7 @@ use Rattle.tree.specs.View.{expression_of, declaration_of, statement_of, block_o
 use Rattle.tree.specs.declared.stmts.Stmt.TheVariants as stmts
 use Rattle.nest_reasons.specs.Symbols.{symbols_of}
 use Rattle.nest.specs.Plain.{Nest}
-use Rattle.find_nests.specs.nest_parts.Numbers.{next}
+use Rattle.find_nests.specs.nest_parts.Numbers.{next_loop_number}
 use Rattle.find_nests.specs.Reasons.{reason_over}
 use Rattle.find_nests.specs.Loops.{Numbered}
 use Rattle.find_nests.specs.Found.{InNest, Kept, found_among, nest_of_loop}
@@ -46,7 +46,7 @@ stmt-returns-in_default-clause-found t c =
     let none : None ≡ reason_over symbols (statement_of do') =
     sym c.in_default.is ∙ c.in_ok-reason-in-Do.ensures ∙ ap (λ s. reason_over s (statement_of c.args.stmt.now)) c.in_ok-symbols-in-Do.ensures ∙ ap (λ s. reason_over symbols (statement_of s)) c.in-Do.is in
     let l : Numbered = record { before = k; loop = record { line = c.in-Do.line; variable = c.in-Do.var; first = expression_of c.in-Do.first; last = expression_of c.in-Do.last; step = expression_of c.in-Do.step; body = block_of c.in-Do.body } } in
-    let q : Nest = nest_of_loop p (next m) l in
+    let q : Nest = nest_of_loop p (next_loop_number m) l in
     let pushed : c.push.new.self ≡ c.nest.new.self.found ++ found.Nest c.in_ok-nest-in-Do.nest ∷ [] = search rules in
     let more : map found_of c.push.new.self ≡ old ++ InNest q ∷ [] =
     one_nest c.nest.new.self.found c.push.new.self c.in_ok-nest-in-Do.nest q c.in_ok-nest-in-Do.ensures.nest pushed ∙ ap (λ fs. map found_of fs ++ InNest q ∷ []) c.in_ok-nest-in-Do.ensures.found in
@@ -80,7 +80,7 @@ stmt-returns-in_ok-block-in-Do-clause-found t c =
     sym c.in-Some.is ∙ c.in_ok-reason-in-Do.ensures ∙ ap (λ s. reason_over s (statement_of c.args.stmt.now)) c.in_ok-symbols-in-Do.ensures ∙ ap (λ s. reason_over symbols (statement_of s)) c.in-Do.is in
     let pushed : c.push-in-Do.new.self ≡ c.args.self.now.found ++ found.Kept c.in-Do.line r ∷ [] = search rules in
     let one : more ≡ old ++ Kept c.in-Do.line r ∷ [] = one_kept c.args.self.now.found c.push-in-Do.new.self c.in-Do.line r pushed in
-    let passed : c.pass_over.new.self.loops ≡ next k = search rules in
+    let passed : c.pass_over.new.self.loops ≡ next_loop_number k = search rules in
     let inside : new ≡ more ++ found_among p m (outermost_in_block p.declarations c.pass_over.new.self.loops (block_of c.in-Do.body)) = search rules in
     kept-found p k m c.in-Do.line c.in-Do.var c.in-Do.first c.in-Do.last c.in-Do.step c.in-Do.body r old more new some one
     (inside ∙ ap (λ n. more ++ found_among p m (outermost_in_block p.declarations n (block_of c.in-Do.body))) passed)
@@ -96,7 +96,7 @@ stmt-returns-in_ok-block-in-Do-clause-nests t c =
     let symbols = symbols_of p.declarations c.in-Do.var (block_of c.in-Do.body) in
     let some : Some r ≡ reason_over symbols (statement_of do') =
     sym c.in-Some.is ∙ c.in_ok-reason-in-Do.ensures ∙ ap (λ s. reason_over s (statement_of c.args.stmt.now)) c.in_ok-symbols-in-Do.ensures ∙ ap (λ s. reason_over symbols (statement_of s)) c.in-Do.is in
-    let passed : c.pass_over.new.self.loops ≡ next k = search rules in
+    let passed : c.pass_over.new.self.loops ≡ next_loop_number k = search rules in
     let inside : c.block-in-Do.new.self.nests ≡ nests_among p.declarations m (outermost_in_block p.declarations c.pass_over.new.self.loops (block_of c.in-Do.body)) = search rules in
     inside ∙ ap (λ n. nests_among p.declarations m (outermost_in_block p.declarations n (block_of c.in-Do.body))) passed
     ∙ kept-nests p k m c.in-Do.line c.in-Do.var c.in-Do.first c.in-Do.last c.in-Do.step c.in-Do.body r some

@@ -1,7 +1,7 @@
 use Rattle.std.proofs.Common.{◌≡◌, sym, subst, refl, None, Some, map}
 use Rattle.dependence_graph.specs.nest_graph.Graph.{IsGraphOf}
 use Rattle.dependence_graph.specs.nest_graph.Ready.{IsReady}
-use Rattle.f90_print.specs.Notes.{text_of}
+use Rattle.f90_print.specs.Notes.{line_text}
 use Rattle.interchange.specs.Arranged.{vectors_of, with_moved_loops}
 use Rattle.nest.specs.View.{nest_of}
 use Rattle.nest.specs.declared.nests.Nest.{Nest}
@@ -38,7 +38,7 @@ returns-in_ok-tests-in-Some c =
     let e = subst (λ (n : Nest). with_moved_loops (nest_of n) vectors ≡ Some (nest_of c.in-Some.made.value)) c.deref-before.ensures
     (moved_some (nest_of c.deref-before.result.now) vectors _ (λ b. nest_of b.value) c.in-Some.made c.in_ok-made.ensures c.in-Some.is) in
     moved_as c.args.number (nest_of c.args.nest.value) c.args.graph (record { nest = c.in-Some.made; tests = tests }) e
-    (subst (λ (n : Nest). AreTestsOf c.args.number (nest_of n) tests.graph tests.holds (map text_of tests.lines))
+    (subst (λ (n : Nest). AreTestsOf c.args.number (nest_of n) tests.graph tests.holds (map line_text tests.lines))
     c.deref-last.ensures c.in_ok-tests-in-Some.ensures)
 
 pub returns-in_ok-tests-in-None : goal.returns-in_ok-tests-in-None
@@ -49,7 +49,7 @@ returns-in_ok-tests-in-None c =
     (moved_none (nest_of c.deref-before.result.now) vectors _ (λ b. nest_of b.value) c.in_ok-made.ensures c.in-None.is) in
     stays_as c.args.number (nest_of c.args.nest.value) c.args.graph (record { nest = c.args.nest; tests = tests }) e refl
     c.in_ok-tests-in-None.ensures.graph
-    (subst (λ (n : Nest). AreTestsOf c.args.number (nest_of n) tests.graph tests.holds (map text_of tests.lines))
+    (subst (λ (n : Nest). AreTestsOf c.args.number (nest_of n) tests.graph tests.holds (map line_text tests.lines))
     c.deref-before.ensures c.in_ok-tests-in-None.ensures.tests)
 
 pub tests_with-requires-clause-graph : goal.tests_with-requires-clause-graph

@@ -4,6 +4,7 @@ use Rattle.nest.specs.declared.nests.Nest.{Nest}
 use Rattle.listing.proofs.programs.Sources.{expanded_of, few_unexpanded}
 use Rattle.listing.specs.programs.Passed.{IsUnexpanded}
 use Rattle.listing.proofs.programs.nests.expanded_nest.Goals as goal
+use Rattle.tree.specs.declared.width.Width.TheVariants.{Wide}
 
 pub expand-requires : goal.expand-requires
 expand-requires c =
@@ -13,7 +14,7 @@ expand-requires c =
     let made : IsUnexpanded masks normal nest
     = subst (λ (n : Nest). IsUnexpanded masks normal (nest_of n)) (sym c.deref-nest.ensures) c.in_ok-before.ensures in
     let few : c.deref-nest.result.now.masks < 4294967296 = omega arith in
-    few_unexpanded masks normal nest c.requires made few
+    few_unexpanded Wide masks normal nest c.requires made few
 
 pub returns : goal.returns
 returns c =

@@ -4,6 +4,7 @@ use Rattle.nest.specs.declared.nests.Nest.{Nest}
 use Rattle.listing.proofs.programs.Sources.{may_be_listed_moved, may_be_listed_split, passed_as}
 use Rattle.listing.specs.programs.Counted.{AreCounted}
 use Rattle.listing.proofs.programs.nests.from_normal.Goals as goal
+use Rattle.tree.specs.declared.width.Width.TheVariants.{Wide}
 
 pub split_nest-requires : goal.split_nest-requires
 split_nest-requires c =
@@ -15,7 +16,7 @@ arranged-requires-clause-given c =
     let box = r.nest.value in
     let masks : c.deref-before.result.now.masks < 4294967296 = omega arith in
     let copies : c.deref-before.result.now.copies < 4294967296 = omega arith in
-    may_be_listed_split c.args.counts (nest_of c.args.normal.now) (nest_of box) r.graph
+    may_be_listed_split Wide c.args.counts (nest_of c.args.normal.now) (nest_of box) r.graph
     (record { nest = nest_of c.args.found.now; source = c.requires.source; made = c.requires.made })
     c.in_ok-whole.ensures (subst (λ (n : Nest). n.masks < 4294967296) c.deref-before.ensures masks)
     (subst (λ (n : Nest). n.copies < 4294967296) c.deref-before.ensures copies)
@@ -29,7 +30,7 @@ arranged-requires-clause-moved c =
     let box = r.nest.value in
     let masks : c.deref-before.result.now.masks < 4294967296 = omega arith in
     let copies : c.deref-before.result.now.copies < 4294967296 = omega arith in
-    may_be_listed_moved c.args.counts (nest_of c.args.normal.now) (nest_of box) r.graph
+    may_be_listed_moved Wide c.args.counts (nest_of c.args.normal.now) (nest_of box) r.graph
     (record { nest = nest_of c.args.found.now; source = c.requires.source; made = c.requires.made })
     c.in_ok-whole.ensures (subst (λ (n : Nest). n.masks < 4294967296) c.deref-before.ensures masks)
     (subst (λ (n : Nest). n.copies < 4294967296) c.deref-before.ensures copies)

@@ -3,7 +3,7 @@ use Rattle.std.specs.Option.{option_map}
 use Rattle.dependence_graph.specs.nest_graph.Ready.{IsReady}
 use Rattle.nest.specs.View.{nest_of}
 use Rattle.nest.specs.declared.nests.Nest.{Nest}
-use Rattle.node_splitting.specs.Split.{IsSplit}
+use Rattle.node_splitting.specs.Split.{IsSplitNest}
 use Rattle.listing.proofs.programs.Sources.{split_none, split_some}
 use Rattle.listing.proofs.programs.nests.split.Goals as goal
 
@@ -13,8 +13,8 @@ with_graph-requires c =
     let box = c.in_ok-nest-in-Some.nest.value in
     let whole = c.args.whole in
     let same = ap (option_map nest_of) c.in-Some.is in
-    let is = subst (λ (n : Nest). IsSplit (nest_of n) whole.graph (Some (nest_of made))) c.deref-before.ensures
-    (subst (IsSplit (nest_of c.deref-before.result.now) whole.graph) same c.in_ok-made.ensures) in
+    let is = subst (λ (n : Nest). IsSplitNest (nest_of n) whole.graph (Some (nest_of made))) c.deref-before.ensures
+    (subst (IsSplitNest (nest_of c.deref-before.result.now) whole.graph) same c.in_ok-made.ensures) in
     let small : c.deref-read.result.now.copies < 4294967296 = omega arith in
     let few = subst (λ (n : Nest). n.copies < 4294967296) c.deref-read.ensures small in
     subst (λ (n : Nest). IsReady (nest_of n)) (sym c.in_ok-nest-in-Some.ensures.ok)
@@ -26,10 +26,10 @@ returns-in_ok-nest-in-Some c =
     let made = c.in-Some.made in
     let whole = c.args.whole in
     let same = ap (option_map nest_of) c.in-Some.is in
-    let is = subst (λ (n : Nest). IsSplit (nest_of n) whole.graph (Some (nest_of made))) c.deref-before.ensures
-    (subst (IsSplit (nest_of c.deref-before.result.now) whole.graph) same c.in_ok-made.ensures) in
+    let is = subst (λ (n : Nest). IsSplitNest (nest_of n) whole.graph (Some (nest_of made))) c.deref-before.ensures
+    (subst (IsSplitNest (nest_of c.deref-before.result.now) whole.graph) same c.in_ok-made.ensures) in
     split_some (nest_of whole.nest.value) (nest_of c.in_ok-nest-in-Some.nest.value) whole.graph c.with_graph.result
-    (subst (λ (n : Nest). IsSplit (nest_of whole.nest.value) whole.graph (Some (nest_of n))) (sym c.in_ok-nest-in-Some.ensures.ok) is)
+    (subst (λ (n : Nest). IsSplitNest (nest_of whole.nest.value) whole.graph (Some (nest_of n))) (sym c.in_ok-nest-in-Some.ensures.ok) is)
     c.with_graph.ensures.nest c.with_graph.ensures.graph
 
 pub returns-in-None : goal.returns-in-None
@@ -37,5 +37,5 @@ returns-in-None c =
     let whole = c.args.whole in
     let same = ap (option_map nest_of) c.in-None.is in
     split_none (nest_of whole.nest.value) whole.graph c.requires.graph
-    (subst (λ (n : Nest). IsSplit (nest_of n) whole.graph None) c.deref-before.ensures
-    (subst (IsSplit (nest_of c.deref-before.result.now) whole.graph) same c.in_ok-made.ensures))
+    (subst (λ (n : Nest). IsSplitNest (nest_of n) whole.graph None) c.deref-before.ensures
+    (subst (IsSplitNest (nest_of c.deref-before.result.now) whole.graph) same c.in_ok-made.ensures))

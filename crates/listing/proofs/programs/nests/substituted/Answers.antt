@@ -4,6 +4,7 @@ use Rattle.nest.specs.declared.nests.Nest.{Nest}
 use Rattle.listing.proofs.programs.Sources.{few_anew, substituted_of}
 use Rattle.listing.specs.programs.Passed.{IsAnewOf}
 use Rattle.listing.proofs.programs.nests.substituted.Goals as goal
+use Rattle.tree.specs.declared.width.Width.TheVariants.{Wide}
 
 pub substitute_inductions-requires : goal.substitute_inductions-requires
 substitute_inductions-requires c =
@@ -13,7 +14,7 @@ substitute_inductions-requires c =
     let made : IsAnewOf masks normal nest
     = subst (λ (n : Nest). IsAnewOf masks normal (nest_of n)) (sym c.deref-nest.ensures) c.in_ok-before.ensures in
     let few : c.deref-nest.result.now.masks < 4294967296 = omega arith in
-    few_anew masks normal nest c.requires made few
+    few_anew Wide masks normal nest c.requires made few
 
 pub returns : goal.returns
 returns c =

@@ -2,8 +2,8 @@
 use Rattle.std.proofs.Common.{◌≡◌, map, take}
 use Rattle.std.specs.List.{flat_map}
 use Rattle.f90_grammar.specs.PrintedText.{with_line_feed}
-use Rattle.f90_print.specs.Notes.{text_of}
+use Rattle.f90_print.specs.Notes.{line_text}
 use Rattle.listing.proofs.programs.texts.lines_text.Given as goal
 
 abbrev pub invariant-loop-line : goal.invariant-loop-line
-invariant-loop-line l = l.text.items ≡ flat_map with_line_feed (map text_of (take l.line-index l.lines))
+invariant-loop-line l = l.text.items ≡ flat_map with_line_feed (map line_text (take l.line-index l.lines))

@@ -14,19 +14,19 @@ use Rattle.run77.proofs.moment.Moment.+printing.Given as goal
 abbrev pub invariant-print_item-loop : goal.invariant-print_item-loop
 invariant-print_item-loop g l =
     ((input : List ℕ) (now : Option (List ℕ)) (last : Seen) (r : Result (Unit {0}) Left)
-    → Runs (λ limit. repeated (l.end - l.counter) (turn fortran77 limit l.line l.name l.turns.step (prints_items fortran77 limit (plain_items l.items) l.line))) input (seen l.self) (g.K.Sink.taken l.out) last now r
-    → Runs (λ limit. prints_item fortran77 limit (item_of l.fn.item) l.line) input (seen l.fn.self) (g.K.Sink.taken l.fn.out) last now r)
+    → Runs (λ limit. repeated (l.end - l.counter) (turn (fortran77 l.width) limit l.line l.name l.turns.step (prints_items (fortran77 l.width) limit (plain_items l.items) l.line))) input (seen l.self) (g.K.Sink.taken l.out) last now r
+    → Runs (λ limit. prints_item (fortran77 l.width) limit (item_of l.fn.item) l.line) input (seen l.fn.self) (g.K.Sink.taken l.fn.out) last now r)
     × (g.K.Sink.faults l.out ≡ g.K.Sink.faults l.fn.out)
     × ((input bytes : List ℕ) → IsTold (λ before mid. (now : Option (List ℕ)) (last : Seen) (r : Result (Unit {0}) Left)
-    → Runs (λ limit. repeated (l.end - l.counter) (turn fortran77 limit l.line l.name l.turns.step (prints_items fortran77 limit (plain_items l.items) l.line))) input (seen l.self) mid last now r
-    → Runs (λ limit. prints_item fortran77 limit (item_of l.fn.item) l.line) input (seen l.fn.self) before last now r) (l.out ≡ l.fn.out) bytes)
+    → Runs (λ limit. repeated (l.end - l.counter) (turn (fortran77 l.width) limit l.line l.name l.turns.step (prints_items (fortran77 l.width) limit (plain_items l.items) l.line))) input (seen l.self) mid last now r
+    → Runs (λ limit. prints_item (fortran77 l.width) limit (item_of l.fn.item) l.line) input (seen l.fn.self) before last now r) (l.out ≡ l.fn.out) bytes)
 
 abbrev pub invariant-print_items-loop-item : goal.invariant-print_items-loop-item
 invariant-print_items-loop-item g l =
     ((input : List ℕ) (now : Option (List ℕ)) (last : Seen) (r : Result (Unit {0}) Left)
-    → Runs (λ limit. prints_items fortran77 limit (plain_items (drop l.item-index l.item-items)) l.line) input (seen l.self) (g.K.Sink.taken l.out) last now r
-    → Runs (λ limit. prints_items fortran77 limit (plain_items l.items) l.line) input (seen l.fn.self) (g.K.Sink.taken l.fn.out) last now r)
+    → Runs (λ limit. prints_items (fortran77 l.width) limit (plain_items (drop l.item-index l.item-items)) l.line) input (seen l.self) (g.K.Sink.taken l.out) last now r
+    → Runs (λ limit. prints_items (fortran77 l.width) limit (plain_items l.items) l.line) input (seen l.fn.self) (g.K.Sink.taken l.fn.out) last now r)
     × (g.K.Sink.faults l.out ≡ g.K.Sink.faults l.fn.out)
     × ((input bytes : List ℕ) → IsTold (λ before mid. (now : Option (List ℕ)) (last : Seen) (r : Result (Unit {0}) Left)
-    → Runs (λ limit. prints_items fortran77 limit (plain_items (drop l.item-index l.item-items)) l.line) input (seen l.self) mid last now r
-    → Runs (λ limit. prints_items fortran77 limit (plain_items l.items) l.line) input (seen l.fn.self) before last now r) (l.out ≡ l.fn.out) bytes)
+    → Runs (λ limit. prints_items (fortran77 l.width) limit (plain_items (drop l.item-index l.item-items)) l.line) input (seen l.self) mid last now r
+    → Runs (λ limit. prints_items (fortran77 l.width) limit (plain_items l.items) l.line) input (seen l.fn.self) before last now r) (l.out ≡ l.fn.out) bytes)

@@ -37,7 +37,7 @@ returns c = λ input bytes.
     Runs-evaluates c.args.line (cell_at c.args.name []) cell.0 _ input (seen c.args.self.now) (seen c.set_variable.new.self) bytes bytes _ cell.1
     (Runs-evaluates c.args.line (λ s. as_number (s.held cell.0) >>= λ z. exact (z +ℤ c.args.step)) c.in_ok-number.number _ input (seen c.args.self.now) (seen c.set_variable.new.self) bytes bytes _
     (sym c.in_ok-number.was ∙ c.at-2.ensures ∙ ap (located c.args.line) (c.increased.ensures cell.0 cell.2 ∙ ap (increased _) (settled c.args.step (search rules))))
-    (subst (λ z. Runs (λ limit. sets_variable fortran77 limit c.args.line c.args.name z) input (seen c.args.self.now) bytes (seen c.set_variable.new.self) bytes (left_of c.set_variable.result)) (settled c.in_ok-number.number (search rules)) (c.set_variable.ensures input bytes)))
+    (subst (λ z. Runs (λ limit. sets_variable (fortran77 c.args.width) limit c.args.line c.args.name z) input (seen c.args.self.now) bytes (seen c.set_variable.new.self) bytes (left_of c.set_variable.result)) (settled c.in_ok-number.number (search rules)) (c.set_variable.ensures input bytes)))
 
 pub increased-requires : goal.increased-requires
 increased-requires c = within_located c.args.line _ c.in_ok-place.place c.scalar.result c.scalar.ensures.within (sym c.in_ok-place.was ∙ c.at.ensures)

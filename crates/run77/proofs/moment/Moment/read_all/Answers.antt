@@ -15,7 +15,7 @@ use Rattle.run77.proofs.moment.Moment.read_all.Goals as goal
 
 pub returns-in_default : goal.returns-in_default
 returns-in_default c = λ bytes.
-    Runs-fault c.args.line (all_cells c.args.name) _ (λ cs limit. for_each cs (reads_into fortran77 limit c.args.line)) c.args.input.now (seen c.args.self.now) bytes
+    Runs-fault c.args.line (all_cells c.args.name) _ (λ cs limit. for_each cs (reads_into (fortran77 c.args.width) limit c.args.line)) c.args.input.now (seen c.args.self.now) bytes
     (all_missing c.args.line (names_in c.args.self.now.storage) c.args.self.now.storage.values.items c.args.name (none_found (names_in c.args.self.now.storage) c.args.name c.find.result c.find.ensures c.in_default.not-Some))
 
 pub read_into-requires : goal.read_into-requires
@@ -35,9 +35,9 @@ returns-in_err-read_into c = λ bytes.
     let at = λ (j : ℕ) (e : Cell) (l : j < length cs). cell_place ds c.args.name v c.in-Some.ensures j e (omega (arith, all)) in
     let cell = get_or cs c.loop-k.k d in
     rw (residual c.from_residual.ensures.1)
-    (Runs-evaluates c.args.line (all_cells c.args.name) cs (λ cs limit. for_each cs (reads_into fortran77 limit c.args.line)) c.args.input.now (seen c.args.self.now) (seen c.read_into.new.self) bytes bytes (Err (Halted c.in_err-read_into.field-0.0)) (all_here c.args.line ds c.args.self.now.storage.values.items c.args.name v c.in-Some.ensures)
+    (Runs-evaluates c.args.line (all_cells c.args.name) cs (λ cs limit. for_each cs (reads_into (fortran77 c.args.width) limit c.args.line)) c.args.input.now (seen c.args.self.now) (seen c.read_into.new.self) bytes bytes (Err (Halted c.in_err-read_into.field-0.0)) (all_here c.args.line ds c.args.self.now.storage.values.items c.args.name v c.in-Some.ensures)
     (c.loop-k.invariant.1 cs (all ∙ sym count) at bytes (seen c.read_into.new.self) (Err (Halted c.in_err-read_into.field-0.0))
-    (cells_left fortran77 c.args.line cs c.loop-k.k d (omega (arith, all, count, c.loop-k-test.true)) c.args.input.now (seen c.loop-k.self) (seen c.read_into.new.self) bytes c.in_err-read_into.field-0.0 (c.in_err-read_into.ensures.read cell (ap (λ ds. place ds cell.name cell.subscripts) c.loop-k.invariant.0 ∙ at c.loop-k.k d (omega (arith, all, count, c.loop-k-test.true))) bytes))))
+    (cells_left (fortran77 c.args.width) c.args.line cs c.loop-k.k d (omega (arith, all, count, c.loop-k-test.true)) c.args.input.now (seen c.loop-k.self) (seen c.read_into.new.self) bytes c.in_err-read_into.field-0.0 (c.in_err-read_into.ensures.read cell (ap (λ ds. place ds cell.name cell.subscripts) c.loop-k.invariant.0 ∙ at c.loop-k.k d (omega (arith, all, count, c.loop-k-test.true))) bytes))))
 
 pub loop-k-preserved : goal.loop-k-preserved
 loop-k-preserved c = (
@@ -46,7 +46,7 @@ loop-k-preserved c = (
       let d : Cell = record { name = c.args.name; subscripts = [] } in
       let cell = get_or cs c.loop-k.k d in
       c.loop-k.invariant.1 cs n at bytes last r
-      (cells_more fortran77 c.args.line cs c.loop-k.k d (omega (arith, n, c.loop-k-test.true)) c.args.input.now (seen c.loop-k.self) (seen c.read_into.new.self) bytes last r (c.in_ok-read_into.ensures.read cell (ap (λ ds. place ds cell.name cell.subscripts) c.loop-k.invariant.0 ∙ at c.loop-k.k d (omega (arith, n, c.loop-k-test.true))) bytes) h),
+      (cells_more (fortran77 c.args.width) c.args.line cs c.loop-k.k d (omega (arith, n, c.loop-k-test.true)) c.args.input.now (seen c.loop-k.self) (seen c.read_into.new.self) bytes last r (c.in_ok-read_into.ensures.read cell (ap (λ ds. place ds cell.name cell.subscripts) c.loop-k.invariant.0 ∙ at c.loop-k.k d (omega (arith, n, c.loop-k-test.true))) bytes) h),
 )
 
 pub returns : goal.returns
@@ -58,5 +58,5 @@ returns c = λ bytes.
     let count : c.elements-count.result ≡ elements_of (bounds_here v) = c.elements-count.ensures ∙ ap elements_of c.dims_of.ensures in
     let all : length cs ≡ elements_of (bounds_here v) = cells_count ds c.args.name v c.in-Some.ensures in
     let at = λ (j : ℕ) (e : Cell) (l : j < length cs). cell_place ds c.args.name v c.in-Some.ensures j e (omega (arith, all)) in
-    (Runs-evaluates c.args.line (all_cells c.args.name) cs (λ cs limit. for_each cs (reads_into fortran77 limit c.args.line)) c.args.input.now (seen c.args.self.now) (seen c.loop-k.self) bytes bytes (Ok tt) (all_here c.args.line ds c.args.self.now.storage.values.items c.args.name v c.in-Some.ensures)
-    (c.loop-k.invariant.1 cs (all ∙ sym count) at bytes (seen c.loop-k.self) (Ok tt) (cells_done fortran77 c.args.line cs c.loop-k.k c.args.input.now (seen c.loop-k.self) bytes (omega (arith, all, count, c.loop-k-test.false)))))
+    (Runs-evaluates c.args.line (all_cells c.args.name) cs (λ cs limit. for_each cs (reads_into (fortran77 c.args.width) limit c.args.line)) c.args.input.now (seen c.args.self.now) (seen c.loop-k.self) bytes bytes (Ok tt) (all_here c.args.line ds c.args.self.now.storage.values.items c.args.name v c.in-Some.ensures)
+    (c.loop-k.invariant.1 cs (all ∙ sym count) at bytes (seen c.loop-k.self) (Ok tt) (cells_done (fortran77 c.args.width) c.args.line cs c.loop-k.k c.args.input.now (seen c.loop-k.self) bytes (omega (arith, all, count, c.loop-k-test.false)))))

@@ -16,4 +16,4 @@ invariant-loop-k l =
     (names_in l.self.storage ≡ names_in l.fn.self.storage)
     × ((cs : List Cell) → length cs ≡ l.count → ((j : ℕ) (d : Cell) → j < length cs → place (names_in l.fn.self.storage) (get_or cs j d).name (get_or cs j d).subscripts ≡ Some (l.start + j))
     → (bytes : Option (List ℕ)) (last : Seen) (r : Result (Unit {0}) Left)
-    → Runs (left_of_cells fortran77 l.line (drop l.k cs)) l.input (seen l.self) bytes last bytes r → Runs (left_of_cells fortran77 l.line cs) l.input (seen l.fn.self) bytes last bytes r)
+    → Runs (left_of_cells (fortran77 l.width) l.line (drop l.k cs)) l.input (seen l.self) bytes last bytes r → Runs (left_of_cells (fortran77 l.width) l.line cs) l.input (seen l.fn.self) bytes last bytes r)

@@ -7,7 +7,7 @@ use Rattle.run77.proofs.moment.Moment.read_statement.Goals as goal
 pub returns-in_err-count_step : goal.returns-in_err-count_step
 returns-in_err-count_step c = λ bytes.
     rw (residual c.from_residual.ensures.1)
-    (Runs-cut fortran77 _ c.args.input.now (seen c.args.self.now) (seen c.count_step.new.self) bytes c.in_err-count_step.field-0.0 c.in_err-count_step.ensures.counted)
+    (Runs-cut (fortran77 c.args.width) _ c.args.input.now (seen c.args.self.now) (seen c.count_step.new.self) bytes c.in_err-count_step.field-0.0 c.in_err-count_step.ensures.counted)
 
 pub returns : goal.returns
-returns c = λ bytes. Runs-counts_step fortran77 _ c.args.input.now (seen c.args.self.now) (seen c.count_step.new.self) _ bytes bytes _ c.in_ok-count_step.ensures.counted (c.read.ensures bytes)
+returns c = λ bytes. Runs-counts_step (fortran77 c.args.width) _ c.args.input.now (seen c.args.self.now) (seen c.count_step.new.self) _ bytes bytes _ c.in_ok-count_step.ensures.counted (c.read.ensures bytes)

@@ -2,7 +2,8 @@ use Rattle.meaning.specs.Dialect.{fortran77}
 use Rattle.std.proofs.Common.{refl, sym, ap, ◌∙◌, [], rules}
 use Rattle.tree.specs.declared.ops.Value.TheVariants.{Int}
 use Rattle.meaning.specs.Store.{cell_at, put}
-use Rattle.machine.specs.Moments.{integer_bits, located, checked}
+use Rattle.tree.specs.Widths.{bits_of}
+use Rattle.machine.specs.Moments.{located, checked}
 use Rattle.machine.specs.Stored.{names_in, store_in}
 use Rattle.machine.proofs.Residuals.{residual, settled}
 use Rattle.machine.proofs.ActLaws.{Runs-evaluates, Runs-fault, Runs-in_range, Runs-out_of_range, Runs-stores, found_cell, missed_cell, within_located}
@@ -22,16 +23,16 @@ returns-in_err-at c = λ input bytes.
     c.scalar.ensures.found (sym c.in_ok-place.was ∙ c.at.ensures) in
     rw (residual c.from_residual-in_err-at.ensures.1)
     (Runs-evaluates c.args.line (cell_at c.args.name []) cell.0 _ input (seen c.args.self.now) (seen c.args.self.now) bytes bytes _ cell.1
-    (Runs-out_of_range fortran77 c.args.line (Int c.args.number) c.in_err-at.field-0.0 _ input (seen c.args.self.now) bytes
-    (sym c.in_err-at.was ∙ c.at-2.ensures ∙ ap (located c.args.line) c.check_range.ensures ∙ ap (λ z. located c.args.line (checked integer_bits (Int z))) (settled c.args.number (search rules)))))
+    (Runs-out_of_range (fortran77 c.args.width) c.args.line (Int c.args.number) c.in_err-at.field-0.0 _ input (seen c.args.self.now) bytes
+    (sym c.in_err-at.was ∙ c.at-2.ensures ∙ ap (located c.args.line) c.check_range.ensures ∙ ap (λ z. located c.args.line (checked (bits_of c.args.width) (Int z))) (settled c.args.number (search rules)))))
 
 pub returns : goal.returns
 returns c = λ input bytes.
     let cell = found_cell (names_in c.args.self.now.storage) c.args.line (cell_at c.args.name [] (store_in c.args.self.now.storage)) c.scalar.result c.in_ok-place.place
     c.scalar.ensures.found (sym c.in_ok-place.was ∙ c.at.ensures) in
     Runs-evaluates c.args.line (cell_at c.args.name []) cell.0 _ input (seen c.args.self.now) _ bytes bytes _ cell.1
-    (Runs-in_range fortran77 c.args.line (Int c.args.number) _ input (seen c.args.self.now) _ bytes bytes _ c.in_ok-at.field-0
-    (sym c.in_ok-at.was ∙ c.at-2.ensures ∙ ap (located c.args.line) c.check_range.ensures ∙ ap (λ z. located c.args.line (checked integer_bits (Int z))) (settled c.args.number (search rules)))
+    (Runs-in_range (fortran77 c.args.width) c.args.line (Int c.args.number) _ input (seen c.args.self.now) _ bytes bytes _ c.in_ok-at.field-0
+    (sym c.in_ok-at.was ∙ c.at-2.ensures ∙ ap (located c.args.line) c.check_range.ensures ∙ ap (λ z. located c.args.line (checked (bits_of c.args.width) (Int z))) (settled c.args.number (search rules)))
     (Runs-stores cell.0 (Int c.args.number) input (seen c.args.self.now) _ bytes c.put.ensures.names
     (c.put.ensures.stored cell.0 cell.2
     ∙ ap (λ z. put cell.0 (Int z) (store_in c.args.self.now.storage)) (settled c.args.number (search rules))) refl))

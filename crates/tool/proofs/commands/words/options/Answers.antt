@@ -1,7 +1,13 @@
-use Rattle.std.proofs.Common.{◌∙◌, None, Some}
+use Rattle.std.proofs.Common.{◌∙◌, None, Some, ap}
+use Rattle.tool.specs.declared.commands.commands.Options.{Options}
 use Rattle.tool.specs.commands.Command.{texts, options_of}
-use Rattle.tool.proofs.commands.Joined.{turn-steps, turn-option}
+use Rattle.tool.proofs.commands.Joined.{joined, joined-none, turn-steps, turn-option}
 use Rattle.tool.proofs.commands.words.options.Goals as goal
+
+pub loop-word-init : goal.loop-word-init
+loop-word-init c =
+    ap (λ (o : Options). joined o (options_of (texts c.args.words.now))) c.none-options.ensures
+    ∙ joined-none (options_of (texts c.args.words.now))
 
 pub returns-in_err-options : goal.returns-in_err-options
 returns-in_err-options c =

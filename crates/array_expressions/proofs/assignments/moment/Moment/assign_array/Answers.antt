@@ -22,20 +22,20 @@ returns-in_err-plan c = λ input bytes.
     let mask = expression_of c.args.mask.now in
     let left = reference_of c.args.left.now in
     let right = expression_of c.args.right.now in
-    let plans = subst (λ st. Plans (slots_in st) (writes_of fortran90 mask left right (store_in st)) c.planned.result) c.scope.ensures c.planned.ensures.plans in
+    let plans = subst (λ st. Plans (slots_in st) (writes_of (fortran90 c.args.width) mask left right (store_in st)) c.planned.result) c.scope.ensures c.planned.ensures.plans in
     rw (residual c.from_residual.ensures.1)
-    (Runs-stuck line (λ (ws : List (Cell × Value)). ws) (writes_of fortran90 mask left right) (λ ws limit. for_each ws (stores_element fortran90 limit)) input (seen c.args.self.now) c.in_err-plan.field-0.0 bytes
-    (plan_stuck line (slots_of c.args.self.now) (writes_of fortran90 mask left right (store_in c.args.self.now.storage)) c.planned.result c.in_err-plan.field-0.0 (sym c.in_err-plan.was ∙ c.at.ensures) plans)
-    (Extends-array_assigns fortran90 line mask left right))
+    (Runs-stuck line (λ (ws : List (Cell × Value)). ws) (writes_of (fortran90 c.args.width) mask left right) (λ ws limit. for_each ws (stores_element (fortran90 c.args.width) limit)) input (seen c.args.self.now) c.in_err-plan.field-0.0 bytes
+    (plan_stuck line (slots_of c.args.self.now) (writes_of (fortran90 c.args.width) mask left right (store_in c.args.self.now.storage)) c.planned.result c.in_err-plan.field-0.0 (sym c.in_err-plan.was ∙ c.at.ensures) plans)
+    (Extends-array_assigns (fortran90 c.args.width) line mask left right))
 
 pub store_all-requires : goal.store_all-requires
 store_all-requires c =
     let mask = expression_of c.args.mask.now in
     let left = reference_of c.args.left.now in
     let right = expression_of c.args.right.now in
-    let plans = subst (λ st. Plans (slots_in st) (writes_of fortran90 mask left right (store_in st)) c.planned.result) c.scope.ensures c.planned.ensures.plans in
+    let plans = subst (λ st. Plans (slots_in st) (writes_of (fortran90 c.args.width) mask left right (store_in st)) c.planned.result) c.scope.ensures c.planned.ensures.plans in
     let sound = subst (λ st. IfOk c.planned.result (IsSound (slots_in st))) c.scope.ensures c.planned.ensures.sound in
-    (plan_given c.args.line (slots_of c.args.self.now) (writes_of fortran90 mask left right (store_in c.args.self.now.storage)) c.planned.result c.in_ok-plan.plan (sym c.in_ok-plan.was ∙ c.at.ensures) plans sound).1
+    (plan_given c.args.line (slots_of c.args.self.now) (writes_of (fortran90 c.args.width) mask left right (store_in c.args.self.now.storage)) c.planned.result c.in_ok-plan.plan (sym c.in_ok-plan.was ∙ c.at.ensures) plans sound).1
 
 pub returns-in_err-store_all : goal.returns-in_err-store_all
 returns-in_err-store_all c = λ input bytes.
@@ -43,12 +43,12 @@ returns-in_err-store_all c = λ input bytes.
     let mask = expression_of c.args.mask.now in
     let left = reference_of c.args.left.now in
     let right = expression_of c.args.right.now in
-    let plans = subst (λ st. Plans (slots_in st) (writes_of fortran90 mask left right (store_in st)) c.planned.result) c.scope.ensures c.planned.ensures.plans in
+    let plans = subst (λ st. Plans (slots_in st) (writes_of (fortran90 c.args.width) mask left right (store_in st)) c.planned.result) c.scope.ensures c.planned.ensures.plans in
     let sound = subst (λ st. IfOk c.planned.result (IsSound (slots_in st))) c.scope.ensures c.planned.ensures.sound in
-    let p = (plan_given line (slots_of c.args.self.now) (writes_of fortran90 mask left right (store_in c.args.self.now.storage)) c.planned.result c.in_ok-plan.plan (sym c.in_ok-plan.was ∙ c.at.ensures) plans sound).0 in
+    let p = (plan_given line (slots_of c.args.self.now) (writes_of (fortran90 c.args.width) mask left right (store_in c.args.self.now.storage)) c.planned.result c.in_ok-plan.plan (sym c.in_ok-plan.was ∙ c.at.ensures) plans sound).0 in
     rw (residual c.from_residual-in_err-store_all.ensures.1)
-    (Runs-evaluates line (writes_of fortran90 mask left right) p.0 (λ ws limit. for_each ws (stores_element fortran90 limit)) input (seen c.args.self.now) (seen c.store_all.new.self) bytes bytes (Err (Halted c.in_err-store_all.field-0.0))
-    (sym (ap (located line) p.1)) (c.in_err-store_all.ensures p.0 p.2 input bytes))
+    (Runs-evaluates line (writes_of (fortran90 c.args.width) mask left right) p.0 (λ ws limit. for_each ws (stores_element (fortran90 c.args.width) limit)) input (seen c.args.self.now) (seen c.store_all.new.self) bytes bytes (Err (Halted c.in_err-store_all.field-0.0))
+    (sym (ap (located line) p.1)) (c.in_err-store_all.ensures c.args.width p.0 p.2 input bytes))
 
 pub returns : goal.returns
 returns c = λ input bytes.
@@ -56,8 +56,8 @@ returns c = λ input bytes.
     let mask = expression_of c.args.mask.now in
     let left = reference_of c.args.left.now in
     let right = expression_of c.args.right.now in
-    let plans = subst (λ st. Plans (slots_in st) (writes_of fortran90 mask left right (store_in st)) c.planned.result) c.scope.ensures c.planned.ensures.plans in
+    let plans = subst (λ st. Plans (slots_in st) (writes_of (fortran90 c.args.width) mask left right (store_in st)) c.planned.result) c.scope.ensures c.planned.ensures.plans in
     let sound = subst (λ st. IfOk c.planned.result (IsSound (slots_in st))) c.scope.ensures c.planned.ensures.sound in
-    let p = (plan_given line (slots_of c.args.self.now) (writes_of fortran90 mask left right (store_in c.args.self.now.storage)) c.planned.result c.in_ok-plan.plan (sym c.in_ok-plan.was ∙ c.at.ensures) plans sound).0 in
-    Runs-evaluates line (writes_of fortran90 mask left right) p.0 (λ ws limit. for_each ws (stores_element fortran90 limit)) input (seen c.args.self.now) (seen c.store_all.new.self) bytes bytes (Ok tt)
-    (sym (ap (located line) p.1)) (c.in_ok-store_all.ensures p.0 p.2 input bytes)
+    let p = (plan_given line (slots_of c.args.self.now) (writes_of (fortran90 c.args.width) mask left right (store_in c.args.self.now.storage)) c.planned.result c.in_ok-plan.plan (sym c.in_ok-plan.was ∙ c.at.ensures) plans sound).0 in
+    Runs-evaluates line (writes_of (fortran90 c.args.width) mask left right) p.0 (λ ws limit. for_each ws (stores_element (fortran90 c.args.width) limit)) input (seen c.args.self.now) (seen c.store_all.new.self) bytes bytes (Ok tt)
+    (sym (ap (located line) p.1)) (c.in_ok-store_all.ensures c.args.width p.0 p.2 input bytes)

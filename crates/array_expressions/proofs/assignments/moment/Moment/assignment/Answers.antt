@@ -19,18 +19,18 @@ use Rattle.array_expressions.proofs.assignments.moment.Moment.assignment.Goals a
 pub returns-in_err-count_step : goal.returns-in_err-count_step
 returns-in_err-count_step c = λ mark input bytes.
     rw (residual c.from_residual.ensures.1)
-    (Runs-cut fortran90 _ input (seen c.args.self.now) (seen c.count_step.new.self) bytes c.in_err-count_step.field-0.0 c.in_err-count_step.ensures.counted)
+    (Runs-cut (fortran90 c.args.width) _ input (seen c.args.self.now) (seen c.count_step.new.self) bytes c.in_err-count_step.field-0.0 c.in_err-count_step.ensures.counted)
 
 pub returns-then-is_scalar_item : goal.returns-then-is_scalar_item
 returns-then-is_scalar_item c = λ mark input bytes.
     let line = c.args.line in
     let left = reference_of c.args.left.now in
     let right = expression_of c.args.right.now in
-    let whole : LimitedAct = λ limit. array_assigns fortran90 limit line (Logic true) left right in
-    let one : LimitedAct = λ limit. assigns fortran90 limit line left right in
-    Runs-counts_step fortran90 (λ limit s. either (is_array fortran90 (named left) s.store) (whole limit) (one limit) s) input (seen c.args.self.now) (seen c.count_step.new.self) (seen c.assign.new.self) bytes bytes
+    let whole : LimitedAct = λ limit. array_assigns (fortran90 c.args.width) limit line (Logic true) left right in
+    let one : LimitedAct = λ limit. assigns (fortran90 c.args.width) limit line left right in
+    Runs-counts_step (fortran90 c.args.width) (λ limit s. either (is_array (fortran90 c.args.width) (named left) s.store) (whole limit) (one limit) s) input (seen c.args.self.now) (seen c.count_step.new.self) (seen c.assign.new.self) bytes bytes
     (outcome c.assign.result) c.in_ok-count_step.ensures.counted
-    (Runs-array fortran90 (named left) whole one input (seen c.count_step.new.self) (seen c.assign.new.self) bytes bytes (outcome c.assign.result) false
+    (Runs-array (fortran90 c.args.width) (named left) whole one input (seen c.count_step.new.self) (seen c.assign.new.self) bytes bytes (outcome c.assign.result) false
     (ap not (ap (λ st. is_scalar_reference left (store_in st).bounds) (sym c.scope.ensures) ∙ sym c.is_scalar_item.ensures ∙ c.if-is_scalar_item.true))
     (c.assign.ensures input bytes))
 
@@ -39,10 +39,10 @@ returns c = λ mark input bytes.
     let line = c.args.line in
     let left = reference_of c.args.left.now in
     let right = expression_of c.args.right.now in
-    let whole : LimitedAct = λ limit. array_assigns fortran90 limit line (Logic true) left right in
-    let one : LimitedAct = λ limit. assigns fortran90 limit line left right in
-    Runs-counts_step fortran90 (λ limit s. either (is_array fortran90 (named left) s.store) (whole limit) (one limit) s) input (seen c.args.self.now) (seen c.count_step.new.self) (seen c.assign_array.new.self) bytes bytes
+    let whole : LimitedAct = λ limit. array_assigns (fortran90 c.args.width) limit line (Logic true) left right in
+    let one : LimitedAct = λ limit. assigns (fortran90 c.args.width) limit line left right in
+    Runs-counts_step (fortran90 c.args.width) (λ limit s. either (is_array (fortran90 c.args.width) (named left) s.store) (whole limit) (one limit) s) input (seen c.args.self.now) (seen c.count_step.new.self) (seen c.assign_array.new.self) bytes bytes
     (outcome c.assign_array.result) c.in_ok-count_step.ensures.counted
-    (Runs-array fortran90 (named left) whole one input (seen c.count_step.new.self) (seen c.assign_array.new.self) bytes bytes (outcome c.assign_array.result) true
+    (Runs-array (fortran90 c.args.width) (named left) whole one input (seen c.count_step.new.self) (seen c.assign_array.new.self) bytes bytes (outcome c.assign_array.result) true
     (ap not (ap (λ st. is_scalar_reference left (store_in st).bounds) (sym c.scope.ensures) ∙ sym c.is_scalar_item.ensures ∙ c.if-is_scalar_item.false))
-    (subst (λ m. Runs (λ limit. array_assigns fortran90 limit line m left right) input (seen c.count_step.new.self) bytes (seen c.assign_array.new.self) bytes (outcome c.assign_array.result)) (expression_of-truth true) (c.assign_array.ensures input bytes)))
+    (subst (λ m. Runs (λ limit. array_assigns (fortran90 c.args.width) limit line m left right) input (seen c.count_step.new.self) bytes (seen c.assign_array.new.self) bytes (outcome c.assign_array.result)) (expression_of-truth true) (c.assign_array.ensures input bytes)))

@@ -11,9 +11,9 @@ use Rattle.array_expressions.proofs.assignments.Storing.{same_places}
 use Rattle.array_expressions.proofs.assignments.moment.Moment.put.Goals as goal
 
 pub returns-in_err-count_step-clause-stored : goal.returns-in_err-count_step-clause-stored
-returns-in_err-count_step-clause-stored c = λ cell p input bytes.
+returns-in_err-count_step-clause-stored c = λ w cell p input bytes.
     rw (residual c.from_residual.ensures.1)
-    (Runs-cut fortran90 (λ limit. stores cell c.args.value) input (seen c.args.self.now) (seen c.count_step.new.self) bytes
+    (Runs-cut (fortran90 w) (λ limit. stores cell c.args.value) input (seen c.args.self.now) (seen c.count_step.new.self) bytes
     c.in_err-count_step.field-0.0 c.in_err-count_step.ensures.counted)
 
 pub returns-in_err-count_step-clause-kept : goal.returns-in_err-count_step-clause-kept
@@ -23,8 +23,8 @@ pub put-requires : goal.put-requires
 put-requires c = rw c.count_step.ensures.storage c.requires
 
 pub returns-clause-stored : goal.returns-clause-stored
-returns-clause-stored c = λ cell p input bytes.
-    Runs-counts_step fortran90 (λ limit. stores cell c.args.value) input (seen c.args.self.now) (seen c.count_step.new.self) _ bytes bytes
+returns-clause-stored c = λ w cell p input bytes.
+    Runs-counts_step (fortran90 w) (λ limit. stores cell c.args.value) input (seen c.args.self.now) (seen c.count_step.new.self) _ bytes bytes
     (Ok tt) c.in_ok-count_step.ensures.counted
     (Runs-stores cell c.args.value input (seen c.count_step.new.self) _ bytes refl
     (c.put.ensures.stored cell (ap (λ (s : Storage). place_among (slots_in s) cell.name cell.subscripts) c.count_step.ensures.storage ∙ p)) refl)

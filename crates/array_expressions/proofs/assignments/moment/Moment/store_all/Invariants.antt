@@ -1,5 +1,6 @@
 use Rattle.std.proofs.Common.{ℕ, List, drop, Option, Result}
 use Rattle.tree.specs.declared.ops.Value.{Value}
+use Rattle.tree.specs.declared.width.Width.{Width}
 use Rattle.meaning.specs.Store.{Cell}
 use Rattle.machine.specs.Moments.{Seen}
 use Rattle.machine.specs.declared.progress.Left.{Left}
@@ -14,6 +15,6 @@ use Rattle.array_expressions.proofs.assignments.moment.Moment.store_all.Given as
 abbrev pub invariant-loop-at : goal.invariant-loop-at
 invariant-loop-at l =
     SamePlaces (slots_of l.fn.self) (slots_of l.self)
-    × ((ws : List (Cell × Value)) → Stores (slots_of l.fn.self) ws l.fn.plan → (input : List ℕ) (bytes : Option (List ℕ)) (last : Seen) (r : Result (Unit {0}) Left)
-    → Runs (left_of (drop l.at ws)) input (seen l.self) bytes last bytes r
-    → Runs (left_of ws) input (seen l.fn.self) bytes last bytes r)
+    × ((w : Width) (ws : List (Cell × Value)) → Stores (slots_of l.fn.self) ws l.fn.plan → (input : List ℕ) (bytes : Option (List ℕ)) (last : Seen) (r : Result (Unit {0}) Left)
+    → Runs (left_of w (drop l.at ws)) input (seen l.self) bytes last bytes r
+    → Runs (left_of w ws) input (seen l.fn.self) bytes last bytes r)

@@ -13,7 +13,7 @@ use Rattle.array_values.proofs.storage.array_places.writes.writes_under.Goals as
 pub returns-in_err-chosen : goal.returns-in_err-chosen
 returns-in_err-chosen c = λ bs axes x s.
     rw (residual c.from_residual.ensures.1)
-    (mask_failed fortran90 (elements_in c.args.mask.now) x axes (elements_in c.args.right.now) bs c.as_slice-extents.result.now c.in_err-chosen.field-0.0
+    (mask_failed (fortran90 c.args.width) (elements_in c.args.mask.now) x axes (elements_in c.args.right.now) bs c.as_slice-extents.result.now c.in_err-chosen.field-0.0
     (c.as_slice-extents.ensures ∙ s.extents) c.in_err-chosen.ensures.places)
 
 pub values_at-requires : goal.values_at-requires
@@ -22,14 +22,14 @@ values_at-requires c = subst (All (λ k. k < size c.as_slice-extents.result.now)
 pub returns-in_err-values : goal.returns-in_err-values
 returns-in_err-values c = λ bs axes x s.
     rw (residual c.from_residual-in_err-values.ensures.1)
-    (values_failed fortran90 (elements_in c.args.mask.now) x axes (elements_in c.args.right.now) bs c.as_slice-extents.result.now c.as_slice-picks.result.now c.in_err-values.field-0.0
+    (values_failed (fortran90 c.args.width) (elements_in c.args.mask.now) x axes (elements_in c.args.right.now) bs c.as_slice-extents.result.now c.as_slice-picks.result.now c.in_err-values.field-0.0
     (c.as_slice-extents.ensures ∙ s.extents)
     (c.in_ok-chosen.ensures.places ∙ ap (λ (ks : List ℕ). let r : Result (List ℕ) Fault = Ok ks in r) (sym c.as_slice-picks.ensures)) c.in_err-values.ensures)
 
 pub returns-in_err-check_all : goal.returns-in_err-check_all
 returns-in_err-check_all c = λ bs axes x s.
     rw (residual c.from_residual-in_err-check_all.ensures.1)
-    (range_failed fortran90 (elements_in c.args.mask.now) x axes (elements_in c.args.right.now) c.as_slice-extents.result.now c.as_slice-picks.result.now c.as_slice-found.result.now c.in_err-check_all.field-0.0
+    (range_failed (fortran90 c.args.width) (elements_in c.args.mask.now) x axes (elements_in c.args.right.now) c.as_slice-extents.result.now c.as_slice-picks.result.now c.as_slice-found.result.now c.in_err-check_all.field-0.0
     (c.as_slice-extents.ensures ∙ s.extents)
     (c.in_ok-chosen.ensures.places ∙ ap (λ (ks : List ℕ). let r : Result (List ℕ) Fault = Ok ks in r) (sym c.as_slice-picks.ensures))
     (c.in_ok-values.ensures ∙ ap (λ (vs : List Value). let r : Result (List Value) Fault = Ok vs in r) (sym c.as_slice-found.ensures))
@@ -45,7 +45,7 @@ pub returns : goal.returns
 returns c = λ bs axes x s.
     let t = c.args.target.now in
     let e : size c.as_slice-extents.result.now ≡ length t.places = ap size c.as_slice-extents.ensures ∙ sym c.requires in
-    these_stored fortran90 (elements_in c.args.mask.now) x axes (elements_in c.args.right.now) bs t c.as_slice-extents.result.now c.as_slice-picks.result.now c.as_slice-found.result.now
+    these_stored (fortran90 c.args.width) (elements_in c.args.mask.now) x axes (elements_in c.args.right.now) bs t c.as_slice-extents.result.now c.as_slice-picks.result.now c.as_slice-found.result.now
     (record { places = c.in_ok-places.places; values = c.in_ok-values.values }) s
     (c.as_slice-extents.ensures ∙ s.extents)
     (c.in_ok-chosen.ensures.places ∙ ap (λ (ks : List ℕ). let r : Result (List ℕ) Fault = Ok ks in r) (sym c.as_slice-picks.ensures))

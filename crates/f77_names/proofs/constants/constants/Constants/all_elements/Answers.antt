@@ -11,9 +11,9 @@ use Rattle.f77_names.proofs.constants.constants.Constants.all_elements.Goals as 
 
 pub loop-entity-preserved : goal.loop-entity-preserved
 loop-entity-preserved c = record {
-  sum = sum_more (store_of c.args.self.now) c.args.entities.now c.loop-entity.entity-index c.entity-item.result
-      (capped (sum (map (elements fortran77 (store_of c.args.self.now)) (bounds_in (map entity_of c.args.entities.now))))) c.loop-entity.count c.in_ok-elements.field-0 c.sum_of-count.result
+  sum = sum_more c.args.self.now.width (store_of c.args.self.now) c.args.entities.now c.loop-entity.entity-index c.entity-item.result
+      (capped (sum (map (elements (fortran77 c.args.self.now.width) (store_of c.args.self.now)) (bounds_in (map entity_of c.args.entities.now))))) c.loop-entity.count c.in_ok-elements.field-0 c.sum_of-count.result
       (omega arith) c.entity-item.is c.loop-entity.invariant.sum
-      (c.in_ok-elements.ensures ∙ ap (λ bs. capped (elements fortran77 (store_of c.args.self.now) (map bounds_of bs))) c.as_slice.ensures) c.sum_of-count.ensures;
+      (c.in_ok-elements.ensures ∙ ap (λ bs. capped (elements (fortran77 c.args.self.now.width) (store_of c.args.self.now) (map bounds_of bs))) c.as_slice.ensures) c.sum_of-count.ensures;
   capped = c.sum_of-count.ensures ∙ capped_once (c.loop-entity.count + c.in_ok-elements.field-0) ∙ sym (ap capped c.sum_of-count.ensures);
 }

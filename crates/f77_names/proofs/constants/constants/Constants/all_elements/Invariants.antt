@@ -10,7 +10,7 @@ use Rattle.f77_names.proofs.constants.constants.Constants.all_elements.Given as 
 
 abbrev pub invariant-loop-entity : goal.invariant-loop-entity
 invariant-loop-entity l = record {
-  sum : capped (sum (map (elements fortran77 (store_of l.self)) (bounds_in (map entity_of l.entities))))
-      ≡ capped (l.count + sum (map (elements fortran77 (store_of l.self)) (bounds_in (map entity_of (drop l.entity-index l.entities)))));
+  sum : capped (sum (map (elements (fortran77 l.self.width) (store_of l.self)) (bounds_in (map entity_of l.entities))))
+      ≡ capped (l.count + sum (map (elements (fortran77 l.self.width) (store_of l.self)) (bounds_in (map entity_of (drop l.entity-index l.entities)))));
   capped : l.count ≡ capped l.count;
 }

@@ -7,5 +7,5 @@ use Rattle.f77_names.proofs.constants.constants.Constants.any_bad.Given as goal
 
 abbrev pub invariant-loop-entity : goal.invariant-loop-entity
 invariant-loop-entity l =
-    list_any (has_bad (store_of l.self)) (bounds_in (map entity_of l.entities))
-    ≡ list_any (has_bad (store_of l.self)) (bounds_in (map entity_of (drop l.entity-index l.entities)))
+    list_any (has_bad l.self.width (store_of l.self)) (bounds_in (map entity_of l.entities))
+    ≡ list_any (has_bad l.self.width (store_of l.self)) (bounds_in (map entity_of (drop l.entity-index l.entities)))

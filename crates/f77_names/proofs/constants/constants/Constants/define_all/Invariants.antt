@@ -7,5 +7,6 @@ use Rattle.f77_names.proofs.constants.constants.Constants.define_all.Given as go
 
 abbrev pub invariant-loop-constant : goal.invariant-loop-constant
 invariant-loop-constant l =
-    with_constants fortran77 (map constant_of l.constants) (store_of l.initial.self)
-    ≡ with_constants fortran77 (map constant_of (drop l.constant-index l.constants)) (store_of l.self)
+    (with_constants (fortran77 l.initial.self.width) (map constant_of l.constants) (store_of l.initial.self)
+    ≡ with_constants (fortran77 l.initial.self.width) (map constant_of (drop l.constant-index l.constants)) (store_of l.self))
+    × (l.self.width ≡ l.initial.self.width)

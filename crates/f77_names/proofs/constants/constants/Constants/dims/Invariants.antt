@@ -7,5 +7,5 @@ use Rattle.f77_names.proofs.constants.constants.Constants.dims.Given as goal
 
 abbrev pub invariant-loop-pair : goal.invariant-loop-pair
 invariant-loop-pair l =
-    map narrow (dimensions (store_of l.self) (map bounds_of l.bounds))
-    ≡ map view.bounds_of l.dims ++ map narrow (dimensions (store_of l.self) (map bounds_of (drop l.pair-index l.bounds)))
+    map narrow (dimensions l.self.width (store_of l.self) (map bounds_of l.bounds))
+    ≡ map view.bounds_of l.dims ++ map narrow (dimensions l.self.width (store_of l.self) (map bounds_of (drop l.pair-index l.bounds)))

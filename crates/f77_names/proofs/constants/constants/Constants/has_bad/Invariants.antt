@@ -5,4 +5,4 @@ use Rattle.f77_names.specs.constants.Bounds.{has_bad}
 use Rattle.f77_names.proofs.constants.constants.Constants.has_bad.Given as goal
 
 abbrev pub invariant-loop-bounds : goal.invariant-loop-bounds
-invariant-loop-bounds l = has_bad (store_of l.self) (map bounds_of l.dims) ≡ has_bad (store_of l.self) (map bounds_of (drop l.bounds-index l.dims))
+invariant-loop-bounds l = has_bad l.self.width (store_of l.self) (map bounds_of l.dims) ≡ has_bad l.self.width (store_of l.self) (map bounds_of (drop l.bounds-index l.dims))

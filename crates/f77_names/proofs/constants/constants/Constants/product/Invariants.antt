@@ -8,6 +8,6 @@ use Rattle.f77_names.proofs.constants.constants.Constants.product.Given as goal
 
 abbrev pub invariant-loop-bounds : goal.invariant-loop-bounds
 invariant-loop-bounds l = record {
-  product : capped (product_of_sizes fortran77 (store_of l.self) (map bounds_of l.dims)) ≡ capped (l.product * product_of_sizes fortran77 (store_of l.self) (map bounds_of (drop l.bounds-index l.dims)));
+  product : capped (product_of_sizes (fortran77 l.self.width) (store_of l.self) (map bounds_of l.dims)) ≡ capped (l.product * product_of_sizes (fortran77 l.self.width) (store_of l.self) (map bounds_of (drop l.bounds-index l.dims)));
   capped : l.product ≡ capped l.product;
 }

@@ -12,7 +12,7 @@ use Rattle.f90_names.proofs.kinds.OfDeclarations.BoundLaws.{all_at, all_but_last
 use Rattle.f90_names.proofs.kinds.OfDeclarations.PlaceLaws.{start, step, end}
 use Rattle.f90_names.proofs.kinds.declarations.declaring.declare_all.Goals as goal
 
-abbrev AreMade : Kind → Bool → List Decl → List Decl → List forms.Entity → Type 0
+abbrev AreMade : Kind → Bool → List Decl → List Decl → List forms.EntityForm90 → Type 0
 AreMade k a old new es =
     AllByRecursion HasBounds (map (entity_declaration k a) es)
     → map declaration_of new ≡ map declaration_of old ++ map (entity_declaration k a) es

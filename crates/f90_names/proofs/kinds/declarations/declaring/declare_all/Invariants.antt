@@ -9,7 +9,7 @@ use Rattle.f90_names.proofs.kinds.declarations.declaring.declare_all.Given as go
 
 abbrev pub invariant-loop-entity : goal.invariant-loop-entity
 invariant-loop-entity l = record {
-  made : (es : List forms.Entity) → AreOf IsEntityOf (take l.entity-index l.entities) es
+  made : (es : List forms.EntityForm90) → AreOf IsEntityOf (take l.entity-index l.entities) es
       → AllByRecursion HasBounds (map (entity_declaration l.kind l.is_allocatable) es)
       → map declaration_of l.all ≡ map declaration_of l.initial.all ++ map
       (entity_declaration l.kind l.is_allocatable) es;

@@ -8,7 +8,7 @@ use Rattle.f90_names.proofs.kinds.OfDeclarations.PlaceLaws.{start, step, end}
 use Rattle.f90_names.proofs.kinds.OfDeclarations.SizeLaws.{array_more, any_left, any_last}
 use Rattle.f90_names.proofs.kinds.declarations.limits.elements_of.Goals as goal
 
-abbrev IsCount : ℕ → List forms.Entity → Type 0
+abbrev IsCount : ℕ → List forms.EntityForm90 → Type 0
 IsCount n es = list_any are_wide es ≡ false → n ≡ capped (elements_in es)
 
 pub loop-entity-init : goal.loop-entity-init

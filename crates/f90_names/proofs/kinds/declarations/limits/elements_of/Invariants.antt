@@ -8,6 +8,6 @@ use Rattle.f90_names.proofs.kinds.declarations.limits.elements_of.Given as goal
 
 abbrev pub invariant-loop-entity : goal.invariant-loop-entity
 invariant-loop-entity l = record {
-  counted : (es : List forms.Entity) → AreOf IsEntityOf (take l.entity-index l.entities) es
+  counted : (es : List forms.EntityForm90) → AreOf IsEntityOf (take l.entity-index l.entities) es
       → list_any are_wide es ≡ false → l.count ≡ capped (elements_in es);
 }

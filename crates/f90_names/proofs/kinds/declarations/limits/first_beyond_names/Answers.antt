@@ -2,7 +2,7 @@ use Rattle.std.proofs.Common.{arith, ◌≡◌, ◌+◌, ◌-◌, ℕ, ◌<◌, 
 use Rattle.f90_grammar.specs.Blocks as grammar
 use Rattle.f90_grammar.specs.Bounds.{HasManyNames}
 use Rattle.f90_grammar.specs.Declared.{declarations_in, declarations_of}
-use Rattle.f90_grammar.specs.Order.{Place}
+use Rattle.f90_grammar.specs.Order.{Place90}
 use Rattle.f90_blocks.specs.places.forms.Places.{IsPlacedOf}
 use Rattle.f90_names.proofs.kinds.OfDeclarations.PlaceLaws.{unmet, go_on, stop_at, never, start, step}
 use Rattle.f90_names.proofs.kinds.OfDeclarations.SizeLaws.{names_more}
@@ -15,11 +15,11 @@ taken : (ps : List grammar.Placed) (p : grammar.Placed) (left here : ℕ) → Ar
     → here ≡ length (declarations_in p.form) → here ≤ left → AreLeft (left - here) (ps ++ p ∷ [])
 taken ps p left here h e l = let m = names_more ps p in omega arith
 
-few_names : (q : Place) (left here : ℕ) → AreLeft left q.before → here ≡ length (declarations_in q.here.form)
+few_names : (q : Place90) (left here : ℕ) → AreLeft left q.before → here ≡ length (declarations_in q.here.form)
     → here ≤ left → HasManyNames q → ⊥
 few_names q left here h e l m = let n = names_more q.before q.here in absurd (omega arith)
 
-many_names : (q : Place) (left here : ℕ) → AreLeft left q.before → here ≡ length (declarations_in q.here.form)
+many_names : (q : Place90) (left here : ℕ) → AreLeft left q.before → here ≡ length (declarations_in q.here.form)
     → left < here → HasManyNames q
 many_names q left here h e l = let n = names_more q.before q.here in omega arith
 

@@ -8,7 +8,7 @@ use Rattle.f90_names.proofs.kinds.OfDeclarations.BoundLaws.{all_more, all_at}
 use Rattle.f90_names.proofs.kinds.OfDeclarations.PlaceLaws.{start, step, end, at}
 use Rattle.f90_names.proofs.kinds.declarations.limits.have_bounds.Goals as goal
 
-abbrev Within : List forms.Entity → Type 0
+abbrev Within : List forms.EntityForm90 → Type 0
 Within es = AllByRecursion (AllByRecursion IsDimension) (map given_bounds es)
 
 pub loop-entity-init : goal.loop-entity-init
@@ -37,7 +37,7 @@ returns-then-not-are_bounds c es a =
           let within : c.are_bounds.result ≡ true =
           (c.are_bounds.ensures f.here.dimensions (rw c.as_slice.ensures f.of_here.dimensions)).1
           (all_at given_bounds (AllByRecursion IsDimension) f.before f.here f.after
-          (subst (λ (fs : List forms.Entity). Within fs) f.same h)) in
+          (subst (λ (fs : List forms.EntityForm90). Within fs) f.same h)) in
           absurd (cc),
     )
 

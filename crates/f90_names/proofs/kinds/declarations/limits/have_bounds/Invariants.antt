@@ -8,6 +8,6 @@ use Rattle.f90_names.proofs.kinds.declarations.limits.have_bounds.Given as goal
 
 abbrev pub invariant-loop-entity : goal.invariant-loop-entity
 invariant-loop-entity l = record {
-  within : (es : List forms.Entity) → AreOf IsEntityOf (take l.entity-index l.entities) es
+  within : (es : List forms.EntityForm90) → AreOf IsEntityOf (take l.entity-index l.entities) es
       → AllByRecursion (AllByRecursion IsDimension) (map given_bounds es);
 }

@@ -1,11 +1,11 @@
 use Rattle.std.proofs.Common.{arith, ◌≡◌, ◌<◌, ◌≤◌, true, false, IsTrue, length, take, sym, ◌∙◌, rules}
 use Rattle.f90_grammar.specs.Declared.{declares_again}
-use Rattle.f90_grammar.specs.Order.{Place}
+use Rattle.f90_grammar.specs.Order.{Place90}
 use Rattle.f90_names.proofs.kinds.OfDeclarations.EntryLaws.{entries_of, knows_more, again_at}
 use Rattle.f90_names.proofs.kinds.OfDeclarations.PlaceLaws.{unmet, go_on, stop_at, never}
 use Rattle.f90_names.proofs.kinds.declarations.names.first_repeated.Goals as goal
 
-abbrev Again : Place → Type 0
+abbrev Again : Place90 → Type 0
 Again p = IsTrue (declares_again p.before p.here.form)
 
 pub loop-i-init : goal.loop-i-init

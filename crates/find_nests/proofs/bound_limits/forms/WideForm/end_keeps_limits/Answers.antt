@@ -1,7 +1,7 @@
 use Rattle.std.proofs.Common.{◌≡◌, ◌∙◌, ◌+◌, ◌≤◌, ◌<◌, ◌^◌, ap, sym, subst, rules, arith, ℤ, pos, negsuc, ◌+ℤ◌, ◌*ℤ◌, neg_ℤ, nat_abs, Bool, true, false, List, [], ◌∷◌, ◌++◌, map, drop, length, max, get_or, IfOk, SFits, to_z, of_z}
 use Rattle.std.specs.Int.{w128}
 use Rattle.std.proofs.lemmas.Int.{to_z-of_z}
-use Rattle.find_nests.specs.bound_limits.Limits.{is_constant, keeps_limits, folded, plus_constant}
+use Rattle.find_nests.specs.bound_limits.Limits.{is_constant_form, keeps_limits, folded, plus_constant}
 use Rattle.find_nests.specs.bound_limits.View.{wide_form_of, CanAdd}
 use Rattle.find_nests.proofs.BoundLimits.LimitLaws.{can_add_end, end_of_constant}
 use Rattle.find_nests.proofs.bound_limits.forms.WideForm.end_keeps_limits.Goals as goal
@@ -17,7 +17,7 @@ returns-then-is_constant c =
     let first = wide_form_of c.args.self.now in
     let top = wide_form_of c.args.top.now in
     let end = wide_form_of c.in_ok-end.end in
-    let h : is_constant top ≡ true = search rules in
+    let h : is_constant_form top ≡ true = search rules in
     let e : end ≡ plus_constant first (c.args.step *ℤ folded c.args.step top) = search rules in
     let is : c.keeps_limits.result ≡ keeps_limits c.args.symbols 0 end = search rules in
     end_of_constant c.args.symbols c.args.step first top end c.keeps_limits.result h e is

@@ -6,7 +6,7 @@ use Rattle.tree.specs.View.{expression_of}
 use Rattle.nest_reasons.specs.Increments.{step_of}
 use Rattle.find_nests.specs.declared.bound_limits.around.Outer.{Outer as Outer'}
 use Rattle.find_nests.specs.declared.bound_limits.forms.WideForm.{WideForm}
-use Rattle.find_nests.specs.bound_limits.Composed.{Outer, bound_form}
+use Rattle.find_nests.specs.bound_limits.Composed.{Outer, composed_bound}
 use Rattle.find_nests.specs.bound_limits.Limits.{all_keep_limits, normal}
 use Rattle.find_nests.specs.bound_limits.Loops.{leaves_limits, as_outer}
 use Rattle.find_nests.specs.bound_limits.View.{wide_form_of, outer_of, IsSized}
@@ -50,8 +50,8 @@ returns c =
     let f = wide_form_of c.in-Some-lower_bound.lower in
     let l = wide_form_of c.in-Some-upper_bound.upper in
     let is : Some z ≡ step_of step = sym c.in-Some.is ∙ c.step_of.ensures in
-    let lower : Some f ≡ bound_form symbols around a = sym (ap (option_map wide_form_of) c.in-Some-lower_bound.is) ∙ c.in_ok-lower_bound.ensures.value in
-    let upper : Some l ≡ bound_form symbols around b = sym (ap (option_map wide_form_of) c.in-Some-upper_bound.is) ∙ c.in_ok-upper_bound.ensures.value in
+    let lower : Some f ≡ composed_bound symbols around a = sym (ap (option_map wide_form_of) c.in-Some-lower_bound.is) ∙ c.in_ok-lower_bound.ensures.value in
+    let upper : Some l ≡ composed_bound symbols around b = sym (ap (option_map wide_form_of) c.in-Some-upper_bound.is) ∙ c.in_ok-upper_bound.ensures.value in
     let size : c.widened-size.result ≡ z = search rules in
     let count : c.len-symbols.result ≡ length symbols = search rules in
     let decided : c.in_ok-kept.kept ≡ all_keep_limits c.len-symbols.result c.widened-size.result f l = search rules in

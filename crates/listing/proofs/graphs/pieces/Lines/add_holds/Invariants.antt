@@ -1,8 +1,0 @@
--- The holds so far.
-use Rattle.std.proofs.Common.{◌≡◌, ◌++◌, map, take}
-use Rattle.f90_print.specs.Notes.{text_of}
-use Rattle.listing.specs.graphs.Listing.{hold_entries, lines_of_entries}
-use Rattle.listing.proofs.graphs.pieces.Lines.add_holds.Given as goal
-
-abbrev pub invariant-loop-hold : goal.invariant-loop-hold
-invariant-loop-hold l = map text_of l.self.list ≡ map text_of l.fn.self.list ++ lines_of_entries (hold_entries (take l.hold-index l.hold-items))

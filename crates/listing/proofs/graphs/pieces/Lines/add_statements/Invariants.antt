@@ -1,9 +1,0 @@
--- The statements so far.
-use Rattle.std.proofs.Common.{◌≡◌, ◌++◌, map, take}
-use Rattle.f90_print.specs.Notes.{text_of}
-use Rattle.nest.specs.statement_loops.Standings.{standing_of}
-use Rattle.listing.specs.graphs.Listing.{lines_of_entries, statement_entries}
-use Rattle.listing.proofs.graphs.pieces.Lines.add_statements.Given as goal
-
-abbrev pub invariant-loop-i : goal.invariant-loop-i
-invariant-loop-i l = map text_of l.self.list ≡ map text_of l.fn.self.list ++ lines_of_entries (statement_entries 1 (map standing_of (take l.i l.standing-items)))

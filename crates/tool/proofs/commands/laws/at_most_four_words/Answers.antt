@@ -1,5 +1,0 @@
-use Rattle.tool.proofs.commands.WordLaws.{length-request}
-use Rattle.tool.proofs.commands.laws.at_most_four_words.Goals as goal
-
-pub returns : goal.returns
-returns c = length-request
