@@ -1,0 +1,4 @@
+pub mod Left
+pub mod Names
+pub mod Marks
+pub mod Whole

@@ -1,0 +1,9 @@
+pub mod Sameness
+pub mod Shape
+pub mod Conditions
+pub mod FormReads
+pub mod Kept
+pub mod Blocks
+pub mod Meaning
+pub mod Counts
+pub mod Typing

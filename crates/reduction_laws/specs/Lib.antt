@@ -1,0 +1,3 @@
+pub mod gathering
+pub mod unread
+pub mod blocks

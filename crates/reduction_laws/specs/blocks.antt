@@ -1,0 +1,3 @@
+pub mod Reduced
+pub mod Meaning
+pub mod Profile

@@ -1,0 +1,6 @@
+//! Laws of reductions.
+#![tactic(auto)]
+
+pub mod blocks;
+pub mod gathering;
+pub mod unread;
